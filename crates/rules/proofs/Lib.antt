@@ -1,0 +1,4 @@
+pub mod GotLaws
+pub mod CheckLaws
+pub mod Cases
+pub mod BenchSheet

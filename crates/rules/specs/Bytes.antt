@@ -1,0 +1,77 @@
+-- Lists of bytes: parts, big-endian numbers, equality, membership.
+use Prim.Native.Nat.{ℕ, zero, suc, _+_, _-_, _*_, _/_, _%_}
+use mathlib.Core.List.{List, [], _∷_, _++_}
+use mathlib.Core.Bool.{Bool, true, false, _&&_, _||_}
+use lib.Dec.{eqb}
+use lib.ListN.{take, drop}
+use lib.Seq.{sets}
+
+abbrev pub Bytes : Type 0
+Bytes = List ℕ
+
+-- the n bytes from `at`
+abbrev pub part : Bytes → ℕ → ℕ → Bytes
+part s at n = take n (drop at s)
+
+-- a place in bytes: its first byte, and the one after its last
+pub record Span : Type 0 where
+  pub from : ℕ
+  pub to : ℕ
+
+abbrev pub span : ℕ → ℕ → Span
+span a b = record { from = a; to = b }
+
+-- the bytes at a place
+abbrev pub bytesAt : Bytes → Span → Bytes
+bytesAt s p = part s (p .from) (p .to - p .from)
+
+-- the bytes b over those of s from `at` on; s keeps its length
+abbrev pub put : Bytes → ℕ → Bytes → Bytes
+put s at b = sets s at b
+
+-- n records of w bytes each
+abbrev pub chunks : ℕ → ℕ → Bytes → List Bytes
+chunks w zero s = []
+chunks w (suc n) s = take w s ∷ chunks w n (drop w s)
+
+-- a big-endian number (01, How a run goes), after the digits read so far
+abbrev pub numFrom : ℕ → Bytes → ℕ
+numFrom n [] = n
+numFrom n (b ∷ bs) = numFrom (n * 256 + b) bs
+
+abbrev pub num : Bytes → ℕ
+num bs = numFrom 0 bs
+
+abbrev pub be2 : ℕ → Bytes
+be2 n = n / 256 % 256 ∷ n % 256 ∷ []
+
+abbrev pub be4 : ℕ → Bytes
+be4 n = n / 16777216 % 256 ∷ n / 65536 % 256 ∷ be2 n
+
+abbrev pub same : Bytes → Bytes → Bool
+same [] [] = true
+same [] (y ∷ ys) = false
+same (x ∷ xs) [] = false
+same (x ∷ xs) (y ∷ ys) = eqb x y && same xs ys
+
+abbrev pub member : Bytes → List Bytes → Bool
+member x [] = false
+member x (y ∷ ys) = same x y || member x ys
+
+-- where x first stands in the list; the list's length, if it does not
+abbrev pub indexOf : Bytes → List Bytes → ℕ
+indexOf x [] = 0
+indexOf x (y ∷ ys) = elim (same x y) [ true ↦ 0 | false ↦ suc (indexOf x ys) ]
+
+abbrev pub repeats : List Bytes → Bool
+repeats [] = false
+repeats (x ∷ xs) = member x xs || repeats xs
+
+abbrev pub allIn : List Bytes → List Bytes → Bool
+allIn [] ys = true
+allIn (x ∷ xs) ys = member x ys && allIn xs ys
+
+-- one after the other
+abbrev pub flat : List Bytes → Bytes
+flat [] = []
+flat (b ∷ bs) = b ++ flat bs

@@ -1,0 +1,241 @@
+-- Check: the manifest that an envelope holds, or the first fault (01, What a manifest may hold; Refusal numbers). It reads depth first,
+-- left to right, and a fault stands at its item's first byte.
+use Prim.Native.Nat.{ℕ, zero, suc, _+_, _-_, _/_, _%_}
+use mathlib.Core.List.{List, [], _∷_, _++_, map}
+use mathlib.Core.Bool.{Bool, true, false, _&&_, _||_, cond, not}
+use mathlib.Core.Option.{Option, some, none}
+use lib.Dec.{ltb, leb, eqb}
+use lib.ListN.{length}
+use Rattle.rules.specs.Answers.{EnvelopeTooLong, NotCbor, Malformed, WrongVersion, RepeatedIdentifier, UnknownCommand, UnknownParameter, NotAllowed, NoSuchComponent, TooDeep, TooManyCommands}
+use Rattle.rules.specs.declared.tables.Parameter.{Parameter}
+use Rattle.rules.specs.declared.tables.Parameter.the-variants.{Coerce, Uri, Source, Digest, Size}
+use Rattle.rules.specs.Limits.{limits}
+use Rattle.rules.specs.Bytes.{Bytes, part, Span, span, bytesAt, member}
+use Rattle.rules.specs.Got.{Got, refused, got, _>>=_, need, found}
+use Rattle.rules.specs.Cbor.{NUMBER, BYTES, TEXT, ARRAY, MAP, FALSE, TRUE, NIL, Head, head, after, item}
+use Rattle.rules.specs.Commands.{Op, Params, unset, over, orElse, Form, sixteen, nil, below, alternatives, parameters, sequence, Row, commands, rowOf, isAllowed, params, paramOf}
+use Rattle.rules.specs.Manifest.{Seq, end, then, Cmd, one, sub, try, Alts, last, or, count, countCmd, countAlts, Section, countAll, Manifest}
+
+-- a reader: from the container's end and a place to a value and the place after it. The container is the innermost byte string around,
+-- or the envelope
+abbrev pub Read : Type 0 → Type 0
+Read A = ℕ → ℕ → Got (A × ℕ)
+
+-- what a set or override command gives
+pub record Given : Type 0 where
+  pub coerce : Option Bool
+  pub params : Params
+
+-- coerce, URI, source, digest, size
+abbrev pub give : Option Bool → Option Bytes → Option ℕ → Option Bytes → Option ℕ → Given
+give c u k d n = record { coerce = c; params = record { uri = u; source = k; digest = d; size = n } }
+
+abbrev pub nothing : Given
+nothing = give none none none none none
+
+module _ (s : Bytes) where
+  unfoldable pub number : Read ℕ
+  number e at = do
+    h ← item NUMBER 0 (limits .number) s e at
+    got (h .num, h .next)
+
+  -- a key, which is k; the place after it
+  unfoldable pub key : ℕ → ℕ → ℕ → Got ℕ
+  key k e at = do
+    h ← item NUMBER k k s e at
+    got (h .next)
+
+  -- one thing in a byte string, and the place of the string's bytes. 'Left-over bytes: the first of them'
+  unfoldable pub inBytes : {A : Type 0} → Read A → ℕ → ℕ → Got (A × Span)
+  inBytes read e at = do
+    h ← item BYTES 0 (limits .number) s e at
+    (a, next) ← read (after h) (h .next)
+    _ ← need (eqb next (after h)) NotCbor next
+    got (a, span (h .next) next)
+
+  -- n byte strings; the place after them
+  unfoldable pub strings : ℕ → ℕ → ℕ → Got ℕ
+  strings zero e at = got at
+  strings (suc n) e at = do
+    h ← item BYTES 0 (limits .number) s e at
+    strings n e (after h)
+
+  -- an identifier, after those of `before`. 'Identifier length, then 68, are tested once the identifier is read, at its head'
+  unfoldable pub identifier : List Span → ℕ → ℕ → Got Span
+  identifier before e at = do
+    h ← item ARRAY 1 (limits .parts) s e at
+    next ← strings (h .num) e (h .next)
+    let id = span at next
+    _ ← need (leb (next - at) (limits .identifier)) Malformed at
+    _ ← need (not (member (bytesAt s id) (map (bytesAt s) before))) RepeatedIdentifier at
+    got id
+
+  -- n identifiers more
+  unfoldable pub identifiers : ℕ → List Span → Read (List Span)
+  identifiers zero before e at = got (before, at)
+  identifiers (suc n) before e at = do
+    id ← identifier before e at
+    identifiers n (before ++ (id ∷ [])) e (id .to)
+
+  unfoldable pub components : Read (List Span)
+  components e at = do
+    h ← item ARRAY 1 (limits .components) s e at
+    identifiers (h .num) [] e (h .next)
+
+  -- a parameter's value, in a manifest of n components
+  unfoldable pub parameter : ℕ → Parameter → Read Given
+  parameter n Coerce e at = do
+    h ← head s e at
+    _ ← need (leb (after h) e) NotCbor at
+    _ ← need (eqb (h .kind) FALSE || eqb (h .kind) TRUE) Malformed at
+    got (give (some (eqb (h .kind) TRUE)) none none none none, h .next)
+  parameter n Uri e at = do
+    h ← item TEXT 1 (limits .uri) s e at
+    got (give none (some (part s (h .next) (h .num))) none none none, after h)
+  parameter n Source e at = do
+    (k, next) ← number e at
+    _ ← need (ltb k n) NoSuchComponent at
+    got (give none none (some k) none none, next)
+  parameter n Digest e at = do
+    h ← item BYTES 32 32 s e at
+    got (give none none none (some (part s (h .next) 32)) none, after h)
+  parameter n Size e at = do
+    (k, next) ← number e at
+    got (give none none none none (some k), next)
+
+  -- k entries more, whose keys are at least `low`, after those of `g`
+  unfoldable pub entries : ℕ → ℕ → ℕ → Given → Read Given
+  entries n zero low g e at = got (g, at)
+  entries n (suc k) low g e at = do
+    (name, p) ← number e at
+    _ ← need (leb low name) Malformed at
+    what ← found (paramOf name params) UnknownParameter at
+    (v, q) ← parameter n what e p
+    entries n k (name + 1) (record { coerce = orElse (v .coerce) (g .coerce); params = over (v .params) (g .params) }) e q
+
+  -- k + 1 sequences, each in a byte string, after m commands; `deeper` reads a sequence
+  unfoldable pub alternativesAt : (ℕ → Read Seq) → ℕ → ℕ → Read Alts
+  alternativesAt deeper zero m e at = do
+    (a, p) ← inBytes (deeper m) e at
+    got (last a, p .to)
+  alternativesAt deeper (suc k) m e at = do
+    (a, p) ← inBytes (deeper m) e at
+    (rest, q) ← alternativesAt deeper k (m + count a) e (p .to)
+    got (or a rest, q)
+
+  -- the argument at `at` of the command whose code is at `place`, with m commands before those that it holds
+  unfoldable pub argument : (ℕ → Read Seq) → ℕ → ℕ → ℕ → Form → Read Cmd
+  argument deeper n m place (sixteen op) e at = do
+    h ← item BYTES 16 16 s e at
+    got (one place (op (part s (h .next) 16)) none, after h)
+  argument deeper n m place (nil op) e at = do
+    h ← item NIL 0 0 s e at
+    got (one place op none, h .next)
+  argument deeper n m place (below op) e at = do
+    (k, next) ← number e at
+    _ ← need (ltb k n) NoSuchComponent at
+    got (one place (op k) none, next)
+  argument deeper n m place alternatives e at = do
+    h ← item ARRAY 1 (limits .alternatives) s e at
+    (a, next) ← alternativesAt deeper (h .num - 1) m e (h .next)
+    got (try a, next)
+  argument deeper n m place (parameters op) e at = do
+    h ← item MAP 1 (limits .parameters) s e at
+    (g, next) ← entries n (h .num) 0 nothing e (h .next)
+    got (one place (op (g .params)) (g .coerce), next)
+  argument deeper n m place sequence e at = do
+    (a, p) ← inBytes (deeper m) e at
+    got (sub a, p .to)
+
+  -- a code and its argument, after m commands
+  unfoldable pub command : (ℕ → Read Seq) → ℕ → ℕ → ℕ → Read Cmd
+  command deeper n section m e at = do
+    (c, p) ← number e at
+    row ← found (rowOf c commands) UnknownCommand at
+    _ ← need (isAllowed section (row .allowed)) NotAllowed at
+    _ ← need (ltb m (limits .commands)) TooManyCommands at
+    argument deeper n (m + 1) at (row .form) e p
+
+  -- k commands
+  unfoldable pub commandsAt : (ℕ → Read Seq) → ℕ → ℕ → ℕ → ℕ → Read Seq
+  commandsAt deeper n section zero m e at = got (end, at)
+  commandsAt deeper n section (suc k) m e at = do
+    (c, p) ← command deeper n section m e at
+    (cs, q) ← commandsAt deeper n section k (m + countCmd c) e p
+    got (then c cs, q)
+
+  -- a sequence of a section, after m commands; it and those in it may be d deep. 'An odd sequence is met at the head'
+  unfoldable pub sequenceAt : ℕ → ℕ → ℕ → ℕ → Read Seq
+  sequenceAt n section zero m e at = do
+    h ← item ARRAY 0 (limits .pairs + limits .pairs) s e at
+    _ ← need (eqb (h .num % 2) 0) Malformed at
+    refused TooDeep at
+  sequenceAt n section (suc d) m e at = do
+    h ← item ARRAY 0 (limits .pairs + limits .pairs) s e at
+    _ ← need (eqb (h .num % 2) 0) Malformed at
+    commandsAt (sequenceAt n section d) n section (h .num / 2) m e (h .next)
+
+  -- a section under `k`: its sequence in a byte string, after m commands
+  unfoldable pub sectionAt : ℕ → ℕ → ℕ → Read Section
+  sectionAt n k m e at = do
+    (a, p) ← inBytes (sequenceAt n k (limits .depth) m) e at
+    got (record { key = k; place = p; seq = a }, p .to)
+
+  -- common's own sequence, of which k entries are left
+  unfoldable pub commonSeq : ℕ → ℕ → Read (List Section)
+  commonSeq n zero e at = got ([], at)
+  commonSeq n (suc k) e at = do
+    p ← key 4 e at
+    (x, next) ← sectionAt n 3 0 e p
+    got (x ∷ [], next)
+
+  -- common: the components, and its sequence if there is one
+  unfoldable pub commonAt : Read (List Span × List Section)
+  commonAt e at = do
+    h ← item MAP 1 2 s e at
+    p ← key 2 e (h .next)
+    (ids, q) ← inBytes components e p
+    (xs, next) ← commonSeq (length ids) (h .num - 1) e (q .to)
+    got ((ids, xs), next)
+
+  -- k sections more, whose keys are at least `low`, after m commands
+  unfoldable pub sectionsAt : ℕ → ℕ → ℕ → ℕ → Read (List Section)
+  sectionsAt n zero low m e at = got ([], at)
+  sectionsAt n (suc k) low m e at = do
+    h ← item NUMBER low 12 s e at
+    (x, p) ← sectionAt n (h .num) m e (h .next)
+    (xs, q) ← sectionsAt n k (h .num + 1) (m + count (x .seq)) e p
+    got (x ∷ xs, q)
+
+  unfoldable pub manifestAt : Read Manifest
+  manifestAt e at = do
+    h ← item MAP 3 8 s e at
+    p ← key 1 e (h .next)
+    (version, p₁) ← number e p
+    _ ← need (eqb version 1) WrongVersion p
+    p₂ ← key 2 e p₁
+    (n, p₃) ← number e p₂
+    p₄ ← key 3 e p₃
+    ((ids, xs), common) ← inBytes commonAt e p₄
+    (ys, next) ← sectionsAt (length ids) (h .num - 3) 8 (countAll xs) e (common .to)
+    got (record { part = span at next; number = n; ids = ids; common = common; sections = xs ++ ys }, next)
+
+  -- nil or a byte string; the place after it
+  unfoldable pub unread : ℕ → ℕ → Got ℕ
+  unread e at = do
+    h ← head s e at
+    _ ← need (leb (after h) e) NotCbor at
+    _ ← need (eqb (h .kind) NIL || eqb (h .kind) BYTES) Malformed at
+    got (after h)
+
+  unfoldable pub check : Got Manifest
+  check = do
+    let e = length s
+    _ ← need (leb e (limits .envelope)) EnvelopeTooLong 0
+    h ← item MAP 2 2 s e 0
+    p ← key 1 e (h .next)
+    q ← unread e p
+    r ← key 3 e q
+    (m, place) ← inBytes manifestAt e r
+    _ ← need (eqb (place .to) e) NotCbor (place .to)
+    got m

@@ -1,0 +1,16 @@
+pub mod Limits
+pub mod Answers
+pub mod Bytes
+pub mod Got
+pub mod Cbor
+pub mod Commands
+pub mod Tables
+pub mod Manifest
+pub mod Check
+pub mod Newer
+pub mod Slots
+pub mod Step
+pub mod Run
+pub mod Program
+pub mod ProgramTest
+pub mod ProgramRun

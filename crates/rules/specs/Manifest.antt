@@ -1,0 +1,60 @@
+-- A checked manifest: what check answers, and its commands as a tree with the places of their codes.
+use Prim.Native.Nat.{ℕ, zero, suc, _+_}
+use mathlib.Core.List.{List, [], _∷_, map}
+use mathlib.Core.Bool.{Bool, true, false}
+use mathlib.Core.Option.{Option, some, none}
+use Rattle.rules.specs.Bytes.{Bytes, Span, bytesAt}
+use Rattle.rules.specs.Commands.{Op}
+
+-- 01, What a manifest may hold: 'Sequences hold commands and commands hold sequences'
+mutual
+  pub data Seq : Type 0 where
+    end : Seq
+    then : Cmd → Seq → Seq
+
+  -- a command that writes an event, with its code's place and what it makes of coerce; 30 run sequence; 15 try each
+  pub data Cmd : Type 0 where
+    one : ℕ → Op → Option Bool → Cmd
+    sub : Seq → Cmd
+    try : Alts → Cmd
+
+  pub data Alts : Type 0 where
+    last : Seq → Alts
+    or : Seq → Alts → Alts
+
+-- how many commands, nested ones included
+unfoldable mutual
+  pub count : Seq → ℕ
+  count end = 0
+  count (then c s) = countCmd c + count s
+
+  pub countCmd : Cmd → ℕ
+  countCmd (one p o b) = 1
+  countCmd (sub s) = 1 + count s
+  countCmd (try a) = 1 + countAlts a
+
+  pub countAlts : Alts → ℕ
+  countAlts (last s) = count s
+  countAlts (or s a) = count s + countAlts a
+
+-- a section that is there, common's sequence among them: its key, where the sequence stands, and the sequence
+pub record Section : Type 0 where
+  pub key : ℕ
+  pub place : Span
+  pub seq : Seq
+
+abbrev pub countAll : List Section → ℕ
+countAll [] = 0
+countAll (x ∷ xs) = count (x .seq) + countAll xs
+
+-- where the manifest stands in the envelope, its sequence number, where its identifiers stand, where common stands, and the sections
+pub record Manifest : Type 0 where
+  pub part : Span
+  pub number : ℕ
+  pub ids : List Span
+  pub common : Span
+  pub sections : List Section
+
+-- the identifiers as encoded, in the envelope s
+abbrev pub names : Bytes → Manifest → List Bytes
+names s m = map (bytesAt s) (m .ids)

@@ -1,0 +1,27 @@
+-- The run of a program (01, The flat program): record by record, forward only.
+use Prim.Native.Nat.{ℕ, zero, suc, _+_, _-_}
+use mathlib.Core.List.{List, [], _∷_}
+use mathlib.Core.Bool.{Bool, true, false, cond}
+use lib.Dec.{eqb}
+use Rattle.rules.specs.Answers.{Finished, ConditionFailed}
+use Rattle.rules.specs.Bytes.{Bytes}
+use Rattle.rules.specs.Got.{Got, refused, got, _>>=_}
+use Rattle.rules.specs.Step.{Env, State, Out, out, step}
+use Rattle.rules.specs.Run.{next, Input, Ran, runOf}
+use Rattle.rules.specs.Program.{Rec, does, jump, Program, NONE}
+use Rattle.rules.specs.ProgramTest.{programIn}
+
+module _ (env : Env) where
+  -- the records from number n on, of which k are passed over; 'the record count means finished'
+  unfoldable pub exec : List Rec → ℕ → ℕ → State → Out
+  exec [] n k st = out Finished st
+  exec (r ∷ rs) n (suc k) st = exec rs (suc n) k st
+  exec (jump t ∷ rs) n zero st = exec rs (suc n) (t - suc n) st
+  exec (does op i p t ∷ rs) n zero st =
+      next (step env op i p st) (λ st′. exec rs (suc n) 0 st′)
+      (λ st′. elim (eqb t NONE) [ true ↦ out ConditionFailed st′ | false ↦ exec rs (suc n) (t - suc n) st′ ])
+
+unfoldable pub runProgram : Bytes → Input → Got Ran
+runProgram b x = do
+  p ← programIn b
+  runOf (p .group) (p .number) (p .ids) (λ env st. exec env (p .records) 0 0 st) x

@@ -1,0 +1,77 @@
+-- Slots and host answers as lent bytes (01, How a run goes; the layout of a slot is ours, docs/DECISIONS.md).
+--
+-- A slot, 74 bytes:  0 identifier's length   1 identifier, as many of 32 bytes as that   33 capacity (4)
+--                   37 present, 0 for no    38 size (4)    42 digest (32)
+-- An answer, 37:     0 status, 0 for good    1 size (4)     5 digest (32)
+-- The last 37 bytes of a slot are its image, laid out as an answer is.
+use Prim.Native.Nat.{ℕ, zero, suc, _+_, _*_, _/_, _%_}
+use mathlib.Core.List.{List, [], _∷_, map}
+use mathlib.Core.Bool.{Bool, true, false, _&&_, _||_, not}
+use lib.Dec.{leb, eqb}
+use lib.ListN.{length, getD}
+use Rattle.rules.specs.Limits.{limits}
+use Rattle.rules.specs.Bytes.{Bytes, part, num, chunks, put, indexOf, repeats}
+
+abbrev pub answerBytes : ℕ
+answerBytes = 37
+
+abbrev pub slotBytes : ℕ
+slotBytes = 74
+
+-- where in a slot its image starts
+abbrev pub imageFrom : ℕ
+imageFrom = 37
+
+pub record Slot : Type 0 where
+  pub id : Bytes
+  pub capacity : ℕ
+  pub present : Bool
+  pub size : ℕ
+  pub digest : Bytes
+
+-- the slot in its 74 bytes
+unfoldable pub slotIn : Bytes → Slot
+slotIn b =
+    record {
+      id = part b 1 (getD b 0 0);
+      capacity = num (part b 33 4);
+      present = not (eqb (getD b 37 0) 0);
+      size = num (part b 38 4);
+      digest = part b 42 32;
+    }
+
+-- the slot of number k, and its image
+unfoldable pub slotAt : Bytes → ℕ → Slot
+slotAt b k = slotIn (part b (slotBytes * k) slotBytes)
+
+unfoldable pub imageAt : Bytes → ℕ → Bytes
+imageAt b k = part b (slotBytes * k + imageFrom) answerBytes
+
+-- the image x in the slot of number k
+unfoldable pub putImage : Bytes → ℕ → Bytes → Bytes
+putImage b k x = put b (slotBytes * k + imageFrom) x
+
+unfoldable pub slotsIn : Bytes → List Slot
+slotsIn b = map slotIn (chunks slotBytes (length b / slotBytes) b)
+
+abbrev pub slotNames : Bytes → List Bytes
+slotNames b = map (λ x. x .id) (slotsIn b)
+
+-- the number of the slot with that identifier: 'Slots are found by identifier, never by position'
+unfoldable pub slotOf : Bytes → Bytes → ℕ
+slotOf id b = indexOf id (slotNames b)
+
+-- 85: identifier of 1 to 32 bytes, present size at most the capacity
+abbrev pub goodSlot : Slot → Bool
+goodSlot x =
+    leb 1 (length (x .id)) && leb (length (x .id)) (limits .identifier) && (not (x .present) || leb (x .size) (x .capacity))
+
+abbrev pub allGood : List Slot → Bool
+allGood [] = true
+allGood (x ∷ xs) = goodSlot x && allGood xs
+
+-- 85: whole slots, 1 to 8 of them, each good, no identifier twice
+unfoldable pub goodSlots : Bytes → Bool
+goodSlots b =
+    eqb (length b % slotBytes) 0 && leb 1 (length b / slotBytes) && leb (length b / slotBytes) (limits .slots)
+    && allGood (slotsIn b) && not (repeats (slotNames b))

@@ -1,0 +1,121 @@
+// The types that answers are made of, each with the number that document 01 gives its cases.
+ghost use mathlib.Core.Path.{_≡_};
+ghost use Rattle.rules.specs.Answers.{groupNumber, refusalNumber, failureNumber, endNumber};
+
+// What a run or a program is for.
+pub enum Group {
+    Install,
+    Boot,
+}
+
+impl Group {
+    pub fn number(self) -> u8
+        ensures { λ r. ⌜ r ≡ groupNumber self ⌝ }
+    {
+        match self {
+            Group::Install => 0,
+            Group::Boot => 1,
+        }
+    }
+}
+
+// Why a job refuses, in the order of the table.
+pub enum Refusal {
+    EnvelopeTooLong,
+    NotCbor,
+    Malformed,
+    WrongVersion,
+    RepeatedIdentifier,
+    UnknownCommand,
+    UnknownParameter,
+    NotAllowed,
+    NoSuchComponent,
+    TooDeep,
+    TooManyCommands,
+    NotVerified,
+    EventOpen,
+    WrongNumber,
+    BadSlots,
+    NoSlot,
+    BadAnswers,
+    ShortTrace,
+    ShortRoom,
+    BadProgram,
+}
+
+impl Refusal {
+    pub fn number(self) -> u8
+        ensures { λ r. ⌜ r ≡ refusalNumber self ⌝ }
+    {
+        match self {
+            Refusal::EnvelopeTooLong => 64,
+            Refusal::NotCbor => 65,
+            Refusal::Malformed => 66,
+            Refusal::WrongVersion => 67,
+            Refusal::RepeatedIdentifier => 68,
+            Refusal::UnknownCommand => 69,
+            Refusal::UnknownParameter => 70,
+            Refusal::NotAllowed => 71,
+            Refusal::NoSuchComponent => 72,
+            Refusal::TooDeep => 73,
+            Refusal::TooManyCommands => 74,
+            Refusal::NotVerified => 80,
+            Refusal::EventOpen => 81,
+            Refusal::WrongNumber => 82,
+            Refusal::BadSlots => 85,
+            Refusal::NoSlot => 83,
+            Refusal::BadAnswers => 86,
+            Refusal::ShortTrace => 84,
+            Refusal::ShortRoom => 96,
+            Refusal::BadProgram => 97,
+        }
+    }
+}
+
+// Why a command fails in a way that nothing catches.
+pub enum Failure {
+    ParameterUnset,
+    Aborted,
+    NoAnswer,
+    BadStatus,
+    TooLarge,
+    NothingToCopy,
+    NothingToRun,
+}
+
+impl Failure {
+    pub fn number(self) -> u8
+        ensures { λ r. ⌜ r ≡ failureNumber self ⌝ }
+    {
+        match self {
+            Failure::ParameterUnset => 32,
+            Failure::Aborted => 33,
+            Failure::NoAnswer => 34,
+            Failure::BadStatus => 35,
+            Failure::TooLarge => 36,
+            Failure::NothingToCopy => 37,
+            Failure::NothingToRun => 38,
+        }
+    }
+}
+
+// How a command, a sequence or a run ended.
+pub enum End {
+    Finished,
+    ConditionFailed,
+    Started,
+    Failed(Failure),
+}
+
+impl End {
+    pub fn number(self) -> u8
+        ensures { λ r. ⌜ r ≡ endNumber self ⌝ }
+    {
+        match self {
+            End::Finished => 0,
+            End::ConditionFailed => 1,
+            End::Started => 2,
+            End::Failed(failure) => failure.number(),
+        }
+    }
+}

@@ -1,0 +1,88 @@
+// The controller that a run is for, and the limits of document 01, each named here once.
+ghost use mathlib.Core.Path.{_≡_};
+ghost use Rattle.rules.specs.Limits.{limits};
+
+// A device as a run sees it.
+pub struct Controller {
+    pub vendor: [u8; 16],
+    pub class: [u8; 16],
+    // the sequence number of the manifest that was installed last
+    pub number: u32,
+    // an event is open, so nothing may be installed
+    pub event: bool,
+}
+
+impl Controller {
+    pub const ENVELOPE_BYTES: usize = 4096;
+
+    pub const LARGEST_NUMBER: usize = 4294967295;
+
+    pub const COMPONENTS: usize = 8;
+
+    pub const IDENTIFIER_PARTS: usize = 4;
+
+    pub const IDENTIFIER_BYTES: usize = 32;
+
+    pub const SEQUENCE_COMMANDS: usize = 64;
+
+    pub const DEPTH: usize = 4;
+
+    pub const COMMANDS: usize = 256;
+
+    pub const ALTERNATIVES: usize = 4;
+
+    pub const PARAMETERS: usize = 5;
+
+    pub const URI_BYTES: usize = 96;
+
+    pub const SLOTS: usize = 8;
+
+    pub const TRACE_BYTES: usize = 2048;
+
+    pub const RECORDS: usize = 1024;
+
+    pub const PROGRAM_BYTES: usize = 32768;
+}
+
+// The limits as a value, which ties the constants to the numbers of specs/Limits.
+pub struct Limits {
+    pub envelope: usize,
+    pub number: usize,
+    pub components: usize,
+    pub parts: usize,
+    pub identifier: usize,
+    pub pairs: usize,
+    pub depth: usize,
+    pub commands: usize,
+    pub alternatives: usize,
+    pub parameters: usize,
+    pub uri: usize,
+    pub slots: usize,
+    pub trace: usize,
+    pub records: usize,
+    pub program: usize,
+}
+
+impl Controller {
+    pub fn limits() -> Limits
+        ensures { λ r. ⌜ r ≡ limits ⌝ }
+    {
+        Limits {
+            envelope: Controller::ENVELOPE_BYTES,
+            number: Controller::LARGEST_NUMBER,
+            components: Controller::COMPONENTS,
+            parts: Controller::IDENTIFIER_PARTS,
+            identifier: Controller::IDENTIFIER_BYTES,
+            pairs: Controller::SEQUENCE_COMMANDS,
+            depth: Controller::DEPTH,
+            commands: Controller::COMMANDS,
+            alternatives: Controller::ALTERNATIVES,
+            parameters: Controller::PARAMETERS,
+            uri: Controller::URI_BYTES,
+            slots: Controller::SLOTS,
+            trace: Controller::TRACE_BYTES,
+            records: Controller::RECORDS,
+            program: Controller::PROGRAM_BYTES,
+        }
+    }
+}
