@@ -1,4 +1,12 @@
 pub mod GotLaws
 pub mod CheckLaws
+pub mod OpLaws
+pub mod RoundTrip
+pub mod ParamLaws
+pub mod TreeLaws
+pub mod ManifestLaws
+pub mod RunLaws
+pub mod FlatLaws
+pub mod Demand3
 pub mod Cases
 pub mod BenchSheet
