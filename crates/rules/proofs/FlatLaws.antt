@@ -198,15 +198,15 @@ abbrev sizes : List Seq → ℕ
 sizes [] = 0
 sizes (a ∷ xs) = size a + sizes xs
 
-abbrev counts : List Seq → ℕ
+abbrev pub counts : List Seq → ℕ
 counts [] = 0
 counts (a ∷ xs) = count a + counts xs
 
-abbrev weighs : List Seq → ℕ
+abbrev pub weighs : List Seq → ℕ
 weighs [] = 0
 weighs (a ∷ xs) = weigh a + weighs xs
 
-abbrev Plan : Group → ℕ → List Seq → Type 0
+abbrev pub Plan : Group → ℕ → List Seq → Type 0
 Plan g n [] = Unit {0}
 Plan g n (a ∷ xs) = ((sec : ℕ) × (among sec (sectionsOf g) ≡ true) × GoodSeq a n sec) × Plan g n xs
 
@@ -236,7 +236,7 @@ recs-all g n total (a ∷ xs) k h l p w m =
     (recs-seq g n (p .0 .0) total (p .0 .1) l a false 0 false NONE 0 k (p .0 .2) h (omega arith) (omega arith) (omega arith) refl (λ q. absurd q))
     (recs-all g n total xs (k + size a) h l (p .1) (omega arith) (omega arith))
 
-chosen-law : (g : Group) (n : ℕ) (xs : List Section) → GoodSections n xs →
+pub chosen-law : (g : Group) (n : ℕ) (xs : List Section) → GoodSections n xs →
     Plan g n (chosen (sectionsOf g) xs) × (counts (chosen (sectionsOf g) xs) ≤ countAll xs) × (weighs (chosen (sectionsOf g) xs) ≤ weighAll xs)
 chosen-law g n [] h = (tt, omega arith, omega arith)
 chosen-law g n (x ∷ xs) h = go (among (x .key) (sectionsOf g)) refl (chosen-law g n xs (h .1))

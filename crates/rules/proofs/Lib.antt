@@ -8,5 +8,7 @@ pub mod ManifestLaws
 pub mod RunLaws
 pub mod FlatLaws
 pub mod Demand3
+pub mod SlotLaws
+pub mod Effects
 pub mod Cases
 pub mod BenchSheet

@@ -29,11 +29,6 @@ bytesAt s p = part s (p .from) (p .to - p .from)
 abbrev pub put : Bytes → ℕ → Bytes → Bytes
 put s at b = sets s at b
 
--- n records of w bytes each
-abbrev pub chunks : ℕ → ℕ → Bytes → List Bytes
-chunks w zero s = []
-chunks w (suc n) s = take w s ∷ chunks w n (drop w s)
-
 -- a big-endian number (01, How a run goes), after the digits read so far
 abbrev pub numFrom : ℕ → Bytes → ℕ
 numFrom n [] = n

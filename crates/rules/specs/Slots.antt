@@ -8,9 +8,9 @@ use Prim.Native.Nat.{ℕ, zero, suc, _+_, _*_, _/_, _%_}
 use mathlib.Core.List.{List, [], _∷_, map}
 use mathlib.Core.Bool.{Bool, true, false, _&&_, _||_, not}
 use lib.Dec.{leb, eqb}
-use lib.ListN.{length, getD}
+use lib.ListN.{length, getD, take}
 use Rattle.rules.specs.Limits.{limits}
-use Rattle.rules.specs.Bytes.{Bytes, part, num, chunks, put, indexOf, repeats}
+use Rattle.rules.specs.Bytes.{Bytes, part, num, put, indexOf, repeats}
 
 abbrev pub answerBytes : ℕ
 answerBytes = 37
@@ -23,26 +23,25 @@ abbrev pub imageFrom : ℕ
 imageFrom = 37
 
 pub record Slot : Type 0 where
+  pub idLength : ℕ
   pub id : Bytes
   pub capacity : ℕ
   pub present : Bool
   pub size : ℕ
   pub digest : Bytes
 
--- the slot in its 74 bytes
-unfoldable pub slotIn : Bytes → Slot
-slotIn b =
-    record {
-      id = part b 1 (getD b 0 0);
-      capacity = num (part b 33 4);
-      present = not (eqb (getD b 37 0) 0);
-      size = num (part b 38 4);
-      digest = part b 42 32;
-    }
-
 -- the slot of number k, and its image
 unfoldable pub slotAt : Bytes → ℕ → Slot
-slotAt b k = slotIn (part b (slotBytes * k) slotBytes)
+slotAt b k =
+    let at = slotBytes * k in
+    record {
+      idLength = getD b at 0;
+      id = take (getD b at 0) (part b (at + 1) 32);
+      capacity = num (part b (at + 33) 4);
+      present = not (eqb (getD b (at + 37) 0) 0);
+      size = num (part b (at + 38) 4);
+      digest = part b (at + 42) 32;
+    }
 
 unfoldable pub imageAt : Bytes → ℕ → Bytes
 imageAt b k = part b (slotBytes * k + imageFrom) answerBytes
@@ -51,8 +50,13 @@ imageAt b k = part b (slotBytes * k + imageFrom) answerBytes
 unfoldable pub putImage : Bytes → ℕ → Bytes → Bytes
 putImage b k x = put b (slotBytes * k + imageFrom) x
 
+-- n numbers from k on
+abbrev pub numbers : ℕ → ℕ → List ℕ
+numbers zero k = []
+numbers (suc n) k = k ∷ numbers n (suc k)
+
 unfoldable pub slotsIn : Bytes → List Slot
-slotsIn b = map slotIn (chunks slotBytes (length b / slotBytes) b)
+slotsIn b = map (slotAt b) (numbers (length b / slotBytes) 0)
 
 abbrev pub slotNames : Bytes → List Bytes
 slotNames b = map (λ x. x .id) (slotsIn b)
@@ -64,7 +68,7 @@ slotOf id b = indexOf id (slotNames b)
 -- 85: identifier of 1 to 32 bytes, present size at most the capacity
 abbrev pub goodSlot : Slot → Bool
 goodSlot x =
-    leb 1 (length (x .id)) && leb (length (x .id)) (limits .identifier) && (not (x .present) || leb (x .size) (x .capacity))
+    leb 1 (x .idLength) && leb (x .idLength) (limits .identifier) && (not (x .present) || leb (x .size) (x .capacity))
 
 abbrev pub allGood : List Slot → Bool
 allGood [] = true
