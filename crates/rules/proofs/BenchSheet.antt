@@ -1,8 +1,8 @@
 -- The bench sheet of document 01: one table, and one proof that the written rules give each of its answers.
-use Prim.Native.Nat.{ℕ, _*_}
+use Prim.Native.Nat.{ℕ}
 use mathlib.Core.Path.{_≡_, refl}
 use mathlib.Core.List.{List, [], _∷_, _++_}
-use mathlib.Core.Bool.{Bool, true, false}
+use mathlib.Core.Bool.{true, false}
 use lib.ListN.{set, replicate}
 use Rattle.rules.specs.Answers.{Install, Boot}
 use Rattle.rules.specs.Bytes.{Bytes, span}

@@ -1,7 +1,6 @@
 -- A case: one of the five jobs with its inputs, and the answer that the rules give it, by document 01's numbers.
-use Prim.Native.Nat.{ℕ, _*_, _-_}
-use mathlib.Core.List.{List, [], _∷_, _++_, map}
-use mathlib.Core.Bool.{Bool, true, false}
+use Prim.Native.Nat.{ℕ, _-_}
+use mathlib.Core.List.{List, _∷_, _++_, map}
 use lib.ListN.{length, replicate}
 use Rattle.rules.specs.Answers.{Group, refusalNumber, endNumber}
 use Rattle.rules.specs.Bytes.{Bytes, Span}

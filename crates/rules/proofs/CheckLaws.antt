@@ -1,6 +1,6 @@
 -- What an accepted item, number, key or byte string tells of its place.
 use Prim.Native.Nat.{ℕ, _+_, _≤_, _<_}
-use mathlib.Core.Path.{_≡_, refl, ap, _∙_, subst}
+use mathlib.Core.Path.{_≡_, subst}
 use mathlib.Core.Bool.{Bool, true, false, _&&_, _||_, cond}
 use native.Mathlib.Omega.{arith}
 use lib.Dec.{ltb, leb, eqb}
@@ -8,8 +8,8 @@ use lib.ListN.{getD}
 use borrow.Author.Tests.{leb-true, eqb-true}
 use Rattle.rules.specs.Answers.{Malformed, NotCbor}
 use Rattle.rules.specs.Limits.{limits}
-use Rattle.rules.specs.Bytes.{Bytes, Span, span}
-use Rattle.rules.specs.Got.{Got, got, _>>=_}
+use Rattle.rules.specs.Bytes.{Bytes, Span}
+use Rattle.rules.specs.Got.{got}
 use Rattle.rules.specs.Cbor.{NUMBER, BYTES, TEXT, Head, head, known, more, least, value, after, item}
 use Rattle.rules.specs.Check.{Read, number, key, inBytes}
 use Rattle.rules.proofs.GotLaws.{bound, and-true, passed, both, split, split₂}

@@ -1,33 +1,32 @@
 -- What a run changes: at most 256 events, which fit the trace buffer; no slot but those that a fetch, copy or swap names; of no slot the
 -- identifier or the capacity.
-use Prim.Native.Nat.{ℕ, zero, suc, _+_, _-_, _*_, _≤_, _<_}
+use Prim.Native.Nat.{ℕ, zero, suc, _+_, _-_, _*_, _≤_}
 use mathlib.Core.Path.{_≡_, refl, sym, ap, _∙_, subst}
 use mathlib.Core.List.{List, [], _∷_, _++_}
 use mathlib.Core.Bool.{Bool, true, false, _&&_, _||_, not}
 use mathlib.Core.Option.{Option, some, none}
 use native.Mathlib.Omega.{arith}
-use native.Mathlib.Nat.{add-zero}
 use lib.Dec.{leb, eqb}
 use lib.ListN.{length, getD, drop, length-append, length-take}
 use lib.Seq.{drop-drop, length-sets}
-use borrow.Author.Tests.{eq-eqb, eqb-false, leb-true}
+use borrow.Author.Tests.{eq-eqb, leb-true}
 use Rattle.rules.specs.Answers.{Group, Failure, End, Finished, ConditionFailed, Started, Failed, resultNumber, BadProgram}
 use Rattle.rules.specs.Limits.{limits}
 use Rattle.rules.specs.Bytes.{Bytes, part, num, be2, same, repeats}
 use Rattle.rules.specs.Got.{got, found}
-use Rattle.rules.specs.Commands.{Op, vendor, class, imageMatch, setIndex, abort, setParams, overrideParams, fetch, copy, run, swap, Params, among, component, code}
-use Rattle.rules.specs.Manifest.{Seq, end, then, Cmd, one, sub, try, Alts, last, or, count, countCmd, countAlts, Section, countAll, Manifest, names}
+use Rattle.rules.specs.Commands.{Op, vendor, class, imageMatch, setIndex, abort, setParams, overrideParams, fetch, copy, run, swap, among, component, code}
+use Rattle.rules.specs.Manifest.{Seq, end, then, Cmd, one, sub, try, Alts, last, or, count, countCmd, countAlts, Manifest, names}
 use Rattle.rules.specs.Check.{check}
-use Rattle.rules.specs.Slots.{slotBytes, imageFrom, answerBytes, imageAt, putImage, slotOf}
-use Rattle.rules.specs.Step.{Env, State, Out, out, withParams, withSlots, withUsed, eventBytes, unless, given, passes, slotNo, image, filled, paramsOf, matches, fetches, copies, swaps, acts, step}
-use Rattle.rules.specs.Run.{on, next, indexAfter, coerceAfter, runSeq, runCmd, runAlts, runAll, sectionsOf, chosen, planOf, Input, Ran, admit, report, startState, envOf, runOf, runEnvelope}
+use Rattle.rules.specs.Slots.{slotBytes, imageFrom, answerBytes, imageAt, slotOf}
+use Rattle.rules.specs.Step.{Env, State, Out, out, withUsed, eventBytes, unless, given, passes, slotNo, image, filled, paramsOf, matches, fetches, copies, swaps, acts, step}
+use Rattle.rules.specs.Run.{on, next, indexAfter, coerceAfter, runSeq, runCmd, runAlts, runAll, planOf, Input, Ran, admit, report, startState, envOf, runOf, runEnvelope}
 use Rattle.rules.specs.Program.{Rec, does, jump, Program, NONE}
 use Rattle.rules.specs.ProgramTest.{marked, groupIn, idsIn, recordsIn, nonJumps, programIn}
 use Rattle.rules.specs.ProgramRun.{exec, runProgram}
 use Rattle.rules.proofs.GotLaws.{passed, split, split₂}
 use Rattle.rules.proofs.ManifestLaws.{sound}
 use Rattle.rules.proofs.FlatLaws.{counts, chosen-law}
-use Rattle.rules.proofs.SlotLaws.{part-after, drop-put-past, other-kept, fixed-kept, length-kept, number-kept}
+use Rattle.rules.proofs.SlotLaws.{drop-put-past, other-kept, fixed-kept, length-kept, number-kept}
 
 -- a command that a run does: at which component, and the place of its code
 pub record Did : Type 0 where

@@ -1,5 +1,5 @@
 -- The program of an accepted manifest is well formed.
-use Prim.Native.Nat.{ℕ, zero, suc, _+_, _*_, _≤_, _<_}
+use Prim.Native.Nat.{ℕ, _+_, _*_, _≤_, _<_}
 use mathlib.Core.Path.{_≡_, refl}
 use mathlib.Core.List.{List, [], _∷_, _++_, map}
 use mathlib.Core.Bool.{Bool, true, false, _&&_, _||_, cond}
@@ -83,7 +83,7 @@ mutual
   sum-cmd (try a) i t k = let r = sum-alts a i t (k + sizeAlts a) k in (omega (arith, r .0), r .1)
 
   sum-alts : (a : Alts) (i t z k : ℕ) → (nonJumps (flatAlts a i t z k) ≤ countAlts a) × (bytes (flatAlts a i t z k) ≡ 10 * sizeAlts a + weighAlts a)
-  sum-alts (last s) i t z k = sum-seq s false i false t z k
+  sum-alts (last s) i t z k = sum-seq s false i false _ z k
   sum-alts (or s a) i t z k =
       let f : List Rec = flatSeq s false i false (k + size s + 1) z k in
       let f′ : List Rec = flatAlts a i t z (k + size s + 1) in

@@ -1,6 +1,6 @@
 -- What holds of an accepted manifest.
 use Prim.Native.Nat.{ℕ, zero, suc, _+_, _-_, _*_, _≤_, _<_}
-use mathlib.Core.Path.{_≡_, refl, sym, ap, _∙_, subst}
+use mathlib.Core.Path.{_≡_, refl, sym, _∙_, subst}
 use mathlib.Core.List.{List, [], _∷_, _++_, map, map-append}
 use mathlib.Core.Bool.{Bool, true, false, _&&_, _||_, not}
 use native.Mathlib.Omega.{arith}
@@ -10,9 +10,9 @@ use borrow.Author.Tests.{leb-true, eqb-true, eqb-false, not-true, ne-eqb, eq-eqb
 use Rattle.rules.specs.Answers.{EnvelopeTooLong, Malformed, NotCbor, RepeatedIdentifier, WrongVersion}
 use Rattle.rules.specs.Limits.{limits}
 use Rattle.rules.specs.Bytes.{Bytes, Span, span, bytesAt, same, member, repeats}
-use Rattle.rules.specs.Got.{Got, got}
+use Rattle.rules.specs.Got.{got}
 use Rattle.rules.specs.Cbor.{NUMBER, BYTES, ARRAY, MAP, after, item}
-use Rattle.rules.specs.Manifest.{Seq, count, Section, countAll, Manifest, names}
+use Rattle.rules.specs.Manifest.{count, Section, countAll, Manifest, names}
 use Rattle.rules.specs.Check.{number, key, inBytes, strings, identifier, identifiers, components, sequenceAt, sectionAt, commonSeq, commonAt, sectionsAt, manifestAt, unread, check}
 use Rattle.rules.proofs.GotLaws.{passed, both, split, split₂}
 use Rattle.rules.proofs.CheckLaws.{Item, item-law, number-law, key-law, inBytes-law}

@@ -1,8 +1,8 @@
 -- What an accepted set or override tells of its parameters.
 use Prim.Native.Nat.{ℕ, zero, suc, _+_, _*_, _≤_, _<_}
 use mathlib.Core.Path.{_≡_}
-use mathlib.Core.Bool.{Bool, true, false, _||_}
-use mathlib.Core.Option.{Option, some, none}
+use mathlib.Core.Bool.{_||_}
+use mathlib.Core.Option.{some, none}
 use native.Mathlib.Omega.{arith}
 use lib.Dec.{ltb, leb, eqb}
 use lib.ListN.{length, length-take, length-drop}
@@ -12,7 +12,7 @@ use Rattle.rules.specs.declared.tables.Parameter.the-variants.{Coerce, U
 use Rattle.rules.specs.Answers.{Malformed, NoSuchComponent, NotCbor, UnknownParameter}
 use Rattle.rules.specs.Limits.{limits}
 use Rattle.rules.specs.Bytes.{Bytes, part}
-use Rattle.rules.specs.Got.{Got, got, found}
+use Rattle.rules.specs.Got.{got, found}
 use Rattle.rules.specs.Cbor.{BYTES, TEXT, FALSE, TRUE, Head, head, after, item}
 use Rattle.rules.specs.Commands.{orElse, over, params, paramOf}
 use Rattle.rules.specs.Check.{Given, give, number, parameter, entries}

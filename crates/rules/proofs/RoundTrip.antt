@@ -1,19 +1,19 @@
 -- A program is read back from its bytes.
-use Prim.Native.Nat.{ℕ, zero, suc, _+_, _*_, _/_, _%_, _≤_, _<_}
-use mathlib.Core.Path.{_≡_, refl, sym, ap, _∙_}
+use Prim.Native.Nat.{ℕ, _+_, _*_, _/_, _%_, _≤_, _<_}
+use mathlib.Core.Path.{_≡_, refl}
 use mathlib.Core.List.{List, [], _∷_, _++_, map, append-assoc, append-nil}
-use mathlib.Core.Bool.{Bool, true, false, _&&_, _||_, cond}
+use mathlib.Core.Bool.{true, false, _&&_, _||_}
 use mathlib.Core.Option.{Option, some, none}
 use native.Mathlib.Omega.{arith}
 use native.Mathlib.Nat.{div-div-eq-div-mul, div-add-mod', mod-eq-of-lt}
-use lib.Dec.{T, eqb, leb, ltb}
-use lib.ListN.{length, getD, take, drop, length-append}
-use lib.Seq.{take-append-seam, drop-append-seam, drop-drop}
-use borrow.Author.Tests.{lt-ltb, le-ltb, le-leb, lt-leb, eq-eqb, ne-eqb}
+use lib.Dec.{eqb, leb, ltb}
+use lib.ListN.{length, length-append}
+use lib.Seq.{take-append-seam, drop-append-seam}
+use borrow.Author.Tests.{lt-ltb, le-leb, eq-eqb, ne-eqb}
 use Rattle.rules.specs.Answers.{Group, Install, Boot, groupNumber}
 use Rattle.rules.specs.Limits.{limits}
 use Rattle.rules.specs.Bytes.{Bytes, num, be2, be4, flat, repeats}
-use Rattle.rules.specs.Got.{Got, got}
+use Rattle.rules.specs.Got.{got}
 use Rattle.rules.specs.Commands.{Op, vendor, class, imageMatch, setIndex, abort, setParams, overrideParams, fetch, copy, run, swap, Params, component}
 use Rattle.rules.specs.Program.{Rec, does, jump, Program, NONE, targetOf, argBytes, paramBytes, recBytes, idBytes, programBytes, entry}
 use Rattle.rules.specs.ProgramTest.{optional, paramsIn, opIn, recordIn, recordsIn, groupAllows, isBelow, idsIn, groupIn, programIn, nonJumps}
@@ -87,7 +87,7 @@ params-law n p f =
     let p₂ : Bytes = entry 11 (λ b. b) (p .digest) ++ p₃ in
     let p₁ : Bytes = entry 10 (λ k. k ∷ []) (p .source) ++ p₂ in
     rw (
-      optional-law 6 1 96 (λ b. b) (λ b. b) (p .uri) p₁
+      optional-law 6 1 (limits .uri) (λ b. b) (λ b. b) (p .uri) p₁
           (later 6 10 (λ k. k ∷ []) (p .source) p₂ (omega arith) (later 6 11 (λ b. b) (p .digest) p₃ (omega arith) (later 6 12 be4 (p .size) [] (omega arith) tt)))
           (λ b e. (f .uri b e .0, f .uri b e .1, refl)),
       optional-law 10 1 1 (λ k. k ∷ []) num (p .source) p₂
@@ -151,7 +151,7 @@ records-law g comps total n rest (r ∷ rs) h =
 
 abbrev pub GoodIds : List Bytes → Type 0
 GoodIds [] = Unit {0}
-GoodIds (x ∷ xs) = (1 ≤ length x) × (length x ≤ 32) × GoodIds xs
+GoodIds (x ∷ xs) = (1 ≤ length x) × (length x ≤ limits .identifier) × GoodIds xs
 
 ids-law : (ids : List Bytes) (rest : Bytes) → GoodIds ids → idsIn (length ids) (flat (map idBytes ids) ++ rest) ≡ got (ids, rest)
 unfolding idsIn
@@ -165,7 +165,7 @@ ids-law (x ∷ xs) rest h =
       append-assoc x (flat (map idBytes xs)) rest,
       le-leb 4 _ a,
       le-leb 1 (length x) (h .0),
-      le-leb (length x) 32 (h .1),
+      le-leb (length x) (limits .identifier) (h .1),
       le-leb _ _ b,
       drop-append-seam x q,
       ids-law xs rest (h .2),
@@ -174,13 +174,13 @@ ids-law (x ∷ xs) rest h =
 
 pub record GoodProgram (p : Program) : Type 0 where
   pub number : p .number ≤ limits .number
-  pub some-ids : (1 ≤ length (p .ids)) × (length (p .ids) ≤ 8)
+  pub some-ids : (1 ≤ length (p .ids)) × (length (p .ids) ≤ limits .components)
   pub ids : GoodIds (p .ids)
   pub distinct : repeats (p .ids) ≡ false
   pub records : GoodRecs (p .group) (length (p .ids)) (length (p .records)) 0 (p .records)
-  pub few : length (p .records) ≤ 1024
-  pub commands : nonJumps (p .records) ≤ 256
-  pub short : length (programBytes p) ≤ 32768
+  pub few : length (p .records) ≤ limits .records
+  pub commands : nonJumps (p .records) ≤ limits .commands
+  pub short : length (programBytes p) ≤ limits .program
 
 group-law : (g : Group) → groupIn (groupNumber g) ≡ some g
 group-law Install = refl

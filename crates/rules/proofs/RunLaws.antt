@@ -1,5 +1,5 @@
 -- The core of demand 3: the records of a sequence, run, do what the sequence does.
-use Prim.Native.Nat.{ℕ, zero, suc, _+_, _-_, _≤_, _<_}
+use Prim.Native.Nat.{ℕ, suc, _+_, _-_, _≤_, _<_}
 use mathlib.Core.Path.{_≡_, refl, sym, ap, _∙_}
 use mathlib.Core.List.{List, [], _∷_, _++_, append-assoc}
 use mathlib.Core.Bool.{Bool, true, false, _&&_, cond}
@@ -36,7 +36,7 @@ mutual
   length-cmd (try a) i t n = length-alts a i t (n + sizeAlts a) n
 
   pub length-alts : (a : Alts) (i t z n : ℕ) → length (flatAlts a i t z n) ≡ sizeAlts a
-  length-alts (last s) i t z n = length-seq s false i false t z n
+  length-alts (last s) i t z n = length-seq s false i false _ z n
   length-alts (or s a) i t z n =
       rw (length-append, length-seq s false i false (n + size s + 1) z n, length-alts a i t z (n + size s + 1)) (omega arith)
 

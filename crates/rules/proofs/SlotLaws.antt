@@ -1,6 +1,6 @@
 -- What an image that is put into a slot leaves as it was: every other slot, and of its own slot the identifier and the capacity.
-use Prim.Native.Nat.{ℕ, zero, suc, _+_, _-_, _*_, _/_, _≤_, _<_}
-use mathlib.Core.Path.{_≡_, refl, sym, ap, _∙_, fun-ext}
+use Prim.Native.Nat.{ℕ, suc, _+_, _-_, _*_, _/_, _≤_, _<_}
+use mathlib.Core.Path.{_≡_, refl, sym, ap, _∙_}
 use mathlib.Core.List.{List, [], _∷_, map}
 use native.Mathlib.Omega.{arith}
 use native.Mathlib.Nat.{add-suc, add-zero, eq-or-lt-of-le}
@@ -8,10 +8,10 @@ use mathlib.Core.Bool.{Bool, true, false}
 use mathlib.Core.Logic.{_⊎_, inl, inr}
 use lib.Dec.{ltb}
 use borrow.Author.Tests.{ltb-true, ltb-false}
-use lib.ListN.{length, getD, set, take, drop, length-take}
+use lib.ListN.{length, getD, set, take, drop}
 use lib.Seq.{take-set-le, drop-set-lt, drop-set-add, length-sets, getD-drop, getD-take}
-use Rattle.rules.specs.Bytes.{Bytes, part, num, put}
-use Rattle.rules.specs.Slots.{Slot, slotBytes, answerBytes, imageFrom, slotAt, putImage, slotsIn, slotNames, numbers, slotOf}
+use Rattle.rules.specs.Bytes.{Bytes, part, put}
+use Rattle.rules.specs.Slots.{slotBytes, answerBytes, imageFrom, slotAt, putImage, slotsIn, slotNames, numbers, slotOf}
 
 take-put : (n : ℕ) (s : Bytes) (i : ℕ) (x : Bytes) → n ≤ i → take n (put s i x) ≡ take n s
 take-put n s i [] h = refl

@@ -1,7 +1,7 @@
 -- What holds of every sequence that check reads: its commands are good and few, and their arguments are light.
 use Prim.Native.Nat.{ℕ, zero, suc, _+_, _-_, _*_, _/_, _%_, _≤_, _<_}
 use mathlib.Core.Path.{_≡_, refl, ap, _∙_}
-use mathlib.Core.Bool.{Bool, true, false}
+use mathlib.Core.Bool.{true}
 use mathlib.Core.Option.{Option, some, none}
 use native.Mathlib.Omega.{arith}
 use lib.Dec.{ltb, eqb}
@@ -10,9 +10,9 @@ use borrow.Author.Tests.{ltb-true}
 use Rattle.rules.specs.Answers.{Refusal, Malformed, NoSuchComponent, NotAllowed, TooManyCommands, UnknownCommand}
 use Rattle.rules.specs.Limits.{limits}
 use Rattle.rules.specs.Bytes.{Bytes, part, Span}
-use Rattle.rules.specs.Got.{Got, got, found}
+use Rattle.rules.specs.Got.{got, found}
 use Rattle.rules.specs.Cbor.{BYTES, ARRAY, MAP, NIL, after, item}
-use Rattle.rules.specs.Commands.{Op, Form, sixteen, nil, below, alternatives, parameters, sequence, Allowed, Row, commands, rowOf, isAllowed}
+use Rattle.rules.specs.Commands.{Form, sixteen, nil, below, alternatives, parameters, sequence, Allowed, commands, rowOf, isAllowed}
 use Rattle.rules.specs.Manifest.{Seq, end, then, Cmd, one, sub, try, Alts, last, or, count, countCmd, countAlts}
 use Rattle.rules.specs.Check.{Read, nothing, number, inBytes, entries, alternativesAt, argument, command, commandsAt, sequenceAt}
 use Rattle.rules.specs.Program.{argBytes}

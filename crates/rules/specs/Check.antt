@@ -2,7 +2,7 @@
 -- left to right, and a fault stands at its item's first byte.
 use Prim.Native.Nat.{ℕ, zero, suc, _+_, _-_, _/_, _%_}
 use mathlib.Core.List.{List, [], _∷_, _++_, map}
-use mathlib.Core.Bool.{Bool, true, false, _&&_, _||_, cond, not}
+use mathlib.Core.Bool.{Bool, _||_, not}
 use mathlib.Core.Option.{Option, some, none}
 use lib.Dec.{ltb, leb, eqb}
 use lib.ListN.{length}
@@ -11,10 +11,10 @@ use Rattle.rules.specs.declared.tables.Parameter.{Parameter}
 use Rattle.rules.specs.declared.tables.Parameter.the-variants.{Coerce, Uri, Source, Digest, Size}
 use Rattle.rules.specs.Limits.{limits}
 use Rattle.rules.specs.Bytes.{Bytes, part, Span, span, bytesAt, member}
-use Rattle.rules.specs.Got.{Got, refused, got, _>>=_, need, found}
-use Rattle.rules.specs.Cbor.{NUMBER, BYTES, TEXT, ARRAY, MAP, FALSE, TRUE, NIL, Head, head, after, item}
-use Rattle.rules.specs.Commands.{Op, Params, unset, over, orElse, Form, sixteen, nil, below, alternatives, parameters, sequence, Row, commands, rowOf, isAllowed, params, paramOf}
-use Rattle.rules.specs.Manifest.{Seq, end, then, Cmd, one, sub, try, Alts, last, or, count, countCmd, countAlts, Section, countAll, Manifest}
+use Rattle.rules.specs.Got.{Got, refused, got, need, found, _>>=_}
+use Rattle.rules.specs.Cbor.{NUMBER, BYTES, TEXT, ARRAY, MAP, FALSE, TRUE, NIL, head, after, item}
+use Rattle.rules.specs.Commands.{Params, over, orElse, Form, sixteen, nil, below, alternatives, parameters, sequence, commands, rowOf, isAllowed, params, paramOf}
+use Rattle.rules.specs.Manifest.{Seq, end, then, Cmd, one, sub, try, Alts, last, or, count, countCmd, Section, countAll, Manifest}
 
 -- a reader: from the container's end and a place to a value and the place after it. The container is the innermost byte string around,
 -- or the envelope

@@ -1,7 +1,7 @@
 -- Commands, parameters, and the command table (01, What a manifest may hold).
-use Prim.Native.Nat.{ℕ, zero, suc, _+_}
+use Prim.Native.Nat.{ℕ}
 use mathlib.Core.List.{List, [], _∷_}
-use mathlib.Core.Bool.{Bool, true, false, _&&_, _||_, cond}
+use mathlib.Core.Bool.{Bool, true, false, _||_}
 use mathlib.Core.Option.{Option, some, none}
 use lib.Dec.{leb, eqb}
 use Rattle.rules.specs.declared.tables.Parameter.{Parameter}

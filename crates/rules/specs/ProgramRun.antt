@@ -1,14 +1,14 @@
 -- The run of a program (01, The flat program): record by record, forward only.
-use Prim.Native.Nat.{ℕ, zero, suc, _+_, _-_}
+use Prim.Native.Nat.{ℕ, zero, suc, _-_}
 use mathlib.Core.List.{List, [], _∷_}
-use mathlib.Core.Bool.{Bool, true, false, cond}
+use mathlib.Core.Bool.{true, false}
 use lib.Dec.{eqb}
 use Rattle.rules.specs.Answers.{Finished, ConditionFailed}
 use Rattle.rules.specs.Bytes.{Bytes}
-use Rattle.rules.specs.Got.{Got, refused, got, _>>=_}
+use Rattle.rules.specs.Got.{Got, _>>=_}
 use Rattle.rules.specs.Step.{Env, State, Out, out, step}
 use Rattle.rules.specs.Run.{next, Input, Ran, runOf}
-use Rattle.rules.specs.Program.{Rec, does, jump, Program, NONE}
+use Rattle.rules.specs.Program.{Rec, does, jump, NONE}
 use Rattle.rules.specs.ProgramTest.{programIn}
 
 module _ (env : Env) where

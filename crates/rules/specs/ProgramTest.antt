@@ -1,6 +1,6 @@
 -- The program test: the program that bytes are, or refusal 97 at place 0 (01, The flat program: 'Well formed').
-use Prim.Native.Nat.{ℕ, zero, suc, _+_, _*_}
-use mathlib.Core.List.{List, [], _∷_, _++_, map}
+use Prim.Native.Nat.{ℕ, zero, suc, _+_}
+use mathlib.Core.List.{List, [], _∷_}
 use mathlib.Core.Bool.{Bool, true, false, _&&_, _||_, cond, not}
 use mathlib.Core.Option.{Option, some, none}
 use lib.Dec.{ltb, leb, eqb}
@@ -8,9 +8,9 @@ use lib.ListN.{length, getD, take, drop}
 use Rattle.rules.specs.Answers.{Group, Install, Boot, BadProgram}
 use Rattle.rules.specs.Limits.{limits}
 use Rattle.rules.specs.Bytes.{Bytes, part, num, same, repeats}
-use Rattle.rules.specs.Got.{Got, refused, got, _>>=_, found}
+use Rattle.rules.specs.Got.{Got, refused, got, found, _>>=_}
 use Rattle.rules.specs.Got as G
-use Rattle.rules.specs.Commands.{Op, Params, Form, sixteen, nil, below, alternatives, parameters, sequence, Allowed, anywhere, only, Row, commands, rowOf, among}
+use Rattle.rules.specs.Commands.{Op, Params, Form, sixteen, nil, below, alternatives, parameters, sequence, Allowed, anywhere, only, commands, rowOf, among}
 use Rattle.rules.specs.Run.{sectionsOf}
 use Rattle.rules.specs.Program.{Rec, does, jump, Program, NONE, targetOf}
 

@@ -1,15 +1,15 @@
 -- The run of a checked manifest, what every run tests first, and what it gives back (01, How a run goes; Refusal numbers).
-use Prim.Native.Nat.{ℕ, zero, suc, _+_, _-_, _*_, _%_}
-use mathlib.Core.List.{List, [], _∷_, _++_, map}
-use mathlib.Core.Bool.{Bool, true, false, _&&_, _||_, cond, not}
-use mathlib.Core.Option.{Option, some, none, Option·getD}
+use Prim.Native.Nat.{ℕ, _-_, _*_, _%_}
+use mathlib.Core.List.{List, [], _∷_}
+use mathlib.Core.Bool.{Bool, true, false, _&&_, cond, not}
+use mathlib.Core.Option.{Option·getD}
 use lib.Dec.{ltb, leb, eqb}
 use lib.ListN.{length, replicate}
 use Rattle.rules.specs.Answers.{endNumber, Controller, Group, Install, Boot, NotVerified, EventOpen, WrongNumber, BadSlots, NoSlot, BadAnswers, ShortTrace, End, Finished, ConditionFailed, Started, Failed}
 use Rattle.rules.specs.Limits.{limits}
 use Rattle.rules.specs.Bytes.{Bytes, num, part, allIn}
-use Rattle.rules.specs.Got.{Got, refused, got, _>>=_, need}
-use Rattle.rules.specs.Commands.{Op, Params, unset, component, among}
+use Rattle.rules.specs.Got.{Got, got, need, _>>=_}
+use Rattle.rules.specs.Commands.{unset, component, among}
 use Rattle.rules.specs.Manifest.{Seq, end, then, Cmd, one, sub, try, Alts, last, or, Section, Manifest, names}
 use Rattle.rules.specs.Check.{check}
 use Rattle.rules.specs.Slots.{answerBytes, goodSlots, slotNames}
