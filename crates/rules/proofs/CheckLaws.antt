@@ -10,12 +10,12 @@ use Rattle.rules.specs.Answers.{Malformed, NotCbor}
 use Rattle.rules.specs.Limits.{limits}
 use Rattle.rules.specs.Bytes.{Bytes, Span}
 use Rattle.rules.specs.Got.{got}
-use Rattle.rules.specs.Cbor.{NUMBER, BYTES, TEXT, Head, head, known, more, least, value, after, item}
+use Rattle.rules.specs.Cbor.{NUMBER, BYTES, TEXT, Head, head, known, more, least, value, after, item, oneOf}
 use Rattle.rules.specs.Check.{Read, number, key, inBytes}
 use Rattle.rules.proofs.GotLaws.{bound, and-true, passed, both, split, split₂}
 
 module _ (s : Bytes) where
-  pub head-bounds : (e at : ℕ) (h : Head) → head s e at ≡ got h → (at < h .next) × (h .next ≤ e)
+  head-bounds : (e at : ℕ) (h : Head) → head s e at ≡ got h → (at < h .next) × (h .next ≤ e)
   unfolding head
   head-bounds e at h q₀ =
       let (a, q₁) = passed (ltb at e) NotCbor at _ h q₀ in
@@ -53,6 +53,15 @@ module _ (s : Bytes) where
       subst (λ (x : Head). Item kind lo hi e at x) same
       (record
       { is = eqb-true _ _ k; low = leb-true _ _ r₁; high = leb-true _ _ r₂; up = head-bounds e at h′ qh .0; mid = after-le h′; fits = leb-true _ _ a })
+
+  pub one-of-law : (kind kind′ e at : ℕ) (h : Head) → oneOf kind kind′ s e at ≡ got h → (at < h .next) × (h .next ≤ e)
+  unfolding oneOf
+  one-of-law kind kind′ e at h q₀ =
+      split _ (head s e at) _ h q₀ λ h′ qh q₁.
+      let (_, q₂) = passed (leb (after h′) e) NotCbor at _ h q₁ in
+      let (_, q₃) = passed (eqb (h′ .kind) kind || eqb (h′ .kind) kind′) Malformed at _ h q₂ in
+      let same : h′ ≡ h = cc in
+      rw same at (head-bounds e at h′ qh)
 
   -- a reading that went forward, and not past the end
   pub number-law : (e at k q : ℕ) → number s e at ≡ got (k, q) → (at < q) × (q ≤ e) × (k ≤ (limits .number))

@@ -1,23 +1,22 @@
 -- What an accepted set or override tells of its parameters.
 use Prim.Native.Nat.{ℕ, zero, suc, _+_, _*_, _≤_, _<_}
 use mathlib.Core.Path.{_≡_}
-use mathlib.Core.Bool.{_||_}
 use mathlib.Core.Option.{some, none}
 use native.Mathlib.Omega.{arith}
-use lib.Dec.{ltb, leb, eqb}
+use lib.Dec.{ltb, leb}
 use lib.ListN.{length, length-take, length-drop}
 use borrow.Author.Tests.{ltb-true}
 use Rattle.rules.specs.declared.tables.Parameter.{Parameter}
 use Rattle.rules.specs.declared.tables.Parameter.the-variants.{Coerce, Uri, Source, Digest, Size}
-use Rattle.rules.specs.Answers.{Malformed, NoSuchComponent, NotCbor, UnknownParameter}
+use Rattle.rules.specs.Answers.{Malformed, NoSuchComponent, UnknownParameter}
 use Rattle.rules.specs.Limits.{limits}
 use Rattle.rules.specs.Bytes.{Bytes, part}
 use Rattle.rules.specs.Got.{got, found}
-use Rattle.rules.specs.Cbor.{BYTES, TEXT, FALSE, TRUE, Head, head, after, item}
+use Rattle.rules.specs.Cbor.{BYTES, TEXT, FALSE, TRUE, Head, after, item, oneOf}
 use Rattle.rules.specs.Commands.{orElse, over, params, paramOf}
 use Rattle.rules.specs.Check.{Given, give, number, parameter, entries}
 use Rattle.rules.proofs.GotLaws.{bound, passed, both}
-use Rattle.rules.proofs.CheckLaws.{head-bounds, Item, item-law, number-law}
+use Rattle.rules.proofs.CheckLaws.{one-of-law, Item, item-law, number-law}
 use Rattle.rules.proofs.OpLaws.{Fit, no-some, some-is, fit-unset, fit-over, weight, weight-is, weight-over}
 
 pub length-part : (s : Bytes) (at k : ℕ) → at + k ≤ length s → length (part s at k) ≡ k
@@ -39,11 +38,9 @@ module _ (s : Bytes) where
   parameter-law : (n : ℕ) (k : Parameter) (e at : ℕ) (v : Given) (q : ℕ) → e ≤ length s → parameter s n k e at ≡ got (v, q) → Param n e at v q
   unfolding parameter
   parameter-law n Coerce e at v q l q₀ =
-      let (h, qh, q₁) = bound (head s e at) _ (v, q) q₀ in
-      let (a, q₂) = passed (leb (after h) e) NotCbor at _ (v, q) q₁ in
-      let (b, q₃) = passed (eqb (h .kind) FALSE || eqb (h .kind) TRUE) Malformed at _ (v, q) q₂ in
-      let (ev, eq) = both q₃ in
-      let (u, f) = head-bounds s e at h qh in
+      let (h, qh, q₁) = bound (oneOf FALSE TRUE s e at) _ (v, q) q₀ in
+      let (u, f) = one-of-law s FALSE TRUE e at h qh in
+      let (ev, eq) = both q₁ in
       rw (← ev) (record { up = omega arith; fits = omega arith; fit = fit-unset n; light = omega arith })
   parameter-law n Uri e at v q l q₀ =
       let (h, qh, q₁) = bound (item TEXT 1 (limits .uri) s e at) _ (v, q) q₀ in

@@ -83,3 +83,11 @@ item kind lo hi s e at = do
   _ ← need (eqb (h .kind) kind) Malformed at
   _ ← need (leb lo (h .num) && leb (h .num) hi) Malformed at
   got h
+
+-- the same of an item of either kind, whatever its number
+unfoldable pub oneOf : ℕ → ℕ → Bytes → ℕ → ℕ → Got Head
+oneOf kind kind′ s e at = do
+  h ← head s e at
+  _ ← need (leb (after h) e) NotCbor at
+  _ ← need (eqb (h .kind) kind || eqb (h .kind) kind′) Malformed at
+  got h

@@ -2,7 +2,7 @@
 -- left to right, and a fault stands at its item's first byte.
 use Prim.Native.Nat.{ℕ, zero, suc, _+_, _-_, _/_, _%_}
 use mathlib.Core.List.{List, [], _∷_, _++_, map}
-use mathlib.Core.Bool.{Bool, _||_, not}
+use mathlib.Core.Bool.{Bool, not}
 use mathlib.Core.Option.{Option, some, none}
 use lib.Dec.{ltb, leb, eqb}
 use lib.ListN.{length}
@@ -12,7 +12,7 @@ use Rattle.rules.specs.declared.tables.Parameter.the-variants.{Coerce, U
 use Rattle.rules.specs.Limits.{limits}
 use Rattle.rules.specs.Bytes.{Bytes, part, Span, span, bytesAt, member}
 use Rattle.rules.specs.Got.{Got, refused, got, need, found, _>>=_}
-use Rattle.rules.specs.Cbor.{NUMBER, BYTES, TEXT, ARRAY, MAP, FALSE, TRUE, NIL, head, after, item}
+use Rattle.rules.specs.Cbor.{NUMBER, BYTES, TEXT, ARRAY, MAP, FALSE, TRUE, NIL, after, item, oneOf}
 use Rattle.rules.specs.Commands.{Params, over, orElse, Form, sixteen, nil, below, alternatives, parameters, sequence, commands, rowOf, isAllowed, params, paramOf}
 use Rattle.rules.specs.Manifest.{Seq, end, then, Cmd, one, sub, try, Alts, last, or, count, countCmd, Section, countAll, Manifest}
 
@@ -85,9 +85,7 @@ module _ (s : Bytes) where
   -- a parameter's value, in a manifest of n components
   unfoldable pub parameter : ℕ → Parameter → Read Given
   parameter n Coerce e at = do
-    h ← head s e at
-    _ ← need (leb (after h) e) NotCbor at
-    _ ← need (eqb (h .kind) FALSE || eqb (h .kind) TRUE) Malformed at
+    h ← oneOf FALSE TRUE s e at
     got (give (some (eqb (h .kind) TRUE)) none none none none, h .next)
   parameter n Uri e at = do
     h ← item TEXT 1 (limits .uri) s e at
@@ -223,9 +221,7 @@ module _ (s : Bytes) where
   -- nil or a byte string; the place after it
   unfoldable pub unread : ℕ → ℕ → Got ℕ
   unread e at = do
-    h ← head s e at
-    _ ← need (leb (after h) e) NotCbor at
-    _ ← need (eqb (h .kind) NIL || eqb (h .kind) BYTES) Malformed at
+    h ← oneOf NIL BYTES s e at
     got (after h)
 
   unfoldable pub check : Got Manifest
