@@ -22,7 +22,7 @@ use Rattle.rules.proofs.OpLaws.{Fit, no-some, some-is, fit-unset, fit-o
 pub length-part : (s : Bytes) (at k : ℕ) → at + k ≤ length s → length (part s at k) ≡ k
 length-part s at k h = simp (length-take, length-drop) (omega arith)
 
-text-after : (h : Head) → h .kind ≡ TEXT → after h ≡ h .next + h .num
+pub text-after : (h : Head) → h .kind ≡ TEXT → after h ≡ h .next + h .num
 text-after h e = rw e
 
 pub bytes-after : (h : Head) → h .kind ≡ BYTES → after h ≡ h .next + h .num
