@@ -2,3 +2,4 @@ pub mod GotLaws
 pub mod CheckLaws
 pub mod Cases
 pub mod BenchSheet
+pub mod TableLaws
