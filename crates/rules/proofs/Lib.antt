@@ -13,3 +13,4 @@ pub mod FlatLaws
 pub mod Demand3
 pub mod SlotLaws
 pub mod Effects
+pub mod TableLaws

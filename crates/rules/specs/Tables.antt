@@ -1,17 +1,20 @@
--- The tables of commands and parameters as the code keeps them: constant arrays, and one table by code that is lent to each look-up.
-use Prim.Native.Nat.{ℕ, _+_}
-use mathlib.Core.List.{List, [], _∷_}
+-- The tables of commands and parameters as the code keeps them: constant arrays, and one table by number that is lent to each look-up.
+use Prim.Native.Nat.{ℕ, zero, suc, _+_, _*_}
+use mathlib.Core.List.{List, [], _∷_, _++_}
 use mathlib.Core.Bool.{cond}
 use mathlib.Core.Option.{Option, some, none}
 use lib.Dec.{eqb}
 use Rattle.rules.specs.declared.tables.Argument.{Argument}
 use Rattle.rules.specs.declared.tables.Argument.the-variants.{Sixteen, Nil, Index, Alternatives, Parameters, Sequence}
+use Rattle.rules.specs.declared.tables.Command.{Command}
 use Rattle.rules.specs.declared.tables.Listed.{Listed}
 use Rattle.rules.specs.declared.tables.Listed.the-variants as L
 use Rattle.rules.specs.declared.tables.Parameter.{Parameter}
+use Rattle.rules.specs.declared.tables.Parameter.the-variants.{Coerce, Uri, Source, Digest, Size}
+use Rattle.rules.specs.declared.tables.ParameterRow.{ParameterRow}
 use Rattle.rules.specs.declared.tables.Known.{Known}
 use Rattle.rules.specs.declared.tables.Known.the-variants as K
-use Rattle.rules.specs.Commands.{Form, sixteen, nil, below, alternatives, parameters, sequence, Allowed, anywhere, only, Row}
+use Rattle.rules.specs.Commands.{Form, sixteen, nil, below, alternatives, parameters, sequence, Allowed, anywhere, only, Row, commands, rowOf, ParamRow, params, paramOf}
 
 abbrev pub kindOf : Form → Argument
 kindOf (sixteen op) = Sixteen
@@ -34,11 +37,68 @@ abbrev pub setOf : Allowed → ℕ
 setOf anywhere = 63
 setOf (only sections) = weights sections
 
+-- the rows of the constant arrays
+abbrev pub asCommand : Row → Command
+asCommand r = record { code = r .number; argument = kindOf (r .form); sections = setOf (r .allowed) }
+
+abbrev pub asParameterRow : ParamRow → ParameterRow
+asParameterRow r = record { key = r .number; parameter = r .param }
+
 -- what a look-up answers
 abbrev pub listed : Option Row → Listed
 listed none = L.Unlisted
-listed (some r) = L.Command (record { code = r .number; argument = kindOf (r .form); sections = setOf (r .allowed) })
+listed (some r) = L.Command (asCommand r)
 
 abbrev pub known : Option Parameter → Known
 known none = K.Unknown
 known (some p) = K.Parameter p
+
+-- an argument and a parameter as numbers, and the way back
+abbrev pub argumentNumber : Argument → ℕ
+argumentNumber Sixteen = 0
+argumentNumber Nil = 1
+argumentNumber Index = 2
+argumentNumber Alternatives = 3
+argumentNumber Parameters = 4
+argumentNumber Sequence = 5
+
+abbrev pub argumentAt : ℕ → Argument
+argumentAt n =
+    cond (eqb n 0) Sixteen
+    (cond (eqb n 1) Nil (cond (eqb n 2) Index (cond (eqb n 3) Alternatives (cond (eqb n 4) Parameters Sequence))))
+
+abbrev pub parameterNumber : Parameter → ℕ
+parameterNumber Coerce = 1
+parameterNumber Uri = 2
+parameterNumber Source = 3
+parameterNumber Digest = 4
+parameterNumber Size = 5
+
+abbrev pub knownAt : ℕ → Known
+knownAt n =
+    cond (eqb n 1) (K.Parameter Coerce)
+    (cond (eqb n 2) (K.Parameter Uri)
+    (cond (eqb n 3) (K.Parameter Source)
+    (cond (eqb n 4) (K.Parameter Digest) (cond (eqb n 5) (K.Parameter Size) K.Unknown))))
+
+-- the entries of the table by number: 0 where nothing is listed
+abbrev pub packed : Listed → ℕ
+packed L.Unlisted = 0
+packed (L.Command c) = argumentNumber (c .argument) * 64 + c .sections
+
+abbrev pub packedParameter : Known → ℕ
+packedParameter K.Unknown = 0
+packedParameter (K.Parameter p) = parameterNumber p
+
+-- f of 0, 1, .., n - 1
+abbrev pub values : {A : Type 0} → (ℕ → A) → ℕ → List A
+values f zero = []
+values f (suc n) = f 0 ∷ values (λ k. f (suc k)) n
+
+-- at c the command of code c, at 33 + k the parameter of key k
+unfoldable pub tableOf : List Row → List ParamRow → List ℕ
+tableOf rows ps =
+    values (λ c. packed (listed (rowOf c rows))) 33 ++ values (λ k. packedParameter (known (paramOf k ps))) 13
+
+unfoldable pub byNumber : List ℕ
+byNumber = tableOf commands params
