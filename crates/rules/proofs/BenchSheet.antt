@@ -4,7 +4,7 @@ use mathlib.Core.Path.{_≡_, refl}
 use mathlib.Core.List.{List, [], _∷_, _++_}
 use mathlib.Core.Bool.{true, false}
 use lib.ListN.{set, replicate}
-use Rattle.rules.specs.Answers.{Install, Boot}
+use Rattle.rules.specs.Base.{Install, Boot}
 use Rattle.rules.specs.Bytes.{Bytes, span}
 use Rattle.rules.specs.Cbor.{head, item, oneOf}
 use Rattle.rules.specs.Manifest.{count}

@@ -2,7 +2,8 @@
 use Prim.Native.Nat.{ℕ, _-_}
 use mathlib.Core.List.{List, _∷_, _++_, map}
 use lib.ListN.{length, replicate}
-use Rattle.rules.specs.Answers.{Group, refusalNumber, endNumber}
+use Rattle.rules.specs.Base.{Group}
+use Rattle.rules.specs.Answers.{refusalNumber, endNumber}
 use Rattle.rules.specs.Bytes.{Bytes, Span}
 use Rattle.rules.specs.Got.{Got, refused, got}
 use Rattle.rules.specs.Manifest.{Manifest}

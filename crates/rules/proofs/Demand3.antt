@@ -4,7 +4,7 @@ use mathlib.Core.Path.{_≡_, fun-ext}
 use native.Mathlib.Omega.{arith}
 use lib.ListN.{length}
 use borrow.Author.Tests.{le-leb, lt-leb}
-use Rattle.rules.specs.Answers.{Group, ShortRoom}
+use Rattle.rules.specs.Base.{Group, ShortRoom}
 use Rattle.rules.specs.Bytes.{Bytes}
 use Rattle.rules.specs.Got.{refused, got}
 use Rattle.rules.specs.Manifest.{Manifest}

@@ -10,7 +10,8 @@ use lib.Dec.{leb, eqb}
 use lib.ListN.{length, getD, drop, length-append, length-take}
 use lib.Seq.{drop-drop, length-sets}
 use borrow.Author.Tests.{eq-eqb, leb-true}
-use Rattle.rules.specs.Answers.{Group, Failure, End, Finished, ConditionFailed, Started, Failed, resultNumber, BadProgram}
+use Rattle.rules.specs.Base.{Group, Failure, End, Finished, ConditionFailed, Started, Failed, BadProgram}
+use Rattle.rules.specs.Answers.{resultNumber}
 use Rattle.rules.specs.Limits.{limits}
 use Rattle.rules.specs.Bytes.{Bytes, part, num, be2, same, repeats}
 use Rattle.rules.specs.Got.{got, found}

@@ -7,7 +7,7 @@ use native.Mathlib.Omega.{arith}
 use lib.Dec.{T, ltb, leb, eqb}
 use lib.ListN.{length, length-append}
 use borrow.Author.Tests.{leb-true, eqb-true, eq-eqb, lt-ltb, le-leb}
-use Rattle.rules.specs.Answers.{Group}
+use Rattle.rules.specs.Base.{Group}
 use Rattle.rules.specs.Limits.{limits}
 use Rattle.rules.specs.Bytes.{Bytes, flat}
 use Rattle.rules.specs.Commands.{Op, component, isCondition, among, Allowed, anywhere, only, isAllowed}

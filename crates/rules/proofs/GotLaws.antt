@@ -3,7 +3,7 @@ use Prim.Native.Nat.{ℕ}
 use mathlib.Core.Path.{_≡_, refl, ap}
 use mathlib.Core.Bool.{Bool, true, false, _&&_}
 use native.Mathlib.Omega.{arith}
-use Rattle.rules.specs.Answers.{Refusal}
+use Rattle.rules.specs.Base.{Refusal}
 use Rattle.rules.specs.Got.{Got, refused, got, _>>=_, need}
 
 module _ {A B : Type 0} where

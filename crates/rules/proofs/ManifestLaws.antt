@@ -7,7 +7,7 @@ use native.Mathlib.Omega.{arith}
 use lib.Dec.{leb, eqb}
 use lib.ListN.{length, length-append, length-map}
 use borrow.Author.Tests.{leb-true, eqb-true, eqb-false, not-true, ne-eqb, eq-eqb}
-use Rattle.rules.specs.Answers.{EnvelopeTooLong, Malformed, NotCbor, RepeatedIdentifier, WrongVersion}
+use Rattle.rules.specs.Base.{EnvelopeTooLong, Malformed, NotCbor, RepeatedIdentifier, WrongVersion}
 use Rattle.rules.specs.Limits.{limits}
 use Rattle.rules.specs.Bytes.{Bytes, Span, span, bytesAt, same, member, repeats}
 use Rattle.rules.specs.Got.{got}

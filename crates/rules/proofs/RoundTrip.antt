@@ -10,7 +10,8 @@ use lib.Dec.{eqb, leb, ltb}
 use lib.ListN.{length, length-append}
 use lib.Seq.{take-append-seam, drop-append-seam}
 use borrow.Author.Tests.{lt-ltb, le-leb, eq-eqb, ne-eqb}
-use Rattle.rules.specs.Answers.{Group, Install, Boot, groupNumber}
+use Rattle.rules.specs.Base.{Group, Install, Boot}
+use Rattle.rules.specs.Answers.{groupNumber}
 use Rattle.rules.specs.Limits.{limits}
 use Rattle.rules.specs.Bytes.{Bytes, num, be2, be4, flat, repeats}
 use Rattle.rules.specs.Got.{got}

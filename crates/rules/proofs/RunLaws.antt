@@ -10,7 +10,7 @@ use native.Mathlib.Nat.{add-assoc, zero-add, add-zero, add-suc, suc-add}
 use lib.Dec.{T, eqb}
 use lib.ListN.{length, length-append}
 use borrow.Author.Tests.{ne-eqb}
-use Rattle.rules.specs.Answers.{Failure, End, Finished, ConditionFailed, Started, Failed}
+use Rattle.rules.specs.Base.{Failure, End, Finished, ConditionFailed, Started, Failed}
 use Rattle.rules.specs.Commands.{Op, vendor, class, imageMatch, setIndex, abort, setParams, overrideParams, fetch, copy, run, swap, component}
 use Rattle.rules.specs.Manifest.{Seq, end, then, Cmd, one, sub, try, Alts, last, or}
 use Rattle.rules.specs.Step.{Env, State, Out, out, step, acts, fetches, copies, swaps, unless, given}

@@ -7,7 +7,7 @@ use native.Mathlib.Omega.{arith}
 use lib.Dec.{ltb, eqb}
 use lib.ListN.{length}
 use borrow.Author.Tests.{ltb-true}
-use Rattle.rules.specs.Answers.{Refusal, Malformed, NoSuchComponent, NotAllowed, TooManyCommands, UnknownCommand}
+use Rattle.rules.specs.Base.{Refusal, Malformed, NoSuchComponent, NotAllowed, TooManyCommands, UnknownCommand}
 use Rattle.rules.specs.Limits.{limits}
 use Rattle.rules.specs.Bytes.{Bytes, part, Span}
 use Rattle.rules.specs.Got.{got, found}

@@ -1,14 +1,5 @@
 -- The types that answers are made of, which the code declares, and the number that document 01 gives each of their cases.
-use Prim.Native.Nat.{ℕ}
-pub use Rattle.rules.specs.declared.controller.Controller.{Controller}
-pub use Rattle.rules.specs.declared.answers.Group.{Group}
-pub use Rattle.rules.specs.declared.answers.Group.the-variants.{Install, Boot}
-pub use Rattle.rules.specs.declared.answers.Refusal.{Refusal}
-pub use Rattle.rules.specs.declared.answers.Refusal.the-variants.{EnvelopeTooLong, NotCbor, Malformed, WrongVersion, RepeatedIdentifier, UnknownCommand, UnknownParameter, NotAllowed, NoSuchComponent, TooDeep, TooManyCommands, NotVerified, EventOpen, WrongNumber, BadSlots, NoSlot, BadAnswers, ShortTrace, ShortRoom, BadProgram}
-pub use Rattle.rules.specs.declared.answers.Failure.{Failure}
-pub use Rattle.rules.specs.declared.answers.Failure.the-variants.{ParameterUnset, Aborted, NoAnswer, BadStatus, TooLarge, NothingToCopy, NothingToRun}
-pub use Rattle.rules.specs.declared.answers.End.{End}
-pub use Rattle.rules.specs.declared.answers.End.the-variants.{Finished, ConditionFailed, Started, Failed}
+use Rattle.rules.specs.Base.{ℕ, Group, Install, Boot, Refusal, EnvelopeTooLong, NotCbor, Malformed, WrongVersion, RepeatedIdentifier, UnknownCommand, UnknownParameter, NotAllowed, NoSuchComponent, TooDeep, TooManyCommands, NotVerified, EventOpen, WrongNumber, BadSlots, NoSlot, BadAnswers, ShortTrace, ShortRoom, BadProgram, Failure, ParameterUnset, Aborted, NoAnswer, BadStatus, TooLarge, NothingToCopy, NothingToRun, End, Finished, ConditionFailed, Started, Failed}
 
 -- 01, The flat program: the group in the start record
 abbrev pub groupNumber : Group → ℕ

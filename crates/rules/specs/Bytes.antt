@@ -1,10 +1,5 @@
 -- Lists of bytes: parts, big-endian numbers, equality, membership.
-use Prim.Native.Nat.{ℕ, suc, _+_, _-_, _*_, _/_, _%_}
-use mathlib.Core.List.{List, [], _∷_, _++_}
-use mathlib.Core.Bool.{Bool, true, false, _&&_, _||_}
-use lib.Dec.{eqb}
-use lib.ListN.{take, drop}
-use lib.Seq.{sets}
+use Rattle.rules.specs.Base.{ℕ, suc, _+_, _-_, _*_, _/_, _%_, List, [], _∷_, _++_, Bool, true, false, _&&_, _||_, eqb, take, drop, sets}
 
 abbrev pub Bytes : Type 0
 Bytes = List ℕ

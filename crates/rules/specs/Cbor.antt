@@ -1,10 +1,6 @@
 -- CBOR as a manifest may use it (01, What a manifest may hold): definite lengths, shortest heads, numbers to 2^32-1; unsigned numbers,
 -- byte and text strings, arrays, maps, false, true, nil.
-use Prim.Native.Nat.{ℕ, _+_, _/_, _%_}
-use mathlib.Core.Bool.{Bool, true, false, _&&_, _||_, cond}
-use lib.Dec.{ltb, leb, eqb}
-use lib.ListN.{getD}
-use Rattle.rules.specs.Answers.{NotCbor, Malformed}
+use Rattle.rules.specs.Base.{ℕ, _+_, _/_, _%_, Bool, true, false, _&&_, _||_, cond, ltb, leb, eqb, getD, NotCbor, Malformed}
 use Rattle.rules.specs.Bytes.{Bytes, part, num}
 use Rattle.rules.specs.Got.{Got, got, need, _>>=_}
 

@@ -1,14 +1,6 @@
 -- Check: the manifest that an envelope holds, or the first fault (01, What a manifest may hold; Refusal numbers). It reads depth first,
 -- left to right, and a fault stands at its item's first byte.
-use Prim.Native.Nat.{ℕ, zero, suc, _+_, _-_, _/_, _%_}
-use mathlib.Core.List.{List, [], _∷_, _++_, map}
-use mathlib.Core.Bool.{Bool, not}
-use mathlib.Core.Option.{Option, some, none}
-use lib.Dec.{ltb, leb, eqb}
-use lib.ListN.{length}
-use Rattle.rules.specs.Answers.{EnvelopeTooLong, NotCbor, Malformed, WrongVersion, RepeatedIdentifier, UnknownCommand, UnknownParameter, NotAllowed, NoSuchComponent, TooDeep, TooManyCommands}
-use Rattle.rules.specs.declared.tables.Parameter.{Parameter}
-use Rattle.rules.specs.declared.tables.Parameter.the-variants.{Coerce, Uri, Source, Digest, Size}
+use Rattle.rules.specs.Base.{ℕ, zero, suc, _+_, _-_, _/_, _%_, List, [], _∷_, _++_, map, Bool, not, Option, some, none, ltb, leb, eqb, length, EnvelopeTooLong, NotCbor, Malformed, WrongVersion, RepeatedIdentifier, UnknownCommand, UnknownParameter, NotAllowed, NoSuchComponent, TooDeep, TooManyCommands, Parameter, Coerce, Uri, Source, Digest, Size}
 use Rattle.rules.specs.Limits.{limits}
 use Rattle.rules.specs.Bytes.{Bytes, part, Span, span, bytesAt, member}
 use Rattle.rules.specs.Got.{Got, refused, got, need, found, _>>=_}

@@ -1,11 +1,5 @@
 -- Commands, parameters, and the command table (01, What a manifest may hold).
-use Prim.Native.Nat.{ℕ}
-use mathlib.Core.List.{List, [], _∷_}
-use mathlib.Core.Bool.{Bool, true, false, _||_}
-use mathlib.Core.Option.{Option, some, none}
-use lib.Dec.{leb, eqb}
-use Rattle.rules.specs.declared.tables.Parameter.{Parameter}
-use Rattle.rules.specs.declared.tables.Parameter.the-variants.{Coerce, Uri, Source, Digest, Size}
+use Rattle.rules.specs.Base.{ℕ, List, [], _∷_, Bool, true, false, _||_, Option, some, none, leb, eqb, Parameter, Coerce, Uri, Source, Digest, Size}
 use Rattle.rules.specs.Bytes.{Bytes}
 
 -- the parameters of a component; of a command, those that it gives

@@ -1,9 +1,6 @@
 -- What a job gives: a value, or a refusal with its place. In a `do` block the first test that fails decides, so the order of the tests
 -- is the order of 01, Refusal numbers: 'the first fault met counts; on one item the lowest number'.
-use Prim.Native.Nat.{ℕ}
-use mathlib.Core.Bool.{Bool, true, false}
-use mathlib.Core.Option.{Option, some, none}
-use Rattle.rules.specs.Answers.{Refusal}
+use Rattle.rules.specs.Base.{ℕ, Bool, true, false, Option, some, none, Refusal}
 
 pub data Got (A : Type 0) : Type 0 where
   refused : Refusal → ℕ → Got A

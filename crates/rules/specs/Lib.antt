@@ -1,3 +1,4 @@
+pub mod Base
 pub mod Limits
 pub mod Answers
 pub mod Bytes

@@ -1,6 +1,6 @@
 -- The limits of document 01, each named once: a field of `Limits` here, a constant of the controller type in the code. The contract of
 -- `Controller::limits` ties the two.
-use Rattle.rules.specs.declared.controller.Limits.{Limits}
+use Rattle.rules.specs.Base.{Limits}
 
 -- 01, What a manifest may hold: bytes of an envelope; the largest number; components; parts of an identifier, and its bytes as encoded;
 -- commands of one sequence; sequences one in another; commands of an envelope; alternatives of a try each; parameters of a set or

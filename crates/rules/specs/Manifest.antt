@@ -1,8 +1,5 @@
 -- A checked manifest: what check answers, and its commands as a tree with the places of their codes.
-use Prim.Native.Nat.{ℕ, _+_}
-use mathlib.Core.List.{List, [], _∷_, map}
-use mathlib.Core.Bool.{Bool}
-use mathlib.Core.Option.{Option}
+use Rattle.rules.specs.Base.{ℕ, _+_, List, [], _∷_, map, Bool, Option}
 use Rattle.rules.specs.Bytes.{Bytes, Span, bytesAt}
 use Rattle.rules.specs.Commands.{Op}
 

@@ -1,7 +1,6 @@
 -- Newer (01, Five jobs): which of two envelopes has the newer manifest, and where it stands in it. 'First wins a tie. One that check
 -- refuses is passed over; both refused gives the empty start of the first.'
-use mathlib.Core.Bool.{cond}
-use lib.Dec.{ltb}
+use Rattle.rules.specs.Base.{cond, ltb}
 use Rattle.rules.specs.Bytes.{Bytes, Span, span}
 use Rattle.rules.specs.Got.{Got, refused, got}
 use Rattle.rules.specs.Manifest.{Manifest}

@@ -1,11 +1,6 @@
 -- The flat program of a manifest and a group: its records, and their bytes (01, The flat program).
-use Prim.Native.Nat.{ℕ, _+_}
-use mathlib.Core.List.{List, [], _∷_, _++_, map}
-use mathlib.Core.Bool.{Bool, true, false, _&&_, cond}
-use mathlib.Core.Option.{Option, some, none}
-use lib.Dec.{leb}
-use lib.ListN.{length}
-use Rattle.rules.specs.Answers.{Group, ShortRoom, groupNumber}
+use Rattle.rules.specs.Base.{ℕ, _+_, List, [], _∷_, _++_, map, Bool, true, false, _&&_, cond, Option, some, none, leb, length, Group, ShortRoom}
+use Rattle.rules.specs.Answers.{groupNumber}
 use Rattle.rules.specs.Bytes.{Bytes, be2, be4, flat}
 use Rattle.rules.specs.Got.{Got, got, need, _>>=_}
 use Rattle.rules.specs.Commands.{Op, vendor, class, imageMatch, setIndex, abort, setParams, overrideParams, fetch, copy, run, swap, Params, code, component, isCondition}

@@ -1,9 +1,5 @@
 -- The run of a program (01, The flat program): record by record, forward only.
-use Prim.Native.Nat.{ℕ, zero, suc, _-_}
-use mathlib.Core.List.{List, [], _∷_}
-use mathlib.Core.Bool.{true, false}
-use lib.Dec.{eqb}
-use Rattle.rules.specs.Answers.{Finished, ConditionFailed}
+use Rattle.rules.specs.Base.{ℕ, zero, suc, _-_, List, [], _∷_, true, false, eqb, Finished, ConditionFailed}
 use Rattle.rules.specs.Bytes.{Bytes}
 use Rattle.rules.specs.Got.{Got, _>>=_}
 use Rattle.rules.specs.Step.{Env, State, Out, out, step}

@@ -1,11 +1,5 @@
 -- The program test: the program that bytes are, or refusal 97 at place 0 (01, The flat program: 'Well formed').
-use Prim.Native.Nat.{ℕ, zero, suc, _+_}
-use mathlib.Core.List.{List, [], _∷_}
-use mathlib.Core.Bool.{Bool, true, false, _&&_, _||_, cond, not}
-use mathlib.Core.Option.{Option, some, none}
-use lib.Dec.{ltb, leb, eqb}
-use lib.ListN.{length, getD, take, drop}
-use Rattle.rules.specs.Answers.{Group, Install, Boot, BadProgram}
+use Rattle.rules.specs.Base.{ℕ, zero, suc, _+_, List, [], _∷_, Bool, true, false, _&&_, _||_, cond, not, Option, some, none, ltb, leb, eqb, length, getD, take, drop, Group, Install, Boot, BadProgram}
 use Rattle.rules.specs.Limits.{limits}
 use Rattle.rules.specs.Bytes.{Bytes, part, num, same, repeats}
 use Rattle.rules.specs.Got.{Got, refused, got, found, _>>=_}

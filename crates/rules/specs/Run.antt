@@ -1,11 +1,6 @@
 -- The run of a checked manifest, what every run tests first, and what it gives back (01, How a run goes; Refusal numbers).
-use Prim.Native.Nat.{ℕ, _-_, _*_, _%_}
-use mathlib.Core.List.{List, [], _∷_}
-use mathlib.Core.Bool.{Bool, true, false, _&&_, cond, not}
-use mathlib.Core.Option.{Option·getD}
-use lib.Dec.{ltb, leb, eqb}
-use lib.ListN.{length, replicate}
-use Rattle.rules.specs.Answers.{endNumber, Controller, Group, Install, Boot, NotVerified, EventOpen, WrongNumber, BadSlots, NoSlot, BadAnswers, ShortTrace, End, Finished, ConditionFailed, Started, Failed}
+use Rattle.rules.specs.Base.{ℕ, _-_, _*_, _%_, List, [], _∷_, Bool, true, false, _&&_, cond, not, Option·getD, ltb, leb, eqb, length, replicate, Controller, Group, Install, Boot, NotVerified, EventOpen, BadSlots, NoSlot, BadAnswers, ShortTrace, End, Finished, ConditionFailed, Started, Failed, WrongNumber}
+use Rattle.rules.specs.Answers.{endNumber}
 use Rattle.rules.specs.Limits.{limits}
 use Rattle.rules.specs.Bytes.{Bytes, num, part, allIn}
 use Rattle.rules.specs.Got.{Got, got, need, _>>=_}

@@ -4,11 +4,7 @@
 --                   37 present, 0 for no    38 size (4)    42 digest (32)
 -- An answer, 37:     0 status, 0 for good    1 size (4)     5 digest (32)
 -- The last 37 bytes of a slot are its image, laid out as an answer is.
-use Prim.Native.Nat.{ℕ, zero, suc, _+_, _*_, _/_, _%_}
-use mathlib.Core.List.{List, [], _∷_, map}
-use mathlib.Core.Bool.{Bool, true, _&&_, _||_, not}
-use lib.Dec.{leb, eqb}
-use lib.ListN.{length, getD, take}
+use Rattle.rules.specs.Base.{ℕ, zero, suc, _+_, _*_, _/_, _%_, List, [], _∷_, map, Bool, true, _&&_, _||_, not, leb, eqb, length, getD, take}
 use Rattle.rules.specs.Limits.{limits}
 use Rattle.rules.specs.Bytes.{Bytes, part, num, put, indexOf, repeats}
 

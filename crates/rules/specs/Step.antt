@@ -1,11 +1,6 @@
 -- What one command does: its result, the slots and parameters that it changes, and its event (01, How a run goes).
-use Prim.Native.Nat.{ℕ, _+_, _*_}
-use mathlib.Core.List.{List, [], _∷_, _++_}
-use mathlib.Core.Bool.{Bool, true, false, _&&_}
-use mathlib.Core.Option.{Option, some, none}
-use lib.Dec.{ltb, leb, eqb}
-use lib.ListN.{length, getD, set}
-use Rattle.rules.specs.Answers.{Controller, Failure, ParameterUnset, Aborted, NoAnswer, BadStatus, TooLarge, NothingToCopy, NothingToRun, End, Finished, ConditionFailed, Started, Failed, resultNumber}
+use Rattle.rules.specs.Base.{ℕ, _+_, _*_, List, [], _∷_, _++_, Bool, true, false, _&&_, Option, some, none, ltb, leb, eqb, length, getD, set, Controller, Failure, ParameterUnset, Aborted, NoAnswer, BadStatus, TooLarge, NothingToCopy, NothingToRun, End, Finished, ConditionFailed, Started, Failed}
+use Rattle.rules.specs.Answers.{resultNumber}
 use Rattle.rules.specs.Bytes.{Bytes, part, num, be2, same, put}
 use Rattle.rules.specs.Commands.{Op, vendor, class, imageMatch, setIndex, abort, setParams, overrideParams, fetch, copy, run, swap, Params, unset, over, code}
 use Rattle.rules.specs.Slots.{Slot, answerBytes, slotAt, imageAt, putImage, slotOf}

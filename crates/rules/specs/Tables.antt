@@ -1,18 +1,6 @@
 -- The tables of commands and parameters as the code keeps them: constant arrays, and one table by number that is lent to each look-up.
-use Prim.Native.Nat.{ℕ, zero, suc, _+_, _*_}
-use mathlib.Core.List.{List, [], _∷_, _++_}
-use mathlib.Core.Bool.{cond}
-use mathlib.Core.Option.{Option, some, none}
-use lib.Dec.{eqb}
-use Rattle.rules.specs.declared.tables.Argument.{Argument}
-use Rattle.rules.specs.declared.tables.Argument.the-variants.{Sixteen, Nil, Index, Alternatives, Parameters, Sequence}
-use Rattle.rules.specs.declared.tables.Command.{Command}
-use Rattle.rules.specs.declared.tables.Listed.{Listed}
+use Rattle.rules.specs.Base.{ℕ, zero, suc, _+_, _*_, List, [], _∷_, _++_, cond, Option, some, none, eqb, Argument, Sixteen, Nil, Index, Alternatives, Parameters, Sequence, Command, Listed, Parameter, Coerce, Uri, Source, Digest, Size, ParameterRow, Known}
 use Rattle.rules.specs.declared.tables.Listed.the-variants as L
-use Rattle.rules.specs.declared.tables.Parameter.{Parameter}
-use Rattle.rules.specs.declared.tables.Parameter.the-variants.{Coerce, Uri, Source, Digest, Size}
-use Rattle.rules.specs.declared.tables.ParameterRow.{ParameterRow}
-use Rattle.rules.specs.declared.tables.Known.{Known}
 use Rattle.rules.specs.declared.tables.Known.the-variants as K
 use Rattle.rules.specs.Commands.{Form, sixteen, nil, below, alternatives, parameters, sequence, Allowed, anywhere, only, Row, commands, rowOf, ParamRow, params, paramOf}
 
