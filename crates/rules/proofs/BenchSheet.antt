@@ -6,7 +6,7 @@ use mathlib.Core.Bool.{true, false}
 use lib.ListN.{set, replicate}
 use Rattle.rules.specs.Base.{Install, Boot}
 use Rattle.rules.specs.Bytes.{Bytes, span}
-use Rattle.rules.specs.Cbor.{head, item, oneOf}
+use Rattle.rules.specs.Cbor.{head, whole, item, oneOf}
 use Rattle.rules.specs.Manifest.{count}
 use Rattle.rules.specs.Check.{check, number, key, inBytes, strings, identifier, identifiers, components, parameter, entries, alternativesAt, argument, command, commandsAt, sequenceAt, sectionAt, commonSeq, commonAt, sectionsAt, manifestAt, unread}
 use Rattle.rules.specs.Newer.{inFirst, newer}
@@ -111,5 +111,5 @@ cases =
     ∷ []
 
 pub bench-sheet : Cases.given cases ≡ wanted cases
-unfolding check number key inBytes strings identifier identifiers components parameter entries alternativesAt argument command commandsAt sequenceAt sectionAt commonSeq commonAt sectionsAt manifestAt unread head item oneOf count slotAt imageAt putImage slotsIn slotOf goodSlots on unless given passes slotNo slot image filled matches fetches copies swaps acts step runSeq runAll admit report runOf runEnvelope size flatSeq flatAll programOf recBytes programBytes translate optional paramsIn opIn recordIn recordsIn idsIn programIn exec runProgram newer
+unfolding check number key inBytes strings identifier identifiers components parameter entries alternativesAt argument command commandsAt sequenceAt sectionAt commonSeq commonAt sectionsAt manifestAt unread head whole item oneOf count slotAt imageAt putImage slotsIn slotOf goodSlots on unless given passes slotNo slot image filled matches fetches copies swaps acts step runSeq runAll admit report runOf runEnvelope size flatSeq flatAll programOf recBytes programBytes translate optional paramsIn opIn recordIn recordsIn idsIn programIn exec runProgram newer
 bench-sheet = refl

@@ -10,12 +10,12 @@ use Rattle.rules.specs.Base.{Malformed, NotCbor}
 use Rattle.rules.specs.Limits.{limits}
 use Rattle.rules.specs.Bytes.{Bytes, Span}
 use Rattle.rules.specs.Got.{got}
-use Rattle.rules.specs.Cbor.{NUMBER, BYTES, TEXT, Head, head, known, more, least, value, after, item, oneOf}
+use Rattle.rules.specs.Cbor.{NUMBER, BYTES, TEXT, Head, head, known, more, least, value, after, whole, item, oneOf}
 use Rattle.rules.specs.Check.{Read, number, key, inBytes}
 use Rattle.rules.proofs.GotLaws.{bound, and-true, passed, both, split, split₂}
 
 module _ (s : Bytes) where
-  head-bounds : (e at : ℕ) (h : Head) → head s e at ≡ got h → (at < h .next) × (h .next ≤ e)
+  pub head-bounds : (e at : ℕ) (h : Head) → head s e at ≡ got h → (at < h .next) × (h .next ≤ e)
   unfolding head
   head-bounds e at h q₀ =
       let (a, q₁) = passed (ltb at e) NotCbor at _ h q₀ in
@@ -41,27 +41,33 @@ module _ (s : Bytes) where
     pub mid : h .next ≤ after h
     pub fits : after h ≤ e
 
+  pub whole-law : (e at : ℕ) (h : Head) → whole s e at ≡ got h → (at < h .next) × (h .next ≤ after h) × (after h ≤ e)
+  unfolding whole
+  whole-law e at h q₀ =
+      split _ (head s e at) _ h q₀ λ h′ qh q₁.
+      let (a, q₂) = passed (leb (after h′) e) NotCbor at _ h q₁ in
+      let same : h′ ≡ h = cc in
+      rw (← same) (head-bounds e at h′ qh .0, after-le h′, leb-true _ _ a)
+
   pub item-law : (kind lo hi e at : ℕ) (h : Head) → item kind lo hi s e at ≡ got h → Item kind lo hi e at h
   unfolding item
   item-law kind lo hi e at h q₀ =
-      let (h′, qh, q₁) = bound (head s e at) _ h q₀ in
-      let (a, q₂) = passed (leb (after h′) e) NotCbor at _ h q₁ in
-      let (k, q₃) = passed (eqb (h′ .kind) kind) Malformed at _ h q₂ in
-      let (r, q₄) = passed (leb lo (h′ .num) && leb (h′ .num) hi) Malformed at _ h q₃ in
+      split _ (whole s e at) _ h q₀ λ h′ qh q₁.
+      let (k, q₂) = passed (eqb (h′ .kind) kind) Malformed at _ h q₁ in
+      let (r, q₃) = passed (leb lo (h′ .num) && leb (h′ .num) hi) Malformed at _ h q₂ in
       let (r₁, r₂) = and-true (leb lo (h′ .num)) (leb (h′ .num) hi) r in
+      let (u, m, f) = whole-law e at h′ qh in
       let same : h′ ≡ h = cc in
       subst (λ (x : Head). Item kind lo hi e at x) same
-      (record
-      { is = eqb-true _ _ k; low = leb-true _ _ r₁; high = leb-true _ _ r₂; up = head-bounds e at h′ qh .0; mid = after-le h′; fits = leb-true _ _ a })
+      (record { is = eqb-true _ _ k; low = leb-true _ _ r₁; high = leb-true _ _ r₂; up = u; mid = m; fits = f })
 
-  pub one-of-law : (kind kind′ e at : ℕ) (h : Head) → oneOf kind kind′ s e at ≡ got h → (at < h .next) × (h .next ≤ e)
+  pub one-of-law : (kind kind′ e at : ℕ) (h : Head) → oneOf kind kind′ s e at ≡ got h → (at < h .next) × (h .next ≤ after h) × (after h ≤ e)
   unfolding oneOf
   one-of-law kind kind′ e at h q₀ =
-      split _ (head s e at) _ h q₀ λ h′ qh q₁.
-      let (_, q₂) = passed (leb (after h′) e) NotCbor at _ h q₁ in
-      let (_, q₃) = passed (eqb (h′ .kind) kind || eqb (h′ .kind) kind′) Malformed at _ h q₂ in
+      split _ (whole s e at) _ h q₀ λ h′ qh q₁.
+      let (_, q₂) = passed (eqb (h′ .kind) kind || eqb (h′ .kind) kind′) Malformed at _ h q₁ in
       let same : h′ ≡ h = cc in
-      rw same at (head-bounds e at h′ qh)
+      rw same at (whole-law e at h′ qh)
 
   -- a reading that went forward, and not past the end
   pub number-law : (e at k q : ℕ) → number s e at ≡ got (k, q) → (at < q) × (q ≤ e) × (k ≤ (limits .number))

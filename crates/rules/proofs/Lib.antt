@@ -14,3 +14,5 @@ pub mod Demand3
 pub mod SlotLaws
 pub mod Effects
 pub mod TableLaws
+pub mod BytesLaws
+pub mod CborLaws

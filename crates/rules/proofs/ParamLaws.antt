@@ -39,7 +39,7 @@ module _ (s : Bytes) where
   unfolding parameter
   parameter-law n Coerce e at v q l q₀ =
       let (h, qh, q₁) = bound (oneOf FALSE TRUE s e at) _ (v, q) q₀ in
-      let (u, f) = one-of-law s FALSE TRUE e at h qh in
+      let (u, m, f) = one-of-law s FALSE TRUE e at h qh in
       let (ev, eq) = both q₁ in
       rw (← ev) (record { up = omega arith; fits = omega arith; fit = fit-unset n; light = omega arith })
   parameter-law n Uri e at v q l q₀ =

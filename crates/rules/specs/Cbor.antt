@@ -71,19 +71,24 @@ head s e at = do
 abbrev pub after : Head → ℕ
 after h = cond (eqb (h .kind) BYTES || eqb (h .kind) TEXT) (h .next + h .num) (h .next)
 
--- the item at `at`: its bytes lie in the container, it is of that kind, and its number, length or count is from lo to hi
-unfoldable pub item : ℕ → ℕ → ℕ → Bytes → ℕ → ℕ → Got Head
-item kind lo hi s e at = do
+-- the head of an item whose bytes lie in the container
+unfoldable pub whole : Bytes → ℕ → ℕ → Got Head
+whole s e at = do
   h ← head s e at
   _ ← need (leb (after h) e) NotCbor at
+  got h
+
+-- of an item of that kind, whose number, length or count is from lo to hi
+unfoldable pub item : ℕ → ℕ → ℕ → Bytes → ℕ → ℕ → Got Head
+item kind lo hi s e at = do
+  h ← whole s e at
   _ ← need (eqb (h .kind) kind) Malformed at
   _ ← need (leb lo (h .num) && leb (h .num) hi) Malformed at
   got h
 
--- the same of an item of either kind, whatever its number
+-- of an item of either kind, whatever its number
 unfoldable pub oneOf : ℕ → ℕ → Bytes → ℕ → ℕ → Got Head
 oneOf kind kind′ s e at = do
-  h ← head s e at
-  _ ← need (leb (after h) e) NotCbor at
+  h ← whole s e at
   _ ← need (eqb (h .kind) kind || eqb (h .kind) kind′) Malformed at
   got h

@@ -1,0 +1,230 @@
+// Heads and items of CBOR, as a manifest may use it: definite lengths, shortest heads, numbers to 2^32-1.
+ghost use mathlib.Core.Path.{_≡_};
+ghost use Prim.Native.Nat.{ℕ, _+_, _*_, _%_, _≤_, _<_};
+ghost use lib.ListN.{length, getD};
+ghost use Rattle.rules.specs.declared.answers.Refusal.the-variants.{NotCbor};
+ghost use Rattle.rules.specs.Got.{refused, got};
+ghost use Rattle.rules.specs.Cbor.{head, whole, item, oneOf, after};
+ghost use Rattle.cbor.specs.Answer.{headOf, headMeans, itemMeans};
+
+// Kinds of items.
+pub const NUMBER: usize = 0;
+
+pub const BYTES: usize = 2;
+
+pub const TEXT: usize = 3;
+
+pub const ARRAY: usize = 4;
+
+pub const MAP: usize = 5;
+
+pub const FALSE: usize = 20;
+
+pub const TRUE: usize = 21;
+
+pub const NIL: usize = 22;
+
+// A head: its kind, its number (0 for false, true and nil) and the place after it.
+pub struct Head {
+    pub kind: usize,
+    pub num: usize,
+    pub next: usize,
+}
+
+// A head, or the place of refusal 65.
+pub enum HeadRead {
+    Head(Head),
+    NotCbor(usize),
+}
+
+// An item's head, or the place of refusal 65 or 66.
+pub enum ItemRead {
+    Item(Head),
+    NotCbor(usize),
+    Malformed(usize),
+}
+
+fn wide(x: u8) -> usize
+    ensures { λ r. ⌜ (r ≡ x) × (r < 256) ⌝ }
+{
+    x as usize
+}
+
+// Big-endian numbers of two and four bytes.
+fn two(s: &[u8], at: usize) -> usize
+    requires { ⌜ at + 2 ≤ length (now s) ⌝ }
+    ensures { λ r. ⌜ (r ≡ getD (now (s .entry)) at 0 * 256 + getD (now (s .entry)) (at + 1) 0) × (r < 65536) ⌝ }
+{
+    wide(s[at]) * 256 + wide(s[at + 1])
+}
+
+fn four(s: &[u8], at: usize) -> usize
+    requires { ⌜ at + 4 ≤ length (now s) ⌝ }
+    ensures { λ r. ⌜ r ≡ ((getD (now (s .entry)) at 0 * 256 + getD (now (s .entry)) (at + 1) 0) * 256 + getD (now (s .entry)) (at + 2) 0) * 256 + getD (now (s .entry)) (at + 3) 0 ⌝ }
+{
+    (two(s, at) * 256 + wide(s[at + 2])) * 256 + wide(s[at + 3])
+}
+
+// The head, unless its number is too small for the bytes that it has.
+fn shortest(kind: usize, num: usize, next: usize, least: usize, at: usize) -> HeadRead
+    ensures { λ r. ⌜ (num < least → headMeans r ≡ refused NotCbor at) × (least ≤ num → headMeans r ≡ got (record { kind = kind; num = num; next = next })) ⌝ }
+{
+    if num < least {
+        return HeadRead::NotCbor(at);
+    }
+    HeadRead::Head(Head { kind, num, next })
+}
+
+// A head whose number is in the 1, 2 or 4 bytes after its first byte b.
+fn long_head(s: &[u8], e: usize, at: usize, b: usize) -> HeadRead
+    requires { ⌜ (at < e) × (e ≤ length (now s)) × (b ≡ getD (now s) at 0) × (24 ≤ b % 32) ⌝ }
+    ensures { λ r. ⌜ headMeans r ≡ head (now (s .entry)) e at ⌝ }
+{
+    let kind = b / 32;
+    if kind == 1 {
+        return HeadRead::NotCbor(at);
+    }
+    if MAP < kind {
+        return HeadRead::NotCbor(at);
+    }
+    let low = b % 32;
+    let from = at + 1;
+    let left = e - from;
+    if low == 24 {
+        if left < 1 {
+            return HeadRead::NotCbor(at);
+        }
+        return shortest(kind, wide(s[from]), from + 1, 24, at);
+    }
+    if low == 25 {
+        if left < 2 {
+            return HeadRead::NotCbor(at);
+        }
+        return shortest(kind, two(s, from), from + 2, 256, at);
+    }
+    if low == 26 {
+        if left < 4 {
+            return HeadRead::NotCbor(at);
+        }
+        return shortest(kind, four(s, from), from + 4, 65536, at);
+    }
+    HeadRead::NotCbor(at)
+}
+
+// The head at `at`, in a container that ends at `e`.
+pub fn read_head(s: &[u8], e: usize, at: usize) -> HeadRead
+    requires { ⌜ e ≤ length (now s) ⌝ }
+    ensures { λ r. ⌜ headMeans r ≡ head (now (s .entry)) e at ⌝ }
+{
+    if e <= at {
+        return HeadRead::NotCbor(at);
+    }
+    let b = wide(s[at]);
+    let next = at + 1;
+    if b < 24 {
+        return HeadRead::Head(Head {
+            kind: NUMBER,
+            num: b,
+            next,
+        });
+    }
+    let low = b % 32;
+    if 24 <= low {
+        return long_head(s, e, at, b);
+    }
+    if b < 0x40 {
+        return HeadRead::NotCbor(at);
+    }
+    if b < 0xc0 {
+        return HeadRead::Head(Head {
+            kind: b / 32,
+            num: low,
+            next,
+        });
+    }
+    if b < 0xf4 {
+        return HeadRead::NotCbor(at);
+    }
+    if b < 0xf7 {
+        return HeadRead::Head(Head {
+            kind: low,
+            num: 0,
+            next,
+        });
+    }
+    HeadRead::NotCbor(at)
+}
+
+// How many bytes follow a head of that kind and number as its content.
+fn content(kind: usize, num: usize) -> usize
+    ensures { λ r. ⌜ ((next : ℕ) → after (record { kind = kind; num = num; next = next }) ≡ next + r) ⌝ }
+{
+    if kind == BYTES {
+        return num;
+    }
+    if kind == TEXT {
+        return num;
+    }
+    0
+}
+
+// The head of an item whose bytes lie in the container.
+fn read_whole(s: &[u8], e: usize, at: usize) -> HeadRead
+    requires { ⌜ e ≤ length (now s) ⌝ }
+    ensures { λ r. ⌜ headMeans r ≡ whole (now (s .entry)) e at ⌝ }
+{
+    match read_head(s, e, at) {
+        HeadRead::NotCbor(p) => HeadRead::NotCbor(p),
+        HeadRead::Head(h) => {
+            let left = e - h.next;
+            if left < content(h.kind, h.num) {
+                return HeadRead::NotCbor(at);
+            }
+            HeadRead::Head(h)
+        }
+    }
+}
+
+// The item at `at`, of a wanted kind, whose number, length or count is from lo to hi.
+pub fn read_item(s: &[u8], e: usize, at: usize, kind: usize, lo: usize, hi: usize) -> ItemRead
+    requires { ⌜ e ≤ length (now s) ⌝ }
+    ensures { λ r. ⌜ itemMeans r ≡ item kind lo hi (now (s .entry)) e at ⌝ }
+{
+    match read_whole(s, e, at) {
+        HeadRead::NotCbor(p) => ItemRead::NotCbor(p),
+        HeadRead::Head(h) => {
+            let is = h.kind;
+            let num = h.num;
+            if is != kind {
+                return ItemRead::Malformed(at);
+            }
+            if num < lo {
+                return ItemRead::Malformed(at);
+            }
+            if hi < num {
+                return ItemRead::Malformed(at);
+            }
+            ItemRead::Item(h)
+        }
+    }
+}
+
+// The item at `at`, of either kind, whatever its number.
+pub fn read_one_of(s: &[u8], e: usize, at: usize, kind: usize, other: usize) -> ItemRead
+    requires { ⌜ e ≤ length (now s) ⌝ }
+    ensures { λ r. ⌜ itemMeans r ≡ oneOf kind other (now (s .entry)) e at ⌝ }
+{
+    match read_whole(s, e, at) {
+        HeadRead::NotCbor(p) => ItemRead::NotCbor(p),
+        HeadRead::Head(h) => {
+            let is = h.kind;
+            if is == kind {
+                return ItemRead::Item(h);
+            }
+            if is == other {
+                return ItemRead::Item(h);
+            }
+            ItemRead::Malformed(at)
+        }
+    }
+}

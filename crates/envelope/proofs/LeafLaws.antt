@@ -1,0 +1,74 @@
+-- The arguments that hold no sequence, read by their places, end where the rules of check end them.
+use Prim.Native.Nat.{ℕ, zero, suc, _+_}
+use mathlib.Core.Path.{_≡_, refl, sym, ap, _∙_}
+use mathlib.Core.Bool.{Bool, true, false}
+use mathlib.Core.Option.{Option, some, none}
+use lib.Dec.{ltb, leb}
+use Rattle.rules.specs.declared.tables.Parameter.{Parameter}
+use Rattle.rules.specs.declared.tables.Parameter.the-variants.{Coerce, Uri, Source, Digest, Size}
+use Rattle.rules.specs.declared.answers.Refusal.{Refusal}
+use Rattle.rules.specs.declared.answers.Refusal.the-variants.{Malformed, NoSuchComponent, UnknownParameter}
+use Rattle.rules.specs.Limits.{limits}
+use Rattle.rules.specs.Bytes.{Bytes, part}
+use Rattle.rules.specs.Got.{Got, refused, got, need, found, _>>=_}
+use Rattle.rules.specs.Cbor.{NUMBER, BYTES, TEXT, MAP, FALSE, TRUE, NIL, Head, after, item, oneOf}
+use Rattle.rules.specs.Commands.{Form, sixteen, nil, below, parameters, params, paramOf}
+use Rattle.rules.specs.Manifest.{Seq, Cmd, countCmd, count}
+use Rattle.rules.specs.Check.{Read, Given, nothing, number, parameter, entries, argument}
+use Rattle.rules.proofs.CheckLaws.{item-law}
+use Rattle.rules.proofs.ParamLaws.{bytes-after, text-after}
+use Rattle.envelope.specs.Reading.{headReading, reading}
+use Rattle.envelope.specs.Leaves.{stringAt, componentAt, parameterAt, entriesAt, leafAt}
+
+-- the place after what was read
+abbrev pub forget : {A : Type 0} → Got (A × ℕ) → Got ℕ
+forget (refused r p) = refused r p
+forget (got a) = got (a .1)
+
+pub forget-bind : {A B : Type 0} (x : Got A) (f : A → Got (B × ℕ)) → forget (x >>= f) ≡ (x >>= λ a. forget (f a))
+forget-bind (refused r p) f = refl
+forget-bind (got a) f = refl
+
+-- two that go on alike where the first gave a value
+pub alike : {A B : Type 0} (x : Got A) (f g : A → Got B) → ((a : A) → x ≡ got a → f a ≡ g a) → (x >>= f) ≡ (x >>= g)
+alike (refused r p) f g h = refl
+alike (got a) f g h = h a refl
+
+module _ (s : Bytes) where
+  -- a number is its item's
+  pub number-reading : (e at : ℕ) → headReading (item NUMBER 0 (limits .number) s e at) ≡ reading (λ k. k) (number s e at)
+  unfolding number
+  number-reading e at = go (item NUMBER 0 (limits .number) s e at)
+    where
+      go : (x : Got Head) → headReading x ≡ reading (λ k. k) (x >>= λ h. got (h .num, h .next))
+      go (refused r p) = refl
+      go (got h) = refl
+
+  -- a string ends after its bytes
+  pub string-ends : (kind lo hi e at : ℕ) → ((h : Head) → h .kind ≡ kind → after h ≡ h .next + h .num) →
+      (item kind lo hi s e at >>= λ h. got (after h)) ≡ stringAt s kind lo hi e at
+  unfolding stringAt
+  string-ends kind lo hi e at f =
+      alike (item kind lo hi s e at) (λ h. got (after h)) (λ h. got (h .next + h .num)) λ h q. ap got (f h (item-law s kind lo hi e at h q .is))
+
+  pub parameter-ends : (n : ℕ) (k : Parameter) (e at : ℕ) → forget (parameter s n k e at) ≡ parameterAt s n k e at
+  unfolding parameter parameterAt componentAt
+  parameter-ends n Coerce e at = forget-bind (oneOf FALSE TRUE s e at) _
+  parameter-ends n Uri e at = forget-bind (item TEXT 1 (limits .uri) s e at) _ ∙ string-ends TEXT 1 (limits .uri) e at text-after
+  parameter-ends n Source e at = forget-bind (number s e at) _ ∙ alike (number s e at) _ _ λ a q. forget-bind (need (ltb (a .0) n) NoSuchComponent at) _
+  parameter-ends n Digest e at = forget-bind (item BYTES 32 32 s e at) _ ∙ string-ends BYTES 32 32 e at bytes-after
+  parameter-ends n Size e at = forget-bind (number s e at) _
+
+  pub entries-end : (n k low : ℕ) (g : Given) (e at : ℕ) → forget (entries s n k low g e at) ≡ entriesAt s n k low e at
+  unfolding entries entriesAt
+  entries-end n zero low g e at = refl
+  entries-end n (suc k) low g e at =
+      forget-bind (number s e at) _ ∙ alike (number s e at) _ _ λ a q.
+      forget-bind (need (leb low (a .0)) Malformed at) _ ∙ alike (need (leb low (a .0)) Malformed at) _ _ λ u q′.
+      forget-bind (found (paramOf (a .0) params) UnknownParameter at) _ ∙ alike (found (paramOf (a .0) params) UnknownParameter at) _ _ λ what q″.
+      value-ends (a .0) (parameter s n what e (a .1)) (parameterAt s n what e (a .1)) _ _ (parameter-ends n what e (a .1)) λ v. entries-end n k (a .0 + 1) _ e (v .1)
+    where
+      value-ends : (name : ℕ) (x : Got (Given × ℕ)) (y : Got ℕ) (f : Given × ℕ → Got (Given × ℕ)) (h : ℕ → Got ℕ) → forget x ≡ y →
+          ((v : Given × ℕ) → forget (f v) ≡ h (v .1)) → forget (x >>= f) ≡ (y >>= h)
+      value-ends name (refused r p) y f h e k = rw (← e)
+      value-ends name (got v) y f h e k = rw (← e) (k v)

@@ -1,0 +1,4 @@
+pub mod ReadingLaws
+pub mod LeafLaws
+pub mod SequenceLaws
+pub mod IdentifierLaws

@@ -1,0 +1,146 @@
+-- Sequences and commands, read by their places and counts, end where the rules of check end them.
+use Prim.Native.Nat.{ℕ, zero, suc, _+_, _-_, _≤_}
+use mathlib.Core.Path.{_≡_, refl, sym, ap, _∙_}
+use mathlib.Core.Bool.{Bool, true, false}
+use mathlib.Core.Option.{Option, some, none}
+use native.Mathlib.Omega.{arith}
+use native.Mathlib.Numerals.{sub-one}
+use native.Mathlib.Nat.{add-assoc}
+use lib.Dec.{ltb, eqb}
+use Rattle.rules.specs.declared.answers.Refusal.the-variants.{NotCbor, UnknownCommand, NotAllowed, TooManyCommands, NoSuchComponent}
+use Rattle.rules.specs.Limits.{limits}
+use Rattle.rules.specs.Bytes.{Bytes, part, Span, span}
+use Rattle.rules.specs.Got.{Got, refused, got, need, found, _>>=_}
+use Rattle.rules.specs.Cbor.{BYTES, ARRAY, MAP, NIL, Head, after, item}
+use Rattle.rules.specs.Commands.{Form, sixteen, nil, below, alternatives, parameters, sequence, commands, rowOf, isAllowed}
+use Rattle.rules.specs.Manifest.{Seq, then, Cmd, one, sub, try, Alts, last, or, count, countCmd, countAlts}
+use Rattle.rules.specs.Check.{Read, nothing, number, inBytes, entries, alternativesAt, argument, command, commandsAt}
+use Rattle.rules.proofs.CheckLaws.{item-law}
+use Rattle.rules.proofs.ParamLaws.{bytes-after}
+use Rattle.envelope.specs.Reading.{reading}
+use Rattle.envelope.specs.Leaves.{stringAt, componentAt, leafAt}
+use Rattle.envelope.specs.Sequences.{holds, opening, nested}
+use Rattle.envelope.proofs.LeafLaws.{forget, forget-bind, alike, string-ends, entries-end}
+
+-- f of what was read, and the place after it
+abbrev pub counted : {A : Type 0} → (A → ℕ) → Got (A × ℕ) → Got (ℕ × ℕ)
+counted f (refused r p) = refused r p
+counted f (got a) = got (f (a .0), a .1)
+
+pub counted-reading : {A : Type 0} (f : A → ℕ) (x : Got (A × ℕ)) → reading f x ≡ reading (λ k. k) (counted f x)
+counted-reading f (refused r p) = refl
+counted-reading f (got a) = refl
+
+counted-bind : {A B : Type 0} (f : B → ℕ) (x : Got A) (k : A → Got (B × ℕ)) → counted f (x >>= k) ≡ (x >>= λ a. counted f (k a))
+counted-bind f (refused r p) k = refl
+counted-bind f (got a) k = refl
+
+-- a command that counts as one
+abbrev One : Got (Cmd × ℕ) → Type 0
+One (refused r p) = Unit {0}
+One (got c) = countCmd (c .0) ≡ 1
+
+one-bind : {A : Type 0} (x : Got A) (f : A → Got (Cmd × ℕ)) → ((a : A) → One (f a)) → One (x >>= f)
+one-bind (refused r p) f h = tt
+one-bind (got a) f h = h a
+
+forget-after : {A B : Type 0} (x : Got (A × ℕ)) (f : A → B) → forget (x >>= λ a. got (f (a .0), a .1)) ≡ forget x
+forget-after (refused r p) f = refl
+forget-after (got a) f = refl
+
+pub bind-assoc : {A B C : Type 0} (x : Got A) (f : A → Got B) (g : B → Got C) → ((x >>= f) >>= g) ≡ (x >>= λ a. f a >>= g)
+bind-assoc (refused r p) f g = refl
+bind-assoc (got a) f g = refl
+
+module _ (s : Bytes) (deeper : ℕ → Read Seq) where
+  -- one sequence in a byte string, and what follows it
+  in-bytes : {B : Type 0} (m e at : ℕ) (k : Seq × Span → Got B) (g : Seq × ℕ → Got B) → ((a : Seq) (p : Span) → k (a, p) ≡ g (a, p .to)) →
+      (inBytes s (deeper m) e at >>= k)
+      ≡ (item BYTES 0 (limits .number) s e at >>= λ h. deeper m (after h) (h .next) >>= λ r. need (eqb (r .1) (after h)) NotCbor (r .1) >>= λ _. g r)
+  unfolding inBytes
+  in-bytes m e at k g same =
+      bind-assoc (item BYTES 0 (limits .number) s e at) _ k ∙ alike (item BYTES 0 (limits .number) s e at) _ _ λ h q.
+      bind-assoc (deeper m (after h) (h .next)) _ k ∙ alike (deeper m (after h) (h .next)) _ _ λ r q′.
+      bind-assoc (need (eqb (r .1) (after h)) NotCbor (r .1)) _ k ∙ alike (need (eqb (r .1) (after h)) NotCbor (r .1)) _ _ λ u q″.
+      same (r .0) (span (h .next) (r .1))
+
+  alternatives-law : (k m e at : ℕ) → counted (λ a. m + countAlts a) (alternativesAt s deeper k m e at) ≡ nested s deeper (suc k) m e at
+  unfolding alternativesAt nested countAlts
+  alternatives-law zero m e at =
+      counted-bind _ (inBytes s (deeper m) e at) _ ∙ in-bytes m e at _ (λ r. got (m + count (r .0), r .1)) (λ a p. refl)
+  alternatives-law (suc k) m e at =
+      counted-bind _ (inBytes s (deeper m) e at) _ ∙ in-bytes m e at _ (λ r. nested s deeper (suc k) (m + count (r .0)) e (r .1))
+      (λ a p. move a (alternativesAt s deeper k (m + count a) e (p .to)) ∙ alternatives-law k (m + count a) e (p .to))
+    where
+      move : (a : Seq) (x : Got (Alts × ℕ)) → counted (λ b. m + countAlts b) (x >>= λ t. got (or a (t .0), t .1)) ≡ counted (λ b. m + count a + countAlts b) x
+      move a (refused r p) = refl
+      move a (got t) = ap (λ (c : ℕ). got (c, t .1)) (sym (add-assoc m (count a) (countAlts (t .0))))
+
+  -- a command without sequences, read by the place after it
+  leaf : (m e : ℕ) (x : Got (Cmd × ℕ)) (y : Got ℕ) → One x → forget x ≡ y →
+      counted (λ c. m + countCmd c) x ≡ (_>>=_ {A = ℕ × ℕ} (y >>= λ p. got (0, p)) λ a. nested s deeper (a .0) (m + 1) e (a .1))
+  unfolding nested
+  leaf m e (refused r p) y h q = rw (← q)
+  leaf m e (got c) y h q = rw (← q, h)
+
+  -- an argument is what stands before the sequences that it holds, and these
+  argument-law : (n m place : ℕ) (form : Form) (e at : ℕ) →
+      counted (λ c. m + countCmd c) (argument s deeper n (m + 1) place form e at) ≡ (holds s n form e at >>= λ a. nested s deeper (a .0) (m + 1) e (a .1))
+  unfolding argument holds leafAt nested countCmd componentAt
+  argument-law n m place (sixteen op) e at =
+      leaf m e (argument s deeper n (m + 1) place (sixteen op) e at) _ (one-bind (item BYTES 16 16 s e at) _ λ h. refl)
+      (forget-bind (item BYTES 16 16 s e at) _ ∙ string-ends s BYTES 16 16 e at bytes-after)
+  argument-law n m place (nil op) e at =
+      leaf m e (argument s deeper n (m + 1) place (nil op) e at) _ (one-bind (item NIL 0 0 s e at) _ λ h. refl) (forget-bind (item NIL 0 0 s e at) _)
+  argument-law n m place (below op) e at =
+      leaf m e (argument s deeper n (m + 1) place (below op) e at) _
+      (one-bind (number s e at) _ λ a. one-bind (need (ltb (a .0) n) NoSuchComponent at) _ λ u. refl)
+      (forget-bind (number s e at) _ ∙ alike (number s e at) _ _ λ a q. forget-bind (need (ltb (a .0) n) NoSuchComponent at) _)
+  argument-law n m place alternatives e at =
+      counted-bind _ (item ARRAY 1 (limits .alternatives) s e at) _
+      ∙ (alike (item ARRAY 1 (limits .alternatives) s e at) _ _ λ h q. tried h (item-law s ARRAY 1 (limits .alternatives) e at h q .low))
+      ∙ sym (bind-assoc (item ARRAY 1 (limits .alternatives) s e at) _ _)
+    where
+      plus : (x : Got (Alts × ℕ)) → counted (λ c. m + countCmd c) (x >>= λ t. got (try (t .0), t .1)) ≡ counted (λ a. m + 1 + countAlts a) x
+      plus (refused r p) = refl
+      plus (got t) = ap (λ (c : ℕ). got (c, t .1)) (sym (add-assoc m 1 (countAlts (t .0))))
+
+      tried : (h : Head) → 1 ≤ h .num →
+          counted (λ c. m + countCmd c) (alternativesAt s deeper (h .num - 1) (m + 1) e (h .next) >>= λ t. got (try (t .0), t .1)) ≡ nested s deeper (h .num) (m + 1) e (h .next)
+      tried h l =
+          let k : suc (h .num - 1) ≡ h .num = omega arith in
+          plus (alternativesAt s deeper (h .num - 1) (m + 1) e (h .next)) ∙ alternatives-law (h .num - 1) (m + 1) e (h .next) ∙ ap (λ (j : ℕ). nested s deeper j (m + 1) e (h .next)) k
+  argument-law n m place (parameters op) e at =
+      leaf m e (argument s deeper n (m + 1) place (parameters op) e at) _
+      (one-bind (item MAP 1 (limits .parameters) s e at) _ λ h. one-bind (entries s n (h .num) 0 nothing e (h .next)) _ λ g. refl)
+      (forget-bind (item MAP 1 (limits .parameters) s e at) _ ∙ alike (item MAP 1 (limits .parameters) s e at) _ _ λ h q.
+      forget-after (entries s n (h .num) 0 nothing e (h .next)) _ ∙ entries-end s n (h .num) 0 nothing e (h .next))
+  argument-law n m place sequence e at =
+      counted-bind _ (inBytes s (deeper (m + 1)) e at) _ ∙ in-bytes (m + 1) e at _ _ (λ a p. ap (λ (c : ℕ). got (c, p .to)) (sym (add-assoc m 1 (count a))))
+
+  pub command-law : (n section m e at : ℕ) →
+      counted (λ c. m + countCmd c) (command s deeper n section m e at) ≡ (opening s n section m e at >>= λ a. nested s deeper (a .0) (m + 1) e (a .1))
+  unfolding command opening
+  command-law n section m e at =
+      counted-bind _ (number s e at) _
+      ∙ (alike (number s e at) _ _ λ a q.
+      counted-bind _ (found (rowOf (a .0) commands) UnknownCommand at) _ ∙ (alike (found (rowOf (a .0) commands) UnknownCommand at) _ _ λ row q′.
+      counted-bind _ (need (isAllowed section (row .allowed)) NotAllowed at) _ ∙ (alike (need (isAllowed section (row .allowed)) NotAllowed at) _ _ λ u q″.
+      counted-bind _ (need (ltb m (limits .commands)) TooManyCommands at) _ ∙ (alike (need (ltb m (limits .commands)) TooManyCommands at) _ _ λ w q‴.
+      argument-law n m at (row .form) e (a .1)) ∙ sym (bind-assoc (need (ltb m (limits .commands)) TooManyCommands at) _ _))
+      ∙ sym (bind-assoc (need (isAllowed section (row .allowed)) NotAllowed at) _ _))
+      ∙ sym (bind-assoc (found (rowOf (a .0) commands) UnknownCommand at) _ _))
+      ∙ sym (bind-assoc (number s e at) _ _)
+
+  -- the commands of a sequence, one after the other
+  then-law : (n section k m e at : ℕ) →
+      counted (λ a. m + count a) (commandsAt s deeper n section (suc k) m e at)
+      ≡ (command s deeper n section m e at >>= λ c. counted (λ a. m + countCmd (c .0) + count a) (commandsAt s deeper n section k (m + countCmd (c .0)) e (c .1)))
+  unfolding commandsAt count
+  then-law n section k m e at =
+      counted-bind _ (command s deeper n section m e at) _ ∙ alike (command s deeper n section m e at) _ _ λ c q.
+      plus (c .0) (commandsAt s deeper n section k (m + countCmd (c .0)) e (c .1))
+    where
+      plus : (c : Cmd) (x : Got (Seq × ℕ)) → counted (λ a. m + count a) (x >>= λ t. got (then c (t .0), t .1)) ≡ counted (λ a. m + countCmd c + count a) x
+      plus c (refused r p) = refl
+      plus c (got t) = ap (λ (j : ℕ). got (j, t .1)) (sym (add-assoc m (countCmd c) (count (t .0))))

@@ -1,0 +1,7 @@
+pub mod Reading
+pub mod Identifiers
+pub mod Leaves
+pub mod Sequences
+pub mod Sections
+pub mod Body
+pub mod Report

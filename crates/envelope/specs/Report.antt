@@ -1,0 +1,41 @@
+-- What check hands back.
+use Prim.Native.Nat.{ℕ, zero, suc, _+_, _-_, _*_}
+use mathlib.Core.Path.{_≡_}
+use mathlib.Core.List.{List, [], _∷_, _++_}
+use mathlib.Core.Bool.{cond}
+use lib.Dec.{eqb}
+use lib.ListN.{length, replicate, set}
+use Rattle.rules.specs.Bytes.{Span, span}
+use Rattle.rules.specs.Got.{Got, refused, got}
+use Rattle.rules.specs.Manifest.{Section, Manifest}
+use Rattle.envelope.specs.declared.report.Place.{Place}
+use Rattle.envelope.specs.declared.report.Checked.{Checked}
+use Rattle.envelope.specs.declared.report.Checked.the-variants.{Accepted, Refused}
+use Rattle.envelope.specs.declared.report.Report.{Report}
+use Rattle.envelope.specs.Identifiers.{laid}
+use Rattle.envelope.specs.Sections.{placed}
+
+abbrev pub place : Span → Place
+place p = record { from = p .from; to = p .to }
+
+abbrev pub reportOf : Got Manifest → Report
+reportOf (refused r p) =
+    record {
+      answer = Refused r p;
+      number = 0;
+      components = 0;
+      ids = replicate 16 0;
+      manifest = place (span 0 0);
+      common = place (span 0 0);
+      sections = replicate 12 0;
+    }
+reportOf (got m) =
+    record {
+      answer = Accepted;
+      number = m .number;
+      components = length (m .ids);
+      ids = laid (m .ids) (replicate 16 0);
+      manifest = place (m .part);
+      common = place (m .common);
+      sections = placed (m .sections) (replicate 12 0);
+    }

@@ -1,0 +1,25 @@
+-- The places of sections, as check keeps them in an array.
+use Prim.Native.Nat.{ℕ, _+_, _-_, _*_}
+use mathlib.Core.Path.{_≡_}
+use mathlib.Core.List.{List, [], _∷_}
+use mathlib.Core.Bool.{cond}
+use lib.Dec.{eqb}
+use lib.ListN.{set}
+use Rattle.rules.specs.Got.{Got, refused, got}
+use Rattle.rules.specs.Manifest.{Section}
+
+-- the number of a section in the array: 0 for common's sequence, 1 to 5 for sections 8 to 12
+abbrev pub sectionNo : ℕ → ℕ
+sectionNo k = cond (eqb k 3) 0 (k - 7)
+
+abbrev pub placedOne : Section → List ℕ → List ℕ
+placedOne x a = set (set a (2 * sectionNo (x .key)) (x .place .from)) (2 * sectionNo (x .key) + 1) (x .place .to)
+
+abbrev pub placed : List Section → List ℕ → List ℕ
+placed [] a = a
+placed (x ∷ xs) a = placed xs (placedOne x a)
+
+-- where a reading is accepted, the places of its sections stand in the array
+abbrev pub Placed : {A : Type 0} → (A → List Section) → Got (A × ℕ) → List ℕ → List ℕ → Type 0
+Placed f (refused r p) before after = Unit {0}
+Placed f (got a) before after = after ≡ placed (f (a .0)) before

@@ -1,0 +1,33 @@
+-- A big-endian number grows by its next byte.
+use Prim.Native.Nat.{ℕ, _+_, _*_, _≤_, _<_}
+use mathlib.Core.Path.{_≡_, refl}
+use mathlib.Core.List.{[], _∷_, _++_}
+use native.Mathlib.Omega.{arith}
+use native.Mathlib.Numerals.{add-one}
+use native.Mathlib.Nat.{add-zero}
+use lib.ListN.{length, getD, drop, length-drop}
+use lib.Seq.{take-suc, getD-drop}
+use Rattle.rules.specs.Bytes.{Bytes, part, num, numFrom}
+
+num-snoc : (n : ℕ) (xs : Bytes) (b : ℕ) → numFrom n (xs ++ (b ∷ [])) ≡ numFrom n xs * 256 + b
+num-snoc n [] b = refl
+num-snoc n (x ∷ xs) b = num-snoc (n * 256 + x) xs b
+
+module _ (s : Bytes) (at k : ℕ) (h : at + k < length s) where
+  pub part-more : part s at (k + 1) ≡ part s at k ++ (getD s (at + k) 0 ∷ [])
+  part-more =
+      let l : k < length (drop at s) = simp length-drop (omega arith) in
+      rw (add-one, take-suc (drop at s) k 0 l, getD-drop at s k 0)
+
+  pub num-more : num (part s at (k + 1)) ≡ num (part s at k) * 256 + getD s (at + k) 0
+  num-more = rw part-more (num-snoc 0 (part s at k) (getD s (at + k) 0))
+
+module _ (s : Bytes) (at : ℕ) where
+  pub num-1 : at + 1 ≤ length s → num (part s at 1) ≡ getD s at 0
+  num-1 h = omega (arith, simp add-zero at (num-more s at 0 (omega arith)))
+
+  pub num-2 : at + 2 ≤ length s → num (part s at 2) ≡ getD s at 0 * 256 + getD s (at + 1) 0
+  num-2 h = omega (arith, num-1 (omega arith), num-more s at 1 (omega arith))
+
+  pub num-4 : at + 4 ≤ length s → num (part s at 4) ≡ ((getD s at 0 * 256 + getD s (at + 1) 0) * 256 + getD s (at + 2) 0) * 256 + getD s (at + 3) 0
+  num-4 h = omega (arith, num-2 (omega arith), num-more s at 2 (omega arith), num-more s at 3 (omega arith))
