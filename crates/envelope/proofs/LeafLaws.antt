@@ -1,13 +1,18 @@
 -- The arguments that hold no sequence, read by their places, end where the rules of check end them.
-use Prim.Native.Nat.{ℕ, zero, suc, _+_}
+use Prim.Native.Nat.{ℕ, zero, suc, _+_, _-_, _≤_, _<_}
 use mathlib.Core.Path.{_≡_, refl, sym, ap, _∙_}
 use mathlib.Core.Bool.{Bool, true, false}
+use mathlib.Core.Logic.{_⊎_, inl, inr}
+use native.Mathlib.Omega.{arith}
 use mathlib.Core.Option.{Option, some, none}
 use lib.Dec.{ltb, leb}
+use borrow.Author.Tests.{le-leb, lt-leb}
 use Rattle.rules.specs.declared.tables.Parameter.{Parameter}
 use Rattle.rules.specs.declared.tables.Parameter.the-variants.{Coerce, Uri, Source, Digest, Size}
 use Rattle.rules.specs.declared.answers.Refusal.{Refusal}
 use Rattle.rules.specs.declared.answers.Refusal.the-variants.{Malformed, NoSuchComponent, UnknownParameter}
+use Rattle.rules.specs.declared.tables.Known.the-variants as K
+use Rattle.rules.specs.Tables.{known}
 use Rattle.rules.specs.Limits.{limits}
 use Rattle.rules.specs.Bytes.{Bytes, part}
 use Rattle.rules.specs.Got.{Got, refused, got, need, found, _>>=_}
@@ -17,8 +22,10 @@ use Rattle.rules.specs.Manifest.{Seq, Cmd, countCmd, count}
 use Rattle.rules.specs.Check.{Read, Given, nothing, number, parameter, entries, argument}
 use Rattle.rules.proofs.CheckLaws.{item-law}
 use Rattle.rules.proofs.ParamLaws.{bytes-after, text-after}
-use Rattle.envelope.specs.Reading.{headReading, reading}
-use Rattle.envelope.specs.Leaves.{stringAt, componentAt, parameterAt, entriesAt, leafAt}
+use Rattle.envelope.specs.Reading.{fault, ends, headReading, placeReading, reading, unnumbered}
+use Rattle.envelope.proofs.ReadingLaws.{Stopped, head-place, number-place}
+use Rattle.envelope.specs.declared.reading.Reading.{Reading}
+use Rattle.envelope.specs.Leaves.{stringAt, componentAt, parameterAt, entriesAt}
 
 -- the place after what was read
 abbrev pub forget : {A : Type 0} → Got (A × ℕ) → Got ℕ
@@ -51,6 +58,11 @@ module _ (s : Bytes) where
   string-ends kind lo hi e at f =
       alike (item kind lo hi s e at) (λ h. got (after h)) (λ h. got (h .next + h .num)) λ h q. ap got (f h (item-law s kind lo hi e at h q .is))
 
+  -- and lies in its container
+  pub string-fits : (kind lo hi e at : ℕ) (h : Head) → (kind ≡ BYTES) ⊎ (kind ≡ TEXT) → item kind lo hi s e at ≡ got h → h .next + h .num ≤ e
+  string-fits kind lo hi e at h (inl k) q = let i = item-law s kind lo hi e at h q in omega (arith, i .fits, bytes-after h (i .is ∙ k))
+  string-fits kind lo hi e at h (inr k) q = let i = item-law s kind lo hi e at h q in omega (arith, i .fits, text-after h (i .is ∙ k))
+
   pub parameter-ends : (n : ℕ) (k : Parameter) (e at : ℕ) → forget (parameter s n k e at) ≡ parameterAt s n k e at
   unfolding parameter parameterAt componentAt
   parameter-ends n Coerce e at = forget-bind (oneOf FALSE TRUE s e at) _
@@ -72,3 +84,55 @@ module _ (s : Bytes) where
           ((v : Given × ℕ) → forget (f v) ≡ h (v .1)) → forget (x >>= f) ≡ (y >>= h)
       value-ends name (refused r p) y f h e k = rw (← e)
       value-ends name (got v) y f h e k = rw (← e) (k v)
+
+-- what a look-up of a parameter found
+pub known-some : (o : Option Parameter) (p : Parameter) → known o ≡ K.Parameter p → o ≡ some p
+known-some none p e = let z : _≡_ {A = ℕ} 0 1 = cc in absurd (omega arith)
+known-some (some q) p e = let f : q ≡ p = cc in ap some f
+
+pub known-none : (o : Option Parameter) → known o ≡ K.Unknown → o ≡ none
+known-none none e = refl
+known-none (some q) e = let z : _≡_ {A = ℕ} 0 1 = cc in absurd (omega arith)
+
+pub pos : (n : ℕ) → 0 < n → n ≡ suc (n - 1)
+pos n h = omega arith
+
+-- the entries of a set or override, one turn after the other
+module _ (s : Bytes) (n k low e at : ℕ) where
+  pub entries-none : k ≡ 0 → ends at 0 ≡ placeReading (entriesAt s n k low e at)
+  unfolding entriesAt
+  entries-none z = rw z
+
+  module _ (j : ℕ) (h : k ≡ suc j) where
+    pub entries-stop : (r : Reading) → Stopped (number s e at) r → r ≡ placeReading (entriesAt s n k low e at)
+    unfolding entriesAt
+    entries-stop r x = rw (h, x .was) (x .is)
+
+    module _ (name p : ℕ) (q : number s e at ≡ got (name, p)) where
+      pub entries-low : name < low → fault Malformed at ≡ placeReading (entriesAt s n k low e at)
+      unfolding entriesAt
+      entries-low l = rw (h, q, lt-leb _ _ l)
+
+      module _ (l : low ≤ name) where
+        pub entries-unknown : paramOf name params ≡ none → fault UnknownParameter at ≡ placeReading (entriesAt s n k low e at)
+        unfolding entriesAt
+        entries-unknown u = rw (h, q, le-leb _ _ l, u)
+
+        module _ (what : Parameter) (u : paramOf name params ≡ some what) where
+          pub entries-bad : (r : Reading) → Stopped (parameterAt s n what e p) r → r ≡ placeReading (entriesAt s n k low e at)
+          unfolding entriesAt
+          entries-bad r x = rw (h, q, le-leb _ _ l, u, x .was) (x .is)
+
+          pub entries-more : (next : ℕ) → parameterAt s n what e p ≡ got next →
+              placeReading (entriesAt s n k low e at) ≡ placeReading (entriesAt s n j (name + 1) e next)
+          unfolding entriesAt
+          entries-more next v = rw (h, q, le-leb _ _ l, u, v)
+
+-- parameters whose number is read and not kept
+pub parameter-coerce : (s : Bytes) (n e at : ℕ) (r : Reading) → r ≡ headReading (oneOf FALSE TRUE s e at) → unnumbered r ≡ placeReading (parameterAt s n Coerce e at)
+unfolding parameterAt
+parameter-coerce s n e at r q = ap unnumbered q ∙ head-place (oneOf FALSE TRUE s e at)
+
+pub parameter-size : (s : Bytes) (n e at : ℕ) (r : Reading) → r ≡ reading (λ k. k) (number s e at) → unnumbered r ≡ placeReading (parameterAt s n Size e at)
+unfolding parameterAt
+parameter-size s n e at r q = ap unnumbered q ∙ number-place (number s e at)

@@ -5,9 +5,13 @@ use native.Mathlib.Omega.{arith}
 use Rattle.rules.specs.declared.answers.Refusal.{Refusal}
 use Rattle.rules.specs.declared.answers.Refusal.the-variants.{EnvelopeTooLong, NotCbor, Malformed, WrongVersion, RepeatedIdentifier, UnknownCommand, UnknownParameter, NotAllowed, NoSuchComponent, TooDeep, TooManyCommands, NotVerified, EventOpen, WrongNumber, BadSlots, NoSlot, BadAnswers, ShortTrace, ShortRoom, BadProgram}
 use Rattle.rules.specs.Answers.{refusalNumber}
+use Rattle.rules.specs.Bytes.{Bytes}
+use Rattle.rules.specs.Cbor.{Head, item}
+use Rattle.rules.specs.Check.{number}
+use Rattle.rules.proofs.CheckLaws.{item-law}
 use Rattle.rules.specs.Got.{Got, refused, got, _>>=_}
 use Rattle.envelope.specs.declared.reading.Reading.{Reading}
-use Rattle.envelope.specs.Reading.{view}
+use Rattle.envelope.specs.Reading.{fault, view, headReading, placeReading, reading, unnumbered}
 
 -- no refusal has the number 0
 pub not-zero : (r : Refusal) → refusalNumber r ≡ 0 → ⊥
@@ -48,3 +52,48 @@ module _ {A : Type 0} (p v : A → ℕ) (x : Got A) (r : Reading) (e : r ≡ vie
       go : (y : Got A) → r ≡ view p v y → (a : A) × (y ≡ got a) × (r .at ≡ p a) × (r .value ≡ v a)
       go (refused k q) f = absurd (not-zero k (ap (λ (z : Reading). z .stop) (sym f) ∙ h))
       go (got a) f = (a, refl, ap (λ (z : Reading). z .at) f, ap (λ (z : Reading). z .value) f)
+
+-- a reading that stopped is a refusal, and all that would follow is that refusal
+pub record Stopped {A : Type 0} (x : Got A) (r : Reading) : Type 0 where
+  pub refusal : Refusal
+  pub place : ℕ
+  pub was : x ≡ refused refusal place
+  pub is : r ≡ fault refusal place
+
+stop-of : {A : Type 0} (p v : A → ℕ) (x : Got A) (r : Reading) → r ≡ view p v x → (r .stop ≡ 0 → ⊥) → Stopped x r
+stop-of p v (refused k q) r e h = record { refusal = k; place = q; was = refl; is = e }
+stop-of p v (got a) r e h = absurd (h (ap (λ (z : Reading). z .stop) e))
+
+module _ (s : Bytes) (kind lo hi e at : ℕ) (r : Reading) (q : r ≡ headReading (item kind lo hi s e at)) where
+  pub item-stopped : (r .stop ≡ 0 → ⊥) → Stopped (item kind lo hi s e at) r
+  item-stopped h = stop-of (λ h. h .next) (λ h. h .num) (item kind lo hi s e at) r q h
+
+  -- one that went on is known by its place and its number
+  pub item-went : r .stop ≡ 0 → item kind lo hi s e at ≡ got (record { kind = kind; num = r .value; next = r .at })
+  item-went h =
+      let (a, x, p, v) = went (λ h. h .next) (λ h. h .num) (item kind lo hi s e at) r q h in
+      let k : a .kind ≡ kind = item-law s kind lo hi e at a x .is in
+      x ∙ (λ j. got (record { kind = k j; num = sym v j; next = sym p j }))
+
+module _ (s : Bytes) (e at : ℕ) (r : Reading) (q : r ≡ reading (λ k. k) (number s e at)) where
+  pub number-stopped : (r .stop ≡ 0 → ⊥) → Stopped (number s e at) r
+  number-stopped h = stop-of (λ a. a .1) (λ a. a .0) (number s e at) r q h
+
+  pub number-went : r .stop ≡ 0 → number s e at ≡ got (r .value, r .at)
+  number-went h = let (a, x, p, v) = went (λ a. a .1) (λ a. a .0) (number s e at) r q h in x ∙ (λ j. got (sym v j, sym p j))
+
+module _ (x : Got ℕ) (r : Reading) (q : r ≡ placeReading x) where
+  pub place-stopped : (r .stop ≡ 0 → ⊥) → Stopped x r
+  place-stopped h = stop-of (λ p. p) (λ p. 0) x r q h
+
+  pub place-went : r .stop ≡ 0 → x ≡ got (r .at)
+  place-went h = let (a, y, p, v) = went (λ p. p) (λ p. 0) x r q h in y ∙ ap got (sym p)
+
+-- the place alone of a head, and of a number
+pub head-place : (x : Got Head) → unnumbered (headReading x) ≡ placeReading (x >>= λ h. got (h .next))
+head-place (refused r p) = refl
+head-place (got h) = refl
+
+pub number-place : (x : Got (ℕ × ℕ)) → unnumbered (reading (λ k. k) x) ≡ placeReading (x >>= λ a. got (a .1))
+number-place (refused r p) = refl
+number-place (got a) = refl

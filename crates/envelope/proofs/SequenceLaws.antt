@@ -13,13 +13,14 @@ use Rattle.rules.specs.Bytes.{Bytes, part, Span, span}
 use Rattle.rules.specs.Got.{Got, refused, got, need, found, _>>=_}
 use Rattle.rules.specs.Cbor.{BYTES, ARRAY, MAP, NIL, Head, after, item}
 use Rattle.rules.specs.Commands.{Form, sixteen, nil, below, alternatives, parameters, sequence, commands, rowOf, isAllowed}
+use Rattle.rules.specs.Tables.{kindOf}
 use Rattle.rules.specs.Manifest.{Seq, then, Cmd, one, sub, try, Alts, last, or, count, countCmd, countAlts}
 use Rattle.rules.specs.Check.{Read, nothing, number, inBytes, entries, alternativesAt, argument, command, commandsAt}
 use Rattle.rules.proofs.CheckLaws.{item-law}
 use Rattle.rules.proofs.ParamLaws.{bytes-after}
 use Rattle.envelope.specs.Reading.{reading}
-use Rattle.envelope.specs.Leaves.{stringAt, componentAt, leafAt}
-use Rattle.envelope.specs.Sequences.{holds, opening, nested}
+use Rattle.envelope.specs.Leaves.{componentAt, entriesAt, argumentAt}
+use Rattle.envelope.specs.Sequences.{opening, nested}
 use Rattle.envelope.proofs.LeafLaws.{forget, forget-bind, alike, string-ends, entries-end}
 
 -- f of what was read, and the place after it
@@ -83,15 +84,23 @@ module _ (s : Bytes) (deeper : ℕ → Read Seq) where
   leaf m e (refused r p) y h q = rw (← q)
   leaf m e (got c) y h q = rw (← q, h)
 
+  -- none after what two readings give, one after the other
+  rebind : {A : Type 0} (m e : ℕ) (x : Got A) (f : A → Got ℕ) →
+      (_>>=_ {A = ℕ × ℕ} ((x >>= f) >>= λ p. got (0, p)) λ a. nested s deeper (a .0) (m + 1) e (a .1))
+      ≡ (_>>=_ {A = ℕ × ℕ} (x >>= λ h. f h >>= λ p. got (0, p)) λ a. nested s deeper (a .0) (m + 1) e (a .1))
+  rebind m e x f = ap (λ (y : Got (ℕ × ℕ)). y >>= λ a. nested s deeper (a .0) (m + 1) e (a .1)) (bind-assoc x f _)
+
   -- an argument is what stands before the sequences that it holds, and these
   argument-law : (n m place : ℕ) (form : Form) (e at : ℕ) →
-      counted (λ c. m + countCmd c) (argument s deeper n (m + 1) place form e at) ≡ (holds s n form e at >>= λ a. nested s deeper (a .0) (m + 1) e (a .1))
-  unfolding argument holds leafAt nested countCmd componentAt
+      counted (λ c. m + countCmd c) (argument s deeper n (m + 1) place form e at) ≡ (argumentAt s n (kindOf form) e at >>= λ a. nested s deeper (a .0) (m + 1) e (a .1))
+  unfolding argument argumentAt nested countCmd componentAt
   argument-law n m place (sixteen op) e at =
       leaf m e (argument s deeper n (m + 1) place (sixteen op) e at) _ (one-bind (item BYTES 16 16 s e at) _ λ h. refl)
       (forget-bind (item BYTES 16 16 s e at) _ ∙ string-ends s BYTES 16 16 e at bytes-after)
   argument-law n m place (nil op) e at =
-      leaf m e (argument s deeper n (m + 1) place (nil op) e at) _ (one-bind (item NIL 0 0 s e at) _ λ h. refl) (forget-bind (item NIL 0 0 s e at) _)
+      leaf m e (argument s deeper n (m + 1) place (nil op) e at) (item NIL 0 0 s e at >>= λ h. got (h .next)) (one-bind (item NIL 0 0 s e at) _ λ h. refl)
+      (forget-bind (item NIL 0 0 s e at) _)
+      ∙ rebind m e (item NIL 0 0 s e at) (λ h. got (h .next))
   argument-law n m place (below op) e at =
       leaf m e (argument s deeper n (m + 1) place (below op) e at) _
       (one-bind (number s e at) _ λ a. one-bind (need (ltb (a .0) n) NoSuchComponent at) _ λ u. refl)
@@ -115,6 +124,7 @@ module _ (s : Bytes) (deeper : ℕ → Read Seq) where
       (one-bind (item MAP 1 (limits .parameters) s e at) _ λ h. one-bind (entries s n (h .num) 0 nothing e (h .next)) _ λ g. refl)
       (forget-bind (item MAP 1 (limits .parameters) s e at) _ ∙ alike (item MAP 1 (limits .parameters) s e at) _ _ λ h q.
       forget-after (entries s n (h .num) 0 nothing e (h .next)) _ ∙ entries-end s n (h .num) 0 nothing e (h .next))
+      ∙ rebind m e (item MAP 1 (limits .parameters) s e at) (λ h. entriesAt s n (h .num) 0 e (h .next))
   argument-law n m place sequence e at =
       counted-bind _ (inBytes s (deeper (m + 1)) e at) _ ∙ in-bytes (m + 1) e at _ _ (λ a p. ap (λ (c : ℕ). got (c, p .to)) (sym (add-assoc m 1 (count a))))
 

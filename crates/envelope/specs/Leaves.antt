@@ -1,4 +1,4 @@
--- Arguments that hold no sequence, by the place after them: the rules of check without the values that they give.
+-- Arguments by their places: the rules of check without the values that they give.
 use Prim.Native.Nat.{ℕ, zero, suc, _+_}
 use mathlib.Core.Bool.{Bool}
 use mathlib.Core.Option.{Option}
@@ -11,7 +11,7 @@ use Rattle.rules.specs.declared.answers.Refusal.the-variants.{Malformed, NoSuch
 use Rattle.rules.specs.Limits.{limits}
 use Rattle.rules.specs.Bytes.{Bytes}
 use Rattle.rules.specs.Got.{Got, refused, got, need, found, _>>=_}
-use Rattle.rules.specs.Cbor.{BYTES, TEXT, MAP, FALSE, TRUE, NIL, item, oneOf}
+use Rattle.rules.specs.Cbor.{BYTES, TEXT, ARRAY, MAP, FALSE, TRUE, NIL, item, oneOf}
 use Rattle.rules.specs.Commands.{params, paramOf}
 use Rattle.rules.specs.Check.{number}
 
@@ -50,15 +50,22 @@ module _ (s : Bytes) where
     q ← parameterAt n what e p
     entriesAt n k (name + 1) e q
 
-  -- for the two kinds that hold sequences nothing is read
-  unfoldable pub leafAt : ℕ → Argument → ℕ → ℕ → Got ℕ
-  leafAt n Sixteen e at = stringAt BYTES 16 16 e at
-  leafAt n Nil e at = do
+  -- an argument: how many sequences it holds, and where the first is; of one that holds none, the place after it
+  unfoldable pub argumentAt : ℕ → Argument → ℕ → ℕ → Got (ℕ × ℕ)
+  argumentAt n Sixteen e at = do
+    p ← stringAt BYTES 16 16 e at
+    got (0, p)
+  argumentAt n Nil e at = do
     h ← item NIL 0 0 s e at
-    got (h .next)
-  leafAt n Index e at = componentAt n e at
-  leafAt n Alternatives e at = refused Malformed at
-  leafAt n Parameters e at = do
+    got (0, h .next)
+  argumentAt n Index e at = do
+    p ← componentAt n e at
+    got (0, p)
+  argumentAt n Alternatives e at = do
+    h ← item ARRAY 1 (limits .alternatives) s e at
+    got (h .num, h .next)
+  argumentAt n Parameters e at = do
     h ← item MAP 1 (limits .parameters) s e at
-    entriesAt n (h .num) 0 e (h .next)
-  leafAt n Sequence e at = refused Malformed at
+    p ← entriesAt n (h .num) 0 e (h .next)
+    got (0, p)
+  argumentAt n Sequence e at = got (1, at)

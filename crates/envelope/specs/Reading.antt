@@ -32,3 +32,7 @@ reading f = view (λ a. a .1) (λ a. f (a .0))
 -- and nothing of it
 abbrev pub after : {A : Type 0} → Got (A × ℕ) → Reading
 after = reading (λ a. 0)
+
+-- a reading without its number
+abbrev pub unnumbered : Reading → Reading
+unnumbered r = record { stop = r .stop; at = r .at; value = 0 }

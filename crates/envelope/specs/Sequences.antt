@@ -13,28 +13,9 @@ use Rattle.rules.specs.Commands.{Form, sixteen, nil, below, alternatives, param
 use Rattle.rules.specs.Tables.{kindOf}
 use Rattle.rules.specs.Manifest.{Seq, count}
 use Rattle.rules.specs.Check.{Read, number}
-use Rattle.envelope.specs.Leaves.{leafAt}
+use Rattle.envelope.specs.Leaves.{argumentAt}
 
 module _ (s : Bytes) where
-  -- what stands before the sequences that an argument holds: how many they are, and where the first is; of another argument, none after it
-  unfoldable pub holds : ℕ → Form → ℕ → ℕ → Got (ℕ × ℕ)
-  holds n alternatives e at = do
-    h ← item ARRAY 1 (limits .alternatives) s e at
-    got (h .num, h .next)
-  holds n sequence e at = got (1, at)
-  holds n (sixteen op) e at = do
-    p ← leafAt s n (kindOf (sixteen op)) e at
-    got (0, p)
-  holds n (nil op) e at = do
-    p ← leafAt s n (kindOf (nil op)) e at
-    got (0, p)
-  holds n (below op) e at = do
-    p ← leafAt s n (kindOf (below op)) e at
-    got (0, p)
-  holds n (parameters op) e at = do
-    p ← leafAt s n (kindOf (parameters op)) e at
-    got (0, p)
-
   -- a command's code, and what stands before the sequences that it holds
   unfoldable pub opening : ℕ → ℕ → ℕ → ℕ → ℕ → Got (ℕ × ℕ)
   opening n section m e at = do
@@ -42,7 +23,7 @@ module _ (s : Bytes) where
     row ← found (rowOf c commands) UnknownCommand at
     _ ← need (isAllowed section (row .allowed)) NotAllowed at
     _ ← need (ltb m (limits .commands)) TooManyCommands at
-    holds n (row .form) e p
+    argumentAt s n (kindOf (row .form)) e p
 
   -- k sequences, each in a byte string, after m commands: how many commands there are then
   unfoldable pub nested : (ℕ → Read Seq) → ℕ → ℕ → ℕ → ℕ → Got (ℕ × ℕ)

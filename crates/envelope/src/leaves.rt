@@ -1,12 +1,12 @@
-// The arguments of commands that hold no sequence: the place after each.
+// The arguments of commands, by their places.
 ghost use mathlib.Core.Path.{_≡_};
 ghost use mathlib.Core.Logic.{_⊎_};
 ghost use Prim.Native.Nat.{ℕ, _+_, _≤_, _<_};
 ghost use lib.ListN.{length};
 ghost use Rattle.rules.specs.Tables.{byNumber};
 ghost use Rattle.rules.specs.Check as Check;
-ghost use Rattle.envelope.specs.Reading.{reading, placeReading};
-ghost use Rattle.envelope.specs.Leaves.{stringAt, componentAt, parameterAt, entriesAt, leafAt};
+ghost use Rattle.envelope.specs.Reading.{reading, placeReading, unnumbered};
+ghost use Rattle.envelope.specs.Leaves.{stringAt, componentAt, parameterAt, entriesAt, argumentAt};
 use crate::reading::Reading;
 use crate::reading::item;
 use crate::reading::one_of;
@@ -28,7 +28,7 @@ pub fn number(s: &[u8], e: usize, at: usize) -> Reading
 
 // The place after what was read, without its number.
 pub fn place(r: Reading) -> Reading
-    ensures { λ x. ⌜ (x .stop ≡ r .stop) × (x .at ≡ r .at) × (x .value ≡ 0) ⌝ }
+    ensures { λ x. ⌜ x ≡ unnumbered r ⌝ }
 {
     Reading {
         stop: r.stop,
@@ -122,22 +122,16 @@ pub fn entries(s: &[u8], table: &[u16; 46], n: usize, k: usize, e: usize, at: us
     }
 }
 
-// An argument that holds no sequence.
-pub fn leaf(
-    s: &[u8],
-    table: &[u16; 46],
-    n: usize,
-    argument: Argument,
-    e: usize,
-    at: usize,
-) -> Reading
+// An argument: how many sequences it holds, and where the first is; of one that holds none, the place after it.
+pub fn read_argument(s: &[u8], table: &[u16; 46], n: usize, argument: Argument, e: usize, at: usize) -> Reading
     requires { ⌜ (e ≤ length (now s)) × (now table ≡ byNumber) ⌝ }
-    ensures { λ r. ⌜ r ≡ placeReading (leafAt (now (s .entry)) n argument e at) ⌝ }
+    ensures { λ r. ⌜ r ≡ reading (λ k. k) (argumentAt (now (s .entry)) n argument e at) ⌝ }
 {
     match argument {
         Argument::Sixteen => string(s, cbor::BYTES, 16, 16, e, at),
         Argument::Nil => place(item(s, e, at, cbor::NIL, 0, 0)),
         Argument::Index => component(s, n, e, at),
+        Argument::Alternatives => item(s, e, at, cbor::ARRAY, 1, Controller::ALTERNATIVES),
         Argument::Parameters => {
             let h = item(s, e, at, cbor::MAP, 1, Controller::PARAMETERS);
             let stop = h.stop;
@@ -146,6 +140,6 @@ pub fn leaf(
             }
             entries(s, table, n, h.value, e, h.at)
         }
-        Argument::Alternatives | Argument::Sequence => refuse(Refusal::Malformed, at),
+        Argument::Sequence => Reading { stop: 0, at, value: 1 },
     }
 }

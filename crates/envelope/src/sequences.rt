@@ -11,14 +11,13 @@ ghost use Rattle.rules.specs.Manifest.{count, countCmd};
 ghost use Rattle.rules.specs.Check as Check;
 ghost use Rattle.envelope.specs.Reading.{reading};
 ghost use Rattle.envelope.specs.Sequences.{opening, Section};
-use crate::leaves::leaf;
 use crate::leaves::number;
+use crate::leaves::read_argument;
 use crate::reading::Reading;
 use crate::reading::item;
 use crate::reading::refuse;
 use rules::answers::Refusal;
 use rules::controller::Controller;
-use rules::tables::Argument;
 use rules::tables::Listed;
 use rules::tables::look_up;
 
@@ -65,24 +64,8 @@ pub fn open_command(
     if Controller::COMMANDS <= m {
         return refuse(Refusal::TooManyCommands, at);
     }
-    let p = c.at;
     let argument = row.argument;
-    match argument {
-        Argument::Sequence => Reading {
-            stop: 0,
-            at: p,
-            value: 1,
-        },
-        Argument::Alternatives => item(s, e, p, cbor::ARRAY, 1, Controller::ALTERNATIVES),
-        Argument::Sixteen | Argument::Nil | Argument::Index | Argument::Parameters => leaf(
-            s,
-            table,
-            n,
-            argument,
-            e,
-            p,
-        ),
-    }
+    read_argument(s, table, n, argument, e, c.at)
 }
 
 // The sequence at `at`, after m commands; it and those in it may be `depth` deep.
