@@ -18,26 +18,37 @@ use Rattle.rules.proofs.CheckLaws.{item-law}
 use Rattle.envelope.specs.declared.reading.Reading.{Reading}
 use Rattle.envelope.specs.Reading.{ends, view, headReading}
 use Rattle.envelope.specs.Body.{versionAt, numberedAt, frontAt, commonIn}
-use Rattle.envelope.proofs.ReadingLaws.{not-zero, went}
+use Rattle.envelope.proofs.ReadingLaws.{stopped, went}
 use Rattle.envelope.proofs.LeafLaws.{alike}
 use Rattle.envelope.proofs.SequenceLaws.{bind-assoc}
 
-module _ {A : Type 0} (p v : A → ℕ) (x : Got A) (r : Reading) (e : r ≡ view p v x) where
-  -- a reading that went on: what is to show, is to show of what follows
+-- r tells what was read: where x ends and a number of it, or its refusal
+pub record Told {A : Type 0} (p v : A → ℕ) (x : Got A) (r : Reading) : Type 0 where
+  pub is : r ≡ view p v x
+
+-- what was read at a place that is known by another name
+pub told : {A : Type 0} (p v : A → ℕ) (x : ℕ → Got A) {r : Reading} {at at′ : ℕ} → r ≡ view p v (x at) → at ≡ at′ → Told p v (x at′) r
+told p v x {r} e q = record { is = e ∙ ap (λ (a : ℕ). view p v (x a)) q }
+
+module _ {A : Type 0} {p v : A → ℕ} {x : Got A} {r : Reading} (t : Told p v x r) where
+  -- it went on: what is to show, is to show of what follows
   pub onward : {B C : Type 0} (out : Got B → C) (f : A → Got B) (z : C) → r .stop ≡ 0 →
       ((a : A) → r .at ≡ p a → r .value ≡ v a → z ≡ out (f a)) → z ≡ out (x >>= f)
-  onward {B} {C} out f z h k =
-      let (a, q, at, value) = went p v x r e h in
+  onward out f z h k =
+      let (a, q, at, value) = went p v x r (t .is) h in
       k a at value ∙ ap (λ (y : Got A). out (y >>= f)) (sym q)
 
-  -- a reading that stopped, as another struct: its refusal and place are all that is left
+  -- it stopped: its refusal and place are all that is left, in this struct or another
   pub halted : {B C : Type 0} (out : Got B → C) (made : ℕ → ℕ → C) → ((k : Refusal) (q : ℕ) → out (refused k q) ≡ made (refusalNumber k) q) →
       (f : A → Got B) → (r .stop ≡ 0 → ⊥) → made (r .stop) (r .at) ≡ out (x >>= f)
-  halted {B} {C} out made same f h = go x e
+  halted out made same f h = go x (t .is)
     where
       go : (y : Got A) → r ≡ view p v y → made (r .stop) (r .at) ≡ out (y >>= f)
       go (refused k q) g = ap (λ (z : Reading). made (z .stop) (z .at)) g ∙ sym (same k q)
       go (got a) g = absurd (h (ap (λ (z : Reading). z .stop) g))
+
+  pub halts : {B : Type 0} (p′ v′ : B → ℕ) (f : A → Got B) → (r .stop ≡ 0 → ⊥) → r ≡ view p′ v′ (x >>= f)
+  halts p′ v′ f h = stopped p v x r (t .is) p′ v′ f h
 
 module _ (s : Bytes) where
   -- a key is its item's
