@@ -1,7 +1,7 @@
 -- The manifest by its parts: a reading goes on or stops, and the rules of check as the chain in which the code reads.
 use Prim.Native.Nat.{ℕ, _-_}
 use mathlib.Core.Path.{_≡_, refl, sym, ap, _∙_}
-use mathlib.Core.List.{List, _++_}
+use mathlib.Core.List.{_++_}
 use native.Mathlib.Omega.{arith}
 use lib.Dec.{eqb, leb}
 use lib.ListN.{length}
@@ -9,10 +9,10 @@ use Rattle.rules.specs.declared.answers.Refusal.{Refusal}
 use Rattle.rules.specs.declared.answers.Refusal.the-variants.{EnvelopeTooLong, NotCbor, WrongVersion}
 use Rattle.rules.specs.Answers.{refusalNumber}
 use Rattle.rules.specs.Limits.{limits}
-use Rattle.rules.specs.Bytes.{Bytes, Span, span}
+use Rattle.rules.specs.Bytes.{Bytes, span}
 use Rattle.rules.specs.Got.{Got, refused, got, need, _>>=_}
 use Rattle.rules.specs.Cbor.{NUMBER, BYTES, MAP, Head, after, item}
-use Rattle.rules.specs.Manifest.{Section, countAll, Manifest}
+use Rattle.rules.specs.Manifest.{countAll}
 use Rattle.rules.specs.Check.{number, key, inBytes, components, commonSeq, commonAt, sectionsAt, manifestAt, unread, check}
 use Rattle.rules.proofs.CheckLaws.{item-law}
 use Rattle.envelope.specs.declared.reading.Reading.{Reading}
@@ -59,6 +59,9 @@ module _ (s : Bytes) where
       go : (x : Got Head) → ((h : Head) → x ≡ got h → h .num ≡ k) → headReading x ≡ view (λ q. q) (λ q. k) (x >>= λ h. got (h .next))
       go (refused r p) f = refl
       go (got h) f = ap (λ (n : ℕ). ends (h .next) n) (f h refl)
+
+  pub key-told : (k e : ℕ) {r : Reading} {at at′ : ℕ} → r ≡ headReading (item NUMBER k k s e at) → at ≡ at′ → Told (λ q. q) (λ q. k) (key s k e at′) r
+  key-told k e {r} {at} q p = told (λ q. q) (λ q. k) (λ a. key s k e a) (q ∙ key-reading k e at) p
 
   -- the manifest: up to common, common, the sections
   pub manifest-law : (e at : ℕ) →

@@ -5,7 +5,7 @@ use Rattle.rules.specs.Bytes.{Bytes}
 use Rattle.rules.specs.Check.{number, key}
 use Rattle.envelope.specs.Reading.{ends, reading}
 use Rattle.envelope.specs.Body.{numberedAt}
-use Rattle.envelope.proofs.BodyLaws.{Told, told, onward, halts, key-reading}
+use Rattle.envelope.proofs.BodyLaws.{Told, told, onward, halts, key-told}
 use Rattle.envelope.proofs.body.numbered.Statement.{statement}
 use Rattle.envelope.proofs.body.numbered.Tie as tie
 
@@ -17,7 +17,7 @@ module _ (c : tie.After-item) where
   e = c .before .before .args .e
 
   keyed : Told (λ q. q) (λ q. 2) (key s 2 e (c .before .before .args .at)) (c .item .result)
-  keyed = told _ _ (λ q. key s 2 e q) (c .item .ensures ∙ key-reading _ _ _ _) refl
+  keyed = key-told s 2 e (c .item .ensures) refl
 
 no-key : tie.Need-returns
 unfolding numberedAt
@@ -36,7 +36,7 @@ no-common c =
     let i = c .before .before .before .before .before in
     onward (keyed i) (reading (λ n. n)) _ _ (c .before .before .before .before .if1 .left) λ p at two.
     onward (told _ _ (λ q. number (s i) (e i) q) (c .before .before .before .number .ensures) at) (reading (λ n. n)) _ _ (c .before .before .if2 .left) λ a next is.
-    halts (told _ _ (λ q. key (s i) 3 (e i) q) (c .before .item2 .ensures ∙ key-reading _ _ _ _) next) _ _ _ (c .if3 .taken)
+    halts (key-told (s i) 3 (e i) (c .before .item2 .ensures) next) _ _ _ (c .if3 .taken)
 
 good : tie.Need-returns-4
 unfolding numberedAt
@@ -44,7 +44,7 @@ good c =
     let i = c .before .before .before .before .before in
     onward (keyed i) (reading (λ n. n)) _ _ (c .before .before .before .before .if1 .left) λ p at two.
     onward (told _ _ (λ q. number (s i) (e i) q) (c .before .before .before .number .ensures) at) (reading (λ n. n)) _ _ (c .before .before .if2 .left) λ a next is.
-    onward (told _ _ (λ q. key (s i) 3 (e i) q) (c .before .item2 .ensures ∙ key-reading _ _ _ _) next) (reading (λ n. n)) _ _ (c .if3 .left) λ q end three.
+    onward (key-told (s i) 3 (e i) (c .before .item2 .ensures) next) (reading (λ n. n)) _ _ (c .if3 .left) λ q end three.
     ap (λ (n : ℕ). ends (c .before .item2 .result .at) n) is ∙ ap (λ (p : ℕ). ends p (a .0)) end
 
 pub numbered-spec : {M : Type 1} → statement M

@@ -7,7 +7,7 @@ use Rattle.rules.specs.Bytes.{Bytes}
 use Rattle.rules.specs.Check.{number, key}
 use Rattle.envelope.specs.Reading.{fault, ends, placeReading}
 use Rattle.envelope.specs.Body.{versionAt}
-use Rattle.envelope.proofs.BodyLaws.{Told, told, onward, halts, key-reading}
+use Rattle.envelope.proofs.BodyLaws.{Told, told, onward, halts, key-told}
 use Rattle.envelope.proofs.body.version.Statement.{statement}
 use Rattle.envelope.proofs.body.version.Tie as tie
 
@@ -19,7 +19,7 @@ module _ (c : tie.After-item) where
   e = c .before .before .args .e
 
   keyed : Told (λ q. q) (λ q. 1) (key s 1 e (c .before .before .args .at)) (c .item .result)
-  keyed = told _ _ (λ q. key s 1 e q) (c .item .ensures ∙ key-reading _ _ _ _) refl
+  keyed = key-told s 1 e (c .item .ensures) refl
 
 no-key : tie.Need-returns
 unfolding versionAt
