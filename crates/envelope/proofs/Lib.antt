@@ -2,3 +2,4 @@ pub mod ReadingLaws
 pub mod LeafLaws
 pub mod SequenceLaws
 pub mod IdentifierLaws
+pub mod BodyLaws
