@@ -7,6 +7,7 @@ use native.Mathlib.Omega.{arith}
 use mathlib.Core.Option.{Option, some, none}
 use lib.Dec.{ltb, leb}
 use borrow.Author.Tests.{le-leb, lt-leb}
+use Rattle.rules.specs.declared.tables.Argument.the-variants.{Sixteen, Nil, Index, Alternatives, Parameters, Sequence}
 use Rattle.rules.specs.declared.tables.Parameter.{Parameter}
 use Rattle.rules.specs.declared.tables.Parameter.the-variants.{Coerce, Uri, Source, Digest, Size}
 use Rattle.rules.specs.declared.answers.Refusal.{Refusal}
@@ -16,7 +17,7 @@ use Rattle.rules.specs.Tables.{known}
 use Rattle.rules.specs.Limits.{limits}
 use Rattle.rules.specs.Bytes.{Bytes, part}
 use Rattle.rules.specs.Got.{Got, refused, got, need, found, _>>=_}
-use Rattle.rules.specs.Cbor.{NUMBER, BYTES, TEXT, MAP, FALSE, TRUE, NIL, Head, after, item, oneOf}
+use Rattle.rules.specs.Cbor.{NUMBER, BYTES, TEXT, ARRAY, MAP, FALSE, TRUE, NIL, Head, after, item, oneOf}
 use Rattle.rules.specs.Commands.{Form, sixteen, nil, below, parameters, params, paramOf}
 use Rattle.rules.specs.Manifest.{Seq, Cmd, countCmd, count}
 use Rattle.rules.specs.Check.{Read, Given, nothing, number, parameter, entries, argument}
@@ -25,7 +26,7 @@ use Rattle.rules.proofs.ParamLaws.{bytes-after, text-after}
 use Rattle.envelope.specs.Reading.{fault, ends, headReading, placeReading, reading, unnumbered}
 use Rattle.envelope.proofs.ReadingLaws.{Stopped, head-place, number-place}
 use Rattle.envelope.specs.declared.reading.Reading.{Reading}
-use Rattle.envelope.specs.Leaves.{stringAt, componentAt, parameterAt, entriesAt}
+use Rattle.envelope.specs.Leaves.{stringAt, componentAt, parameterAt, entriesAt, argumentAt}
 
 -- the place after what was read
 abbrev pub forget : {A : Type 0} → Got (A × ℕ) → Got ℕ
@@ -136,3 +137,47 @@ parameter-coerce s n e at r q = ap unnumbered q ∙ head-place (oneOf FALSE TRUE
 pub parameter-size : (s : Bytes) (n e at : ℕ) (r : Reading) → r ≡ reading (λ k. k) (number s e at) → unnumbered r ≡ placeReading (parameterAt s n Size e at)
 unfolding parameterAt
 parameter-size s n e at r q = ap unnumbered q ∙ number-place (number s e at)
+
+-- the place after something, and none
+none-after : (x : Got ℕ) → placeReading x ≡ reading (λ k. k) (x >>= λ p. got (0, p))
+none-after (refused r p) = refl
+none-after (got p) = refl
+
+-- an argument, by its kind
+module _ (s : Bytes) (n e at : ℕ) (r : Reading) where
+  pub argument-sixteen : r ≡ placeReading (stringAt s BYTES 16 16 e at) → r ≡ reading (λ k. k) (argumentAt s n Sixteen e at)
+  unfolding argumentAt
+  argument-sixteen q = q ∙ none-after (stringAt s BYTES 16 16 e at)
+
+  pub argument-nil : r ≡ headReading (item NIL 0 0 s e at) → unnumbered r ≡ reading (λ k. k) (argumentAt s n Nil e at)
+  unfolding argumentAt
+  argument-nil q = ap unnumbered q ∙ go (item NIL 0 0 s e at)
+    where
+      go : (x : Got Head) → unnumbered (headReading x) ≡ reading (λ k. k) (x >>= λ h. got (0, h .next))
+      go (refused k p) = refl
+      go (got h) = refl
+
+  pub argument-index : r ≡ placeReading (componentAt s n e at) → r ≡ reading (λ k. k) (argumentAt s n Index e at)
+  unfolding argumentAt
+  argument-index q = q ∙ none-after (componentAt s n e at)
+
+  pub argument-alternatives : r ≡ headReading (item ARRAY 1 (limits .alternatives) s e at) → r ≡ reading (λ k. k) (argumentAt s n Alternatives e at)
+  unfolding argumentAt
+  argument-alternatives q = q ∙ go (item ARRAY 1 (limits .alternatives) s e at)
+    where
+      go : (x : Got Head) → headReading x ≡ reading (λ k. k) (x >>= λ h. got (h .num, h .next))
+      go (refused k p) = refl
+      go (got h) = refl
+
+  pub argument-no-map : Stopped (item MAP 1 (limits .parameters) s e at) r → r ≡ reading (λ k. k) (argumentAt s n Parameters e at)
+  unfolding argumentAt
+  argument-no-map x = rw (x .was) (x .is)
+
+  pub argument-parameters : (h : Head) → item MAP 1 (limits .parameters) s e at ≡ got h → r ≡ placeReading (entriesAt s n (h .num) 0 e (h .next)) →
+      r ≡ reading (λ k. k) (argumentAt s n Parameters e at)
+  unfolding argumentAt
+  argument-parameters h q x = rw q (x ∙ none-after (entriesAt s n (h .num) 0 e (h .next)))
+
+pub argument-sequence : (s : Bytes) (n e at : ℕ) → ends at 1 ≡ reading (λ k. k) (argumentAt s n Sequence e at)
+unfolding argumentAt
+argument-sequence s n e at = refl

@@ -1,5 +1,5 @@
 -- Sequences and commands, read by their places and counts, end where the rules of check end them.
-use Prim.Native.Nat.{ℕ, zero, suc, _+_, _-_, _≤_}
+use Prim.Native.Nat.{ℕ, zero, suc, _+_, _-_, _/_, _%_, _≤_, _<_}
 use mathlib.Core.Path.{_≡_, refl, sym, ap, _∙_}
 use mathlib.Core.Bool.{Bool, true, false}
 use mathlib.Core.Option.{Option, some, none}
@@ -7,20 +7,27 @@ use native.Mathlib.Omega.{arith}
 use native.Mathlib.Numerals.{sub-one}
 use native.Mathlib.Nat.{add-assoc}
 use lib.Dec.{ltb, eqb}
+use borrow.Author.Tests.{lt-ltb, le-ltb}
 use Rattle.rules.specs.declared.answers.Refusal.the-variants.{NotCbor, UnknownCommand, NotAllowed, TooManyCommands, NoSuchComponent}
 use Rattle.rules.specs.Limits.{limits}
 use Rattle.rules.specs.Bytes.{Bytes, part, Span, span}
 use Rattle.rules.specs.Got.{Got, refused, got, need, found, _>>=_}
 use Rattle.rules.specs.Cbor.{BYTES, ARRAY, MAP, NIL, Head, after, item}
-use Rattle.rules.specs.Commands.{Form, sixteen, nil, below, alternatives, parameters, sequence, commands, rowOf, isAllowed}
-use Rattle.rules.specs.Tables.{kindOf}
+use Rattle.rules.specs.Commands.{Row, Form, sixteen, nil, below, alternatives, parameters, sequence, commands, rowOf, isAllowed}
+use Rattle.rules.specs.declared.tables.Command.{Command}
+use Rattle.rules.specs.declared.tables.Listed.the-variants as L
+use Rattle.rules.specs.Tables.{kindOf, weightOf, asCommand, listed}
+use Rattle.rules.proofs.TableLaws.{allowed-bit}
 use Rattle.rules.specs.Manifest.{Seq, then, Cmd, one, sub, try, Alts, last, or, count, countCmd, countAlts}
 use Rattle.rules.specs.Check.{Read, nothing, number, inBytes, entries, alternativesAt, argument, command, commandsAt}
 use Rattle.rules.proofs.CheckLaws.{item-law}
 use Rattle.rules.proofs.ParamLaws.{bytes-after}
-use Rattle.envelope.specs.Reading.{reading}
+use Rattle.envelope.specs.Reading.{fault, reading}
+use Rattle.envelope.specs.declared.reading.Reading.{Reading}
+use Rattle.envelope.proofs.ReadingLaws.{Stopped}
 use Rattle.envelope.specs.Leaves.{componentAt, entriesAt, argumentAt}
 use Rattle.envelope.specs.Sequences.{opening, nested}
+use Rattle.envelope.specs.Sequences as Q
 use Rattle.envelope.proofs.LeafLaws.{forget, forget-bind, alike, string-ends, entries-end}
 
 -- f of what was read, and the place after it
@@ -154,3 +161,42 @@ module _ (s : Bytes) (deeper : ℕ → Read Seq) where
       plus : (c : Cmd) (x : Got (Seq × ℕ)) → counted (λ a. m + count a) (x >>= λ t. got (then c (t .0), t .1)) ≡ counted (λ a. m + countCmd c + count a) x
       plus c (refused r p) = refl
       plus c (got t) = ap (λ (j : ℕ). got (j, t .1)) (sym (add-assoc m (countCmd c) (count (t .0))))
+
+-- what a look-up of a command found
+pub listed-some : (o : Option Row) (c : Command) → listed o ≡ L.Command c → (r : Row) × (o ≡ some r) × (asCommand r ≡ c)
+listed-some none c e = let z : _≡_ {A = ℕ} 0 1 = cc in absurd (omega arith)
+listed-some (some r) c e = let f : asCommand r ≡ c = cc in (r, refl, f)
+
+pub listed-none : (o : Option Row) → listed o ≡ L.Unlisted → o ≡ none
+listed-none none e = refl
+listed-none (some r) e = let z : _≡_ {A = ℕ} 0 1 = cc in absurd (omega arith)
+
+-- the start of a command, by the tests in their order
+module _ (s : Bytes) (n section m e at : ℕ) where
+  pub open-stop : (r : Reading) → Stopped (number s e at) r → r ≡ reading (λ k. k) (opening s n section m e at)
+  unfolding opening
+  open-stop r x = rw (x .was) (x .is)
+
+  module _ (code p : ℕ) (q : number s e at ≡ got (code, p)) where
+    pub open-unknown : listed (rowOf code commands) ≡ L.Unlisted → fault UnknownCommand at ≡ reading (λ k. k) (opening s n section m e at)
+    unfolding opening
+    open-unknown u = rw (q, listed-none (rowOf code commands) u)
+
+    module _ (c : Command) (u : listed (rowOf code commands) ≡ L.Command c) (is : Q.Section section) where
+      allowed : (r : Row) → rowOf code commands ≡ some r → asCommand r ≡ c → isAllowed section (r .allowed) ≡ eqb (c .sections / weightOf section % 2) 1
+      allowed r f g = allowed-bit code section r f is ∙ ap (λ (x : Command). eqb (x .sections / weightOf section % 2) 1) g
+
+      pub open-not-allowed : eqb (c .sections / weightOf section % 2) 1 ≡ false → fault NotAllowed at ≡ reading (λ k. k) (opening s n section m e at)
+      unfolding opening
+      open-not-allowed a = let (r, f, g) = listed-some _ c u in rw (q, f, allowed r f g, a)
+
+      module _ (a : eqb (c .sections / weightOf section % 2) 1 ≡ true) where
+        pub open-many : limits .commands ≤ m → fault TooManyCommands at ≡ reading (λ k. k) (opening s n section m e at)
+        unfolding opening
+        open-many l = let (r, f, g) = listed-some _ c u in rw (q, f, allowed r f g, a, le-ltb _ _ l)
+
+        pub open-argument : m < limits .commands → (x : Reading) → x ≡ reading (λ k. k) (argumentAt s n (c .argument) e p) → x ≡ reading (λ k. k) (opening s n section m e at)
+        unfolding opening
+        open-argument l x y =
+            let (r, f, g) = listed-some _ c u in
+            rw (q, f, allowed r f g, a, lt-ltb _ _ l) (y ∙ ap (λ (z : Command). reading (λ k. k) (argumentAt s n (z .argument) e p)) (sym g))
