@@ -181,3 +181,7 @@ module _ (s : Bytes) (n e at : ℕ) (r : Reading) where
 pub argument-sequence : (s : Bytes) (n e at : ℕ) → ends at 1 ≡ reading (λ k. k) (argumentAt s n Sequence e at)
 unfolding argumentAt
 argument-sequence s n e at = refl
+
+pub above : (n : ℕ) → (n ≡ 0 → ⊥) → n ≡ suc (n - 1)
+above zero h = absurd (h refl)
+above (suc n) h = omega arith

@@ -60,7 +60,7 @@ pub record Stopped {A : Type 0} (x : Got A) (r : Reading) : Type 0 where
   pub was : x ≡ refused refusal place
   pub is : r ≡ fault refusal place
 
-stop-of : {A : Type 0} (p v : A → ℕ) (x : Got A) (r : Reading) → r ≡ view p v x → (r .stop ≡ 0 → ⊥) → Stopped x r
+pub stop-of : {A : Type 0} (p v : A → ℕ) (x : Got A) (r : Reading) → r ≡ view p v x → (r .stop ≡ 0 → ⊥) → Stopped x r
 stop-of p v (refused k q) r e h = record { refusal = k; place = q; was = refl; is = e }
 stop-of p v (got a) r e h = absurd (h (ap (λ (z : Reading). z .stop) e))
 

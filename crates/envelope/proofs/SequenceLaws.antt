@@ -5,10 +5,10 @@ use mathlib.Core.Bool.{Bool, true, false}
 use mathlib.Core.Option.{Option, some, none}
 use native.Mathlib.Omega.{arith}
 use native.Mathlib.Numerals.{sub-one}
-use native.Mathlib.Nat.{add-assoc}
+use native.Mathlib.Nat.{add-assoc, add-zero}
 use lib.Dec.{ltb, eqb}
-use borrow.Author.Tests.{lt-ltb, le-ltb}
-use Rattle.rules.specs.declared.answers.Refusal.the-variants.{NotCbor, UnknownCommand, NotAllowed, TooManyCommands, NoSuchComponent}
+use borrow.Author.Tests.{lt-ltb, le-ltb, eq-eqb, ne-eqb, ltb-true}
+use Rattle.rules.specs.declared.answers.Refusal.the-variants.{NotCbor, Malformed, TooDeep, UnknownCommand, NotAllowed, TooManyCommands, NoSuchComponent}
 use Rattle.rules.specs.Limits.{limits}
 use Rattle.rules.specs.Bytes.{Bytes, part, Span, span}
 use Rattle.rules.specs.Got.{Got, refused, got, need, found, _>>=_}
@@ -19,12 +19,13 @@ use Rattle.rules.specs.declared.tables.Listed.the-variants as L
 use Rattle.rules.specs.Tables.{kindOf, weightOf, asCommand, listed}
 use Rattle.rules.proofs.TableLaws.{allowed-bit}
 use Rattle.rules.specs.Manifest.{Seq, then, Cmd, one, sub, try, Alts, last, or, count, countCmd, countAlts}
-use Rattle.rules.specs.Check.{Read, nothing, number, inBytes, entries, alternativesAt, argument, command, commandsAt}
+use Rattle.rules.specs.Check.{Read, nothing, number, inBytes, entries, alternativesAt, argument, command, commandsAt, sequenceAt}
+use Rattle.rules.proofs.GotLaws.{passed, split}
 use Rattle.rules.proofs.CheckLaws.{item-law}
 use Rattle.rules.proofs.ParamLaws.{bytes-after}
-use Rattle.envelope.specs.Reading.{fault, reading}
+use Rattle.envelope.specs.Reading.{fault, ends, reading}
 use Rattle.envelope.specs.declared.reading.Reading.{Reading}
-use Rattle.envelope.proofs.ReadingLaws.{Stopped}
+use Rattle.envelope.proofs.ReadingLaws.{Stopped, stop-of, went}
 use Rattle.envelope.specs.Leaves.{componentAt, entriesAt, argumentAt}
 use Rattle.envelope.specs.Sequences.{opening, nested}
 use Rattle.envelope.specs.Sequences as Q
@@ -200,3 +201,119 @@ module _ (s : Bytes) (n section m e at : ℕ) where
         open-argument l x y =
             let (r, f, g) = listed-some _ c u in
             rw (q, f, allowed r f g, a, lt-ltb _ _ l) (y ∙ ap (λ (z : Command). reading (λ k. k) (argumentAt s n (z .argument) e p)) (sym g))
+
+-- of something and the place after it: one that stopped, and one that went on
+module _ {A : Type 0} (f : A → ℕ) (x : Got (A × ℕ)) (r : Reading) (q : r ≡ reading f x) where
+  pub reading-stopped : (r .stop ≡ 0 → ⊥) → Stopped x r
+  reading-stopped h = stop-of (λ a. a .1) (λ a. f (a .0)) x r q h
+
+  pub reading-went : r .stop ≡ 0 → (a : A) × (x ≡ got (a, r .at)) × (r .value ≡ f a)
+  reading-went h =
+      let (a, y, p, v) = went (λ a. a .1) (λ a. f (a .0)) x r q h in
+      (a .0, y ∙ (λ j. got (a .0, sym p j)), v)
+
+-- the sequences that a command holds, one after the other
+module _ (s : Bytes) (deeper : ℕ → Read Seq) (k m e at : ℕ) where
+  pub nested-none : k ≡ 0 → ends at m ≡ reading (λ c. c) (nested s deeper k m e at)
+  unfolding nested
+  nested-none z = rw z
+
+  module _ (j : ℕ) (h : k ≡ suc j) where
+    pub nested-stop : (r : Reading) → Stopped (item BYTES 0 (limits .number) s e at) r → r ≡ reading (λ c. c) (nested s deeper k m e at)
+    unfolding nested
+    nested-stop r x = rw (h, x .was) (x .is)
+
+    module _ (v p : ℕ) (q : item BYTES 0 (limits .number) s e at ≡ got (record { kind = BYTES; num = v; next = p })) where
+      pub nested-bad : (r : Reading) → Stopped (deeper m (p + v) p) r → r ≡ reading (λ c. c) (nested s deeper k m e at)
+      unfolding nested
+      nested-bad r x = rw (h, q, x .was) (x .is)
+
+      module _ (a : Seq) (next : ℕ) (w : deeper m (p + v) p ≡ got (a, next)) where
+        pub nested-left-over : (next ≡ p + v → ⊥) → fault NotCbor next ≡ reading (λ c. c) (nested s deeper k m e at)
+        unfolding nested
+        nested-left-over n = rw (h, q, w, ne-eqb _ _ n)
+
+        pub nested-more : next ≡ p + v → (c : ℕ) → c ≡ m + count a → reading (λ c. c) (nested s deeper k m e at) ≡ reading (λ c. c) (nested s deeper j c e (p + v))
+        unfolding nested
+        nested-more n c u = rw (h, q, w, eq-eqb _ _ n, n, u)
+
+-- a command is its start and the sequences that it holds
+module _ (s : Bytes) (deeper : ℕ → Read Seq) (n section m e at : ℕ) where
+  whole : reading (λ c. m + countCmd c) (command s deeper n section m e at) ≡ reading (λ k. k) (opening s n section m e at >>= λ a. nested s deeper (a .0) (m + 1) e (a .1))
+  whole = counted-reading (λ c. m + countCmd c) (command s deeper n section m e at) ∙ ap (λ (x : Got (ℕ × ℕ)). reading (λ k. k) x) (command-law s deeper n section m e at)
+
+  pub command-stop : (r : Reading) → Stopped (opening s n section m e at) r → r ≡ reading (λ c. m + countCmd c) (command s deeper n section m e at)
+  command-stop r x = (rw (x .was) (x .is)) ∙ sym whole
+
+  pub command-opened : (k p : ℕ) → opening s n section m e at ≡ got (k, p) →
+      reading (λ c. m + countCmd c) (command s deeper n section m e at) ≡ reading (λ c. c) (nested s deeper k (m + 1) e p)
+  command-opened k p q = whole ∙ rw q
+
+pub open-few : (s : Bytes) (n section m e at : ℕ) (a : ℕ × ℕ) → opening s n section m e at ≡ got a → m < limits .commands
+unfolding opening
+open-few s n section m e at a q₀ =
+    split _ (number s e at) _ a q₀ λ c qc q₁.
+    split _ (found (rowOf (c .0) commands) UnknownCommand at) _ a q₁ λ row qr q₂.
+    let (_, q₃) = passed (isAllowed section (row .allowed)) NotAllowed at _ a q₂ in
+    let (few, q₄) = passed (ltb m (limits .commands)) TooManyCommands at _ a q₃ in
+    ltb-true _ _ few
+
+-- the commands of a sequence, one after the other
+module _ (s : Bytes) (deeper : ℕ → Read Seq) (n section k m e at : ℕ) where
+  pub commands-none : k ≡ 0 → ends at m ≡ reading (λ a. m + count a) (commandsAt s deeper n section k m e at)
+  unfolding commandsAt count
+  commands-none z = rw (z, add-zero)
+
+  module _ (j : ℕ) (h : k ≡ suc j) where
+    turn :
+        reading (λ a. m + count a) (commandsAt s deeper n section k m e at)
+        ≡ reading (λ c. c) (command s deeper n section m e at >>= λ c. counted (λ a. m + countCmd (c .0) + count a) (commandsAt s deeper n section j (m + countCmd (c .0)) e (c .1)))
+    turn = rw h (counted-reading (λ a. m + count a) (commandsAt s deeper n section (suc j) m e at) ∙ ap (λ (x : Got (ℕ × ℕ)). reading (λ c. c) x) (then-law s deeper n section j m e at))
+
+    pub commands-stop : (r : Reading) → Stopped (command s deeper n section m e at) r → r ≡ reading (λ a. m + count a) (commandsAt s deeper n section k m e at)
+    commands-stop r x = (rw (x .was) (x .is)) ∙ sym turn
+
+    pub commands-more : (c : Cmd) (p : ℕ) → command s deeper n section m e at ≡ got (c, p) → (v : ℕ) → v ≡ m + countCmd c →
+        reading (λ a. m + count a) (commandsAt s deeper n section k m e at) ≡ reading (λ a. v + count a) (commandsAt s deeper n section j v e p)
+    commands-more c p q v u = turn ∙ rw (q, u) (sym (counted-reading (λ a. m + countCmd c + count a) (commandsAt s deeper n section j (m + countCmd c) e p)))
+
+-- a sequence is its head and its commands
+module _ (s : Bytes) (n section d m e at : ℕ) where
+  pub sequence-stop : (r : Reading) → Stopped (item ARRAY 0 (limits .pairs + limits .pairs) s e at) r → r ≡ reading (λ a. m + count a) (sequenceAt s n section d m e at)
+  unfolding sequenceAt
+  sequence-stop r x = go d
+    where
+      go : (d : ℕ) → r ≡ reading (λ a. m + count a) (sequenceAt s n section d m e at)
+      go zero = rw (x .was) (x .is)
+      go (suc d) = rw (x .was) (x .is)
+
+  module _ (v p : ℕ) (q : item ARRAY 0 (limits .pairs + limits .pairs) s e at ≡ got (record { kind = ARRAY; num = v; next = p })) where
+    pub sequence-odd : (v % 2 ≡ 0 → ⊥) → fault Malformed at ≡ reading (λ a. m + count a) (sequenceAt s n section d m e at)
+    unfolding sequenceAt
+    sequence-odd o = go d
+      where
+        go : (d : ℕ) → fault Malformed at ≡ reading (λ a. m + count a) (sequenceAt s n section d m e at)
+        go zero = rw (q, ne-eqb _ _ o)
+        go (suc d) = rw (q, ne-eqb _ _ o)
+
+    pub sequence-deep : v % 2 ≡ 0 → d ≡ 0 → fault TooDeep at ≡ reading (λ a. m + count a) (sequenceAt s n section d m e at)
+    unfolding sequenceAt
+    sequence-deep o z = rw (z, q, eq-eqb _ _ o)
+
+    pub sequence-body : v % 2 ≡ 0 → (j : ℕ) → d ≡ suc j →
+        reading (λ a. m + count a) (sequenceAt s n section d m e at) ≡ reading (λ a. m + count a) (commandsAt s (sequenceAt s n section j) n section (v / 2) m e p)
+    unfolding sequenceAt
+    sequence-body o j h = rw (h, q, eq-eqb _ _ o)
+
+-- what the start of a command, a sequence and a command gave where they went on
+pub opened : (s : Bytes) (n section m e at : ℕ) (r : Reading) → r ≡ reading (λ k. k) (opening s n section m e at) → r .stop ≡ 0 →
+    opening s n section m e at ≡ got (r .value, r .at)
+opened s n section m e at r q h = let (a, y, v) = reading-went (λ k. k) (opening s n section m e at) r q h in y ∙ (λ j. got (sym v j, r .at))
+
+pub read : (s : Bytes) (n section d m e at : ℕ) (r : Reading) → r ≡ reading (λ a. m + count a) (sequenceAt s n section d m e at) → r .stop ≡ 0 →
+    (a : Seq) × (sequenceAt s n section d m e at ≡ got (a, r .at)) × (r .value ≡ m + count a)
+read s n section d m e at r q h = reading-went (λ a. m + count a) (sequenceAt s n section d m e at) r q h
+
+pub done : (s : Bytes) (deeper : ℕ → Read Seq) (n section m e at : ℕ) (r : Reading) → r ≡ reading (λ c. m + countCmd c) (command s deeper n section m e at) → r .stop ≡ 0 →
+    (c : Cmd) × (command s deeper n section m e at ≡ got (c, r .at)) × (r .value ≡ m + countCmd c)
+done s deeper n section m e at r q h = reading-went (λ c. m + countCmd c) (command s deeper n section m e at) r q h

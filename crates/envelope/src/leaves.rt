@@ -123,7 +123,14 @@ pub fn entries(s: &[u8], table: &[u16; 46], n: usize, k: usize, e: usize, at: us
 }
 
 // An argument: how many sequences it holds, and where the first is; of one that holds none, the place after it.
-pub fn read_argument(s: &[u8], table: &[u16; 46], n: usize, argument: Argument, e: usize, at: usize) -> Reading
+pub fn read_argument(
+    s: &[u8],
+    table: &[u16; 46],
+    n: usize,
+    argument: Argument,
+    e: usize,
+    at: usize,
+) -> Reading
     requires { ⌜ (e ≤ length (now s)) × (now table ≡ byNumber) ⌝ }
     ensures { λ r. ⌜ r ≡ reading (λ k. k) (argumentAt (now (s .entry)) n argument e at) ⌝ }
 {
@@ -140,6 +147,10 @@ pub fn read_argument(s: &[u8], table: &[u16; 46], n: usize, argument: Argument, 
             }
             entries(s, table, n, h.value, e, h.at)
         }
-        Argument::Sequence => Reading { stop: 0, at, value: 1 },
+        Argument::Sequence => Reading {
+            stop: 0,
+            at,
+            value: 1,
+        },
     }
 }
