@@ -2,4 +2,5 @@ pub mod ReadingLaws
 pub mod LeafLaws
 pub mod SequenceLaws
 pub mod IdentifierLaws
+pub mod SectionLaws
 pub mod BodyLaws
