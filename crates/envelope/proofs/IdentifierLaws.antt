@@ -7,16 +7,16 @@ use native.Mathlib.Omega.{arith}
 use native.Mathlib.Numerals.{add-one}
 use native.Mathlib.Nat.{add-zero, zero-add}
 use lib.Dec.{leb, eqb}
-use lib.ListN.{length, getD, take, drop, set, length-append, List·getD-append}
+use lib.ListN.{length, getD, drop, set, length-append, List·getD-append}
 use lib.Seq.{getD-append-seam, drop-cons}
 use borrow.Author.Tests.{le-leb, lt-leb, eq-eqb, ne-eqb}
 use Rattle.rules.specs.declared.answers.Refusal.{Refusal}
-use Rattle.rules.specs.declared.answers.Refusal.the-variants.{Malformed, RepeatedIdentifier}
+use Rattle.rules.specs.declared.answers.Refusal.the-variants.{NotCbor, Malformed, RepeatedIdentifier}
 use Rattle.rules.specs.Limits.{limits}
 use Rattle.rules.specs.Bytes.{Bytes, Span, span, part, bytesAt, same, member}
 use Rattle.rules.specs.Got.{Got, refused, got, need, _>>=_}
 use Rattle.rules.specs.Cbor.{BYTES, ARRAY, Head, after, item}
-use Rattle.rules.specs.Check.{strings, identifier, identifiers, components}
+use Rattle.rules.specs.Check.{inBytes, strings, identifier, identifiers, components}
 use Rattle.rules.proofs.CheckLaws.{Item, item-law}
 use Rattle.rules.proofs.GotLaws.{passed, split, split₂, both}
 use Rattle.rules.proofs.ManifestLaws.{strings-law}
@@ -26,6 +26,7 @@ use Rattle.envelope.specs.declared.identifiers.Repeat.{Repeat}
 use Rattle.envelope.specs.declared.identifiers.Repeat.the-variants.{At, Nothing}
 use Rattle.envelope.specs.Identifiers.{spanAt, flatSpans, laid, plain, Listing, onward, listing, listedAs, listed, equal, among, searchFrom, repeated, InBytes, Components}
 use Rattle.envelope.specs.Reading.{fault, ends, view, headReading, placeReading, reading}
+use Rattle.envelope.specs.Body.{listReading, Ids}
 use Rattle.envelope.proofs.ReadingLaws.{not-zero, stopped, went}
 use Rattle.envelope.proofs.LeafLaws.{alike}
 use Rattle.envelope.proofs.SequenceLaws.{bind-assoc}
@@ -446,7 +447,10 @@ outcome-ids s a Nothing ids end ids′ p g = split _ end _ (ids′, p) g λ q qe
 
 -- the component list by its head, as the code read it
 module _ (s : Bytes) (e at : ℕ) (h : Reading) (q : h ≡ headReading (item ARRAY 1 (limits .components) s e at)) where
-  pub components-stop : (a b : List ℕ) → (h .stop ≡ 0 → ⊥) → (h ≡ reading length (components s e at)) × Components s e at a b
+  abbrev Outcome : Reading → List ℕ → List ℕ → Type 0
+  Outcome r a b = (r ≡ reading length (components s e at)) × Components s e at a b
+
+  pub components-stop : (a b : List ℕ) → (h .stop ≡ 0 → ⊥) → Outcome h a b
   unfolding components
   components-stop a b t = (
     stopped (λ x. x .next) (λ x. x .num) (item ARRAY 1 (limits .components) s e at) h q (λ x. x .1) (λ x. length (x .0)) (λ x. identifiers s (x .num) [] e (x .next)) t,
@@ -485,25 +489,97 @@ module _ (s : Bytes) (e at : ℕ) (h : Reading) (q : h ≡ headReading (item ARR
         components-is : components s e at ≡ outcome s b w (listing s (h .value) e (h .at) .ids) (listing s (h .value) e (h .at) .end)
         components-is = components-rest ∙ identifiers-law s (h .value) e (h .at) a ∙ rw (f, read-all, l .1)
 
-        pub components-kept : Components s e at a b
+        components-kept : Components s e at a b
         components-kept ids p g =
             rw (outcome-ids s b w (listing s (h .value) e (h .at) .ids) (listing s (h .value) e (h .at) .end) ids p (sym components-is ∙ g)) (l .1)
 
         pub repeated-below : (j : ℕ) → w ≡ At j → j < r .value
         repeated-below j g = repeated-in s b (r .value) j (sym f ∙ g)
 
-        pub components-repeated : (j : ℕ) → w ≡ At j → fault RepeatedIdentifier (getD b (2 * j) 0) ≡ reading length (components s e at)
+        pub components-repeated : (j : ℕ) → w ≡ At j → Outcome (fault RepeatedIdentifier (getD b (2 * j) 0)) a b
         components-repeated j g =
-            let k : components s e at ≡ refused RepeatedIdentifier (getD b (2 * j) 0) = components-is ∙ rw g in ap (reading length) (sym k)
+            let k : components s e at ≡ refused RepeatedIdentifier (getD b (2 * j) 0) = components-is ∙ rw g in
+            (ap (reading length) (sym k), components-kept)
 
         module _ (g : w ≡ Nothing) where
           components-new : components s e at ≡ (listing s (h .value) e (h .at) .end >>= λ p. got (listing s (h .value) e (h .at) .ids, p))
           components-new = components-is ∙ rw g
 
-          pub components-refused : (r .stop ≡ 0 → ⊥) → record { stop = r .stop; at = r .at; value = 0 } ≡ reading length (components s e at)
-          components-refused t =
-              listed-stop (listing s (h .value) e (h .at) .ids) r (listing s (h .value) e (h .at) .end) (l .0) t ∙ ap (reading length) (sym components-new)
+          pub components-refused : (r .stop ≡ 0 → ⊥) → Outcome (record { stop = r .stop; at = r .at; value = 0 }) a b
+          components-refused t = (
+            listed-stop (listing s (h .value) e (h .at) .ids) r (listing s (h .value) e (h .at) .end) (l .0) t ∙ ap (reading length) (sym components-new),
+            components-kept,
+          )
 
-          pub components-good : r .stop ≡ 0 → r ≡ reading length (components s e at)
-          components-good z =
-              listed-went (listing s (h .value) e (h .at) .ids) r (listing s (h .value) e (h .at) .end) (l .0) z ∙ ap (reading length) (sym components-new)
+          pub components-good : r .stop ≡ 0 → Outcome r a b
+          components-good z = (
+            listed-went (listing s (h .value) e (h .at) .ids) r (listing s (h .value) e (h .at) .end) (l .0) z ∙ ap (reading length) (sym components-new),
+            components-kept,
+          )
+
+ids-if : (x : Got (List Span × Span)) (a b : List ℕ) → ((v : List Span × Span) → x ≡ got v → b ≡ laid (v .0) a) → Ids (λ l. l) x a b
+ids-if (refused r p) a b f = tt
+ids-if (got v) a b f = f v refl
+
+-- the component list in its byte string, by the string's head as the code read it
+module _ (s : Bytes) (e at : ℕ) (h : Reading) (q : h ≡ headReading (item BYTES 0 (limits .number) s e at)) where
+  abbrev Result : Reading → List ℕ → List ℕ → Type 0
+  Result r a b = (r ≡ listReading (inBytes s (components s) e at)) × Ids (λ l. l) (inBytes s (components s) e at) a b
+
+  -- what follows the component list that ends at the place
+  abbrev closed : ℕ → ℕ → List Span × ℕ → Got (List Span × Span)
+  closed from to x = need (eqb (x .1) to) NotCbor (x .1) >>= λ _. got (x .0, span from (x .1))
+
+  pub list-stop : (a b : List ℕ) → (h .stop ≡ 0 → ⊥) → Result h a b
+  unfolding inBytes
+  list-stop a b t = (
+    stopped (λ x. x .next) (λ x. x .num) (item BYTES 0 (limits .number) s e at) h q (λ x. x .1 .to) (λ x. length (x .0))
+        (λ x. components s (after x) (x .next) >>= closed (x .next) (after x)) t,
+    ids-if (inBytes s (components s) e at) a b λ v g.
+        split _ (item BYTES 0 (limits .number) s e at) _ v g λ x gx g′. absurd (t (ap (λ (y : Reading). y .stop) (q ∙ ap headReading gx))),
+  )
+
+  module _ (z : h .stop ≡ 0) (r : Reading) (a b : List ℕ) (l : (r ≡ reading length (components s (h .at + h .value) (h .at))) × Components s (h .at + h .value) (h .at) a b) where
+    list-as : (x : Head) → item BYTES 0 (limits .number) s e at ≡ got x → h .at ≡ x .next → after x ≡ h .at + h .value →
+        inBytes s (components s) e at ≡ (components s (h .at + h .value) (h .at) >>= closed (h .at) (h .at + h .value))
+    unfolding inBytes
+    list-as x g u v = rw (g, v, ← u)
+
+    list-is : inBytes s (components s) e at ≡ (components s (h .at + h .value) (h .at) >>= closed (h .at) (h .at + h .value))
+    list-is =
+        let (x, g, u, v) = went {A = Head} (λ x. x .next) (λ x. x .num) (item BYTES 0 (limits .number) s e at) h q z in
+        list-as x g u (omega (arith, bytes-after x (item-law s BYTES 0 (limits .number) e at x g .is)))
+
+    list-ids : Ids (λ l. l) (inBytes s (components s) e at) a b
+    list-ids =
+        ids-if (inBytes s (components s) e at) a b λ v g.
+        split₂ _ (components s (h .at + h .value) (h .at)) (closed (h .at) (h .at + h .value)) v (sym list-is ∙ g) λ ids p gc g′.
+        let (_, g″) = passed (eqb p (h .at + h .value)) NotCbor p _ v g′ in
+        let k : ids ≡ v .0 = both g″ .0 in
+        rw (← k) (l .1 ids p gc)
+
+    pub list-refused : (r .stop ≡ 0 → ⊥) → Result r a b
+    list-refused t = (
+      stopped (λ x. x .1) (λ x. length (x .0)) (components s (h .at + h .value) (h .at)) r (l .0) (λ x. x .1 .to) (λ x. length (x .0)) (closed (h .at) (h .at + h .value)) t
+          ∙ ap listReading (sym list-is),
+      list-ids,
+    )
+
+    module _ (z′ : r .stop ≡ 0) where
+      over-as : (x : List Span × ℕ) → components s (h .at + h .value) (h .at) ≡ got x → r .at ≡ x .1 → (r .at ≡ h .at + h .value → ⊥) →
+          inBytes s (components s) e at ≡ refused NotCbor (r .at)
+      over-as x g u d = list-is ∙ rw (g, u, ne-eqb (x .1) (h .at + h .value) (λ k. d (u ∙ k)))
+
+      good-as : (x : List Span × ℕ) → components s (h .at + h .value) (h .at) ≡ got x → r .at ≡ x .1 → r .at ≡ h .at + h .value →
+          inBytes s (components s) e at ≡ got (x .0, span (h .at) (x .1))
+      good-as x g u k = list-is ∙ rw (g, eq-eqb (x .1) (h .at + h .value) (sym u ∙ k))
+
+      pub list-over : (r .at ≡ h .at + h .value → ⊥) → Result (fault NotCbor (r .at)) a b
+      list-over d =
+          let (x, g, u, v) = went {A = List Span × ℕ} (λ x. x .1) (λ x. length (x .0)) (components s (h .at + h .value) (h .at)) r (l .0) z′ in
+          (ap listReading (sym (over-as x g u d)), list-ids)
+
+      pub list-good : r .at ≡ h .at + h .value → Result r a b
+      list-good k =
+          let (x, g, u, v) = went {A = List Span × ℕ} (λ x. x .1) (λ x. length (x .0)) (components s (h .at + h .value) (h .at)) r (l .0) z′ in
+          (l .0 ∙ ap (reading length) g ∙ ap listReading (sym (good-as x g u k)), list-ids)

@@ -2,7 +2,6 @@
 use Prim.Native.Nat.{_-_, _≤_}
 use mathlib.Core.Path.{_≡_, sym, _∙_}
 use native.Mathlib.Omega.{arith}
-use borrow.Author.Needs.{needs}
 use Rattle.rules.specs.Bytes.{part, same}
 use Rattle.envelope.proofs.IdentifierLaws.{same-unlike, sameFrom, same-start, same-end, same-stop, same-next}
 use Rattle.envelope.proofs.identifiers.same_bytes.Statement.{statement}

@@ -1,5 +1,4 @@
 -- The invariant: the strings that are left, read from here, end as all of them do.
-use Prim.Native.Nat.{_<_}
 use mathlib.Core.Path.{_≡_, refl, sym, ap, _∙_}
 use native.Mathlib.Omega.{arith}
 use borrow.Author.Needs.{needs}
