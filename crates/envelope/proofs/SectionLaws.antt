@@ -6,6 +6,7 @@ use mathlib.Core.Bool.{Bool, true, false, cond}
 use native.Mathlib.Omega.{arith}
 use native.Mathlib.Nat.{add-zero, add-assoc}
 use lib.Dec.{eqb}
+use lib.ListN.{set}
 use borrow.Author.Tests.{eq-eqb, ne-eqb}
 use Rattle.rules.specs.declared.answers.Refusal.{Refusal}
 use Rattle.rules.specs.declared.answers.Refusal.the-variants.{NotCbor}
@@ -20,7 +21,7 @@ use Rattle.envelope.specs.Reading.{fault, ends, reading}
 use Rattle.envelope.specs.Sections.{sectionNo, placedOne, placed, Placed}
 use Rattle.envelope.proofs.ReadingLaws.{Stopped}
 use Rattle.envelope.proofs.LeafLaws.{alike}
-use Rattle.envelope.proofs.SequenceLaws.{bind-assoc}
+use Rattle.envelope.proofs.SequenceLaws.{bind-assoc, read}
 
 -- what is promised of a reading, and of the places that it left
 abbrev pub Promise : {A : Type 0} → (A → ℕ) → (A → List Section) → Got (A × ℕ) → Reading → List ℕ → List ℕ → Type 0
@@ -60,3 +61,12 @@ module _ (s : Bytes) (n k m e at : ℕ) where
 
       pub section-got : next ≡ p + v → sectionAt s n k m e at ≡ got (record { key = k; place = span p (p + v); seq = a }, p + v)
       section-got o = flat ∙ rw (q, w, eq-eqb _ _ o, o)
+
+    -- accepted: the reading of its sequence, and its place in the array
+    pub section-promise : (r : Reading) → r ≡ reading (λ a. m + count a) (sequenceAt s n k (limits .depth) m (p + v) p) → r .stop ≡ 0 → r .at ≡ p + v →
+        (b : List ℕ) (i : ℕ) → i ≡ sectionNo k →
+        Promise (λ x. m + count (x .seq)) (λ x. x ∷ []) (sectionAt s n k m e at) r b (set (set b (2 * i) p) (2 * i + 1) (p + v))
+    section-promise r y z o b i u =
+        let (a, w, c) = read s n k (limits .depth) m (p + v) p r y z in
+        let g = section-got a (r .at) w o in
+        rw (g, u) ((λ j. record { stop = z j; at = o j; value = c j }), refl)

@@ -59,6 +59,7 @@ pub fn identifiers(s: &[u8], e: usize, at: usize, n: usize, ids: &mut [usize; 16
     requires { ⌜ (e ≤ length (now s)) × (n ≤ 8) ⌝ }
     ensures { λ r. ⌜ (r ≡ listed (listing (now (s .entry)) n e at)) × (now (ids .exit) ≡ laid (listing (now (s .entry)) n e at .ids) (now (ids .entry))) ⌝ }
 {
+    let places: &mut [usize] = ids;
     let mut p = at;
     let mut k = 0;
     while k < n {
@@ -72,8 +73,8 @@ pub fn identifiers(s: &[u8], e: usize, at: usize, n: usize, ids: &mut [usize; 16
                 value: k,
             };
         }
-        ids[2 * k] = p;
-        ids[2 * k + 1] = next;
+        places[2 * k] = p;
+        places[2 * k + 1] = next;
         p = next;
         k += 1;
     }

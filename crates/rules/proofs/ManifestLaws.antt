@@ -53,7 +53,7 @@ ids-append [] id g a b = (a, b, tt)
 ids-append (x ∷ xs) id g a b = (g .0, g .1, ids-append xs id (g .2) a b)
 
 module _ (s : Bytes) where
-  strings-law : (k e at q : ℕ) → at ≤ e → strings s k e at ≡ got q → (at ≤ q) × (q ≤ e)
+  pub strings-law : (k e at q : ℕ) → at ≤ e → strings s k e at ≡ got q → (at ≤ q) × (q ≤ e)
   unfolding strings
   strings-law zero e at q u q₀ = let eq : at ≡ q = cc in (omega arith, omega arith)
   strings-law (suc k) e at q u q₀ =

@@ -1,57 +1,32 @@
+-- The invariant: all of the bytes are the same if those that are left are.
+use Prim.Native.Nat.{_-_, _≤_}
+use mathlib.Core.Path.{_≡_, sym, _∙_}
+use native.Mathlib.Omega.{arith}
+use Rattle.rules.specs.Bytes.{part, same}
+use Rattle.envelope.proofs.IdentifierLaws.{same-unlike, sameFrom, same-start, same-end, same-stop, same-next}
 use Rattle.envelope.proofs.identifiers.same_bytes.Statement.{statement}
 use Rattle.envelope.proofs.identifiers.same_bytes.Tie as tie
-use Rattle.envelope.proofs.identifiers.same_bytes.Reads as reads
-use Rattle.envelope.proofs.identifiers.same_bytes.Lts as lts
 
 abbrev Inv-loop : tie.InvT-loop
-Inv-loop s a n b m k₀ k = ?
+Inv-loop s a n b m k₀ k = (k ≤ n) × (same (part s a n) (part s b m) ≡ sameFrom s a n b k)
 
 abbrev μ-loop : tie.MeasureT-loop
-μ-loop s a n b m k₀ k = ?
+μ-loop s a n b m k₀ k = n - k
 
--- src/identifiers.rt:93:9
 returns : tie.Need-returns Inv-loop μ-loop
-returns c = ?
+returns c = sym (same-unlike _ _ _ _ _ (c .before .pre) (c .if1 .taken))
 
--- src/identifiers.rt:96:5
 loop-holds : tie.Need-loop-holds Inv-loop μ-loop
-loop-holds c = ?
+loop-holds c = (omega arith, same-start _ _ _ _ _ (c .if1 .left))
 
--- src/identifiers.rt:97:14
-add-if2 : tie.Need-add-if2 Inv-loop μ-loop
-add-if2 c = ?
-
--- src/identifiers.rt:97:12
-shared-slice-read-if2 : tie.Need-shared-slice-read-if2 Inv-loop μ-loop
-shared-slice-read-if2 c = ?
-
--- src/identifiers.rt:97:26
-add-if2-2 : tie.Need-add-if2-2 Inv-loop μ-loop
-add-if2-2 c = ?
-
--- src/identifiers.rt:97:24
-shared-slice-read-if2-2 : tie.Need-shared-slice-read-if2-2 Inv-loop μ-loop
-shared-slice-read-if2-2 c = ?
-
--- src/identifiers.rt:98:13
 returns-2 : tie.Need-returns-2 Inv-loop μ-loop
-returns-2 c = ?
+returns-2 c = sym (c .before .before .before .before .loop .inv .1 ∙ same-stop _ _ _ _ _ (omega arith) (omega arith, omega arith) (c .if2 .taken))
 
--- src/identifiers.rt:100:9
-add-k : tie.Need-add-k Inv-loop μ-loop
-add-k c = ?
-
--- src/identifiers.rt:96:5
-loop-less : tie.Need-loop-less Inv-loop μ-loop
-loop-less c = ?
-
--- src/identifiers.rt:96:5
 loop-again : tie.Need-loop-again Inv-loop μ-loop
-loop-again c = ?
+loop-again c = (omega arith, c .before .before .before .before .loop .inv .1 ∙ same-next _ _ _ _ _ (omega arith) (omega arith, omega arith) (c .if2 .left))
 
--- src/identifiers.rt:88:1
 returns-3 : tie.Need-returns-3 Inv-loop μ-loop
-returns-3 c = ?
+returns-3 c = sym (c .before .loop .inv .1 ∙ same-end _ _ _ _ _ (omega arith))
 
 pub same-bytes-spec : {M : Type 1} → statement M
 same-bytes-spec =
@@ -61,12 +36,12 @@ same-bytes-spec =
     μ-loop
     returns
     loop-holds
-    add-if2
-    shared-slice-read-if2
-    add-if2-2
-    shared-slice-read-if2-2
+    (λ c. omega arith)
+    (λ c. omega arith)
+    (λ c. omega arith)
+    (λ c. omega arith)
     returns-2
-    add-k
-    loop-less
+    (λ c. omega arith)
+    (λ c. omega arith)
     loop-again
     returns-3)

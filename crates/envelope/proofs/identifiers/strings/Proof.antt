@@ -1,46 +1,32 @@
+-- The invariant: the strings that are left, read from here, end as all of them do.
+use mathlib.Core.Path.{_≡_, refl, sym, ap, _∙_}
+use native.Mathlib.Omega.{arith}
+use borrow.Author.Needs.{needs}
+use Rattle.rules.specs.Check.{strings}
+use Rattle.envelope.specs.Reading.{placeReading}
+use Rattle.envelope.proofs.IdentifierLaws.{strings-end, strings-stop, string-fits, strings-next}
 use Rattle.envelope.proofs.identifiers.strings.Statement.{statement}
 use Rattle.envelope.proofs.identifiers.strings.Tie as tie
-use Rattle.envelope.proofs.identifiers.strings.Reads as reads
-use Rattle.envelope.proofs.identifiers.strings.Lts as lts
-use Rattle.envelope.proofs.reading.item.Reads as item-reads
 
 abbrev Inv-loop : tie.InvT-loop
-Inv-loop s e at n p₀ left₀ p left = ?
+Inv-loop s e at n p₀ left₀ p left = strings s n e at ≡ strings s left e p
 
 abbrev μ-loop : tie.MeasureT-loop
-μ-loop s e at n p₀ left₀ p left = ?
+μ-loop s e at n p₀ left₀ p left = left
 
--- src/identifiers.rt:22:5
-loop-holds : tie.Need-loop-holds Inv-loop μ-loop
-loop-holds c = ?
-
--- src/identifiers.rt:23:13
-item-requires : tie.Need-item-requires Inv-loop μ-loop
-item-requires c κs = ?
-
--- src/identifiers.rt:25:13
 returns : tie.Need-returns Inv-loop μ-loop
-returns c = ?
+returns c =
+    strings-stop _ _ _ _ _ (c .before .before .item .ensures) (omega arith) (c .if1 .taken) ∙ ap placeReading (sym (c .before .before .before .before .loop .inv))
 
--- src/identifiers.rt:27:13
 add-p : tie.Need-add-p Inv-loop μ-loop
-add-p c = ?
+add-p c = let f = string-fits _ _ _ 0 _ (c .before .before .before .item .ensures) (c .before .if1 .left) in omega arith
 
--- src/identifiers.rt:28:9
-sub-left : tie.Need-sub-left Inv-loop μ-loop
-sub-left c = ?
-
--- src/identifiers.rt:22:5
-loop-less : tie.Need-loop-less Inv-loop μ-loop
-loop-less c = ?
-
--- src/identifiers.rt:22:5
 loop-again : tie.Need-loop-again Inv-loop μ-loop
-loop-again c = ?
+loop-again c =
+    c .before .before .before .before .before .loop .inv ∙ strings-next _ _ _ _ _ (c .before .before .before .item .ensures) (omega arith) (c .before .if1 .left)
 
--- src/identifiers.rt:16:1
 returns-2 : tie.Need-returns-2 Inv-loop μ-loop
-returns-2 c = ?
+returns-2 c = ap placeReading (sym (c .before .loop .inv ∙ strings-end _ _ _ _ (omega arith)))
 
 pub strings-spec : {M : Type 1} → statement M
 strings-spec =
@@ -48,11 +34,11 @@ strings-spec =
     (tie.spec
     Inv-loop
     μ-loop
-    loop-holds
-    item-requires
+    (λ c. refl)
+    (λ c κs. search needs)
     returns
     add-p
-    sub-left
-    loop-less
+    (λ c. search needs)
+    (λ c. search needs)
     loop-again
     returns-2)
