@@ -4,3 +4,5 @@ pub mod SequenceLaws
 pub mod IdentifierLaws
 pub mod SectionLaws
 pub mod BodyLaws
+pub mod CommonLaws
+pub mod ManifestLaws

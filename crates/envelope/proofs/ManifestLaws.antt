@@ -1,0 +1,87 @@
+-- The manifest, one part after the other.
+use Prim.Native.Nat.{ℕ, _+_, _-_}
+use mathlib.Core.Path.{_≡_, refl, sym, ap, _∙_}
+use mathlib.Core.List.{List, [], _∷_, _++_}
+use lib.ListN.{length}
+use Rattle.rules.specs.declared.answers.Refusal.{Refusal}
+use Rattle.rules.specs.Answers.{refusalNumber}
+use Rattle.rules.specs.Bytes.{Bytes, Span, span}
+use Rattle.rules.specs.Got.{Got, refused, got, _>>=_}
+use Rattle.rules.specs.Manifest.{Section, countAll, Manifest}
+use Rattle.rules.specs.Check.{sectionsAt, manifestAt}
+use Rattle.envelope.specs.declared.reading.Reading.{Reading}
+use Rattle.envelope.specs.declared.body.Front.{Front}
+use Rattle.envelope.specs.declared.body.Common.{Common}
+use Rattle.envelope.specs.declared.body.Body.{Body}
+use Rattle.envelope.specs.Reading.{fault, reading}
+use Rattle.envelope.specs.Sections.{placed, Placed}
+use Rattle.envelope.specs.Body.{frontAt, frontOf, commonIn, commonOf, bodyOf, Kept}
+use Rattle.envelope.proofs.ReadingLaws.{Stopped, not-zero}
+use Rattle.envelope.proofs.SequenceLaws.{reading-stopped, reading-went}
+use Rattle.envelope.proofs.SectionLaws.{Promise}
+use Rattle.envelope.proofs.BodyLaws.{manifest-law}
+use Rattle.envelope.proofs.CommonLaws.{CommonPromise}
+
+abbrev none : ℕ → ℕ → Body
+none n p = record { stop = n; at = p; number = 0; components = 0; from = 0; to = 0 }
+
+-- what is promised of the manifest
+abbrev pub BodyPromise : Got (Manifest × ℕ) → Body → List ℕ → List ℕ → List ℕ → List ℕ → Type 0
+BodyPromise x b ids ids′ places places′ = (b ≡ bodyOf x) × Kept (λ m. m .ids) (λ m. m .sections) x ids ids′ places places′
+
+placed-append : (xs ys : List Section) (a : List ℕ) → placed (xs ++ ys) a ≡ placed ys (placed xs a)
+placed-append [] ys a = refl
+placed-append (x ∷ xs) ys a = placed-append xs ys _
+
+-- the start and common: each stopped, or is known by its numbers
+front-is : (x : Got ((ℕ × ℕ) × ℕ)) (f : Front) → f ≡ frontOf x → f .stop ≡ 0 → x ≡ got ((f .entries, f .number), f .at)
+front-is (refused k p) f e h = absurd (not-zero k (ap (λ (z : Front). z .stop) (sym e) ∙ h))
+front-is (got a) f e h = λ j. got ((sym (ap (λ (z : Front). z .entries) e) j, sym (ap (λ (z : Front). z .number) e) j), sym (ap (λ (z : Front). z .at) e) j)
+
+common-is : (x : Got ((List Span × List Section) × Span)) (c : Common) → c ≡ commonOf x → c .stop ≡ 0 →
+    (ids : List Span) × (xs : List Section) × (x ≡ got ((ids, xs), span (c .from) (c .at))) × (c .components ≡ length ids) × (c .commands ≡ countAll xs)
+common-is (refused k p) c e h = absurd (not-zero k (ap (λ (z : Common). z .stop) (sym e) ∙ h))
+common-is (got a) c e h =
+    (a .0 .0, a .0 .1, (λ j. got (a .0, span (sym (ap (λ (z : Common). z .from) e) j) (sym (ap (λ (z : Common). z .at) e) j))),
+    ap (λ (z : Common). z .components) e, ap (λ (z : Common). z .commands) e)
+
+module _ (s : Bytes) (e at : ℕ) (f : Front) (i i′ b : List ℕ) where
+  -- the start stopped
+  pub manifest-no-front : (i₂ b₂ : List ℕ) → f ≡ frontOf (frontAt s e at) → (f .stop ≡ 0 → ⊥) → BodyPromise (manifestAt s e at) (none (f .stop) (f .at)) i i₂ b b₂
+  manifest-no-front i₂ b₂ q h = rw (manifest-law s e at) (go (frontAt s e at) q)
+    where
+      go : (x : Got ((ℕ × ℕ) × ℕ)) {g : (ℕ × ℕ) × ℕ → Got (Manifest × ℕ)} → f ≡ frontOf x → BodyPromise (x >>= g) (none (f .stop) (f .at)) i i₂ b b₂
+      go (refused k p) {g} u = (ap (λ (z : Front). none (z .stop) (z .at)) u, tt)
+      go (got a) {g} u = absurd (h (ap (λ (z : Front). z .stop) u))
+
+  module _ (q : f ≡ frontOf (frontAt s e at)) (h : f .stop ≡ 0) (c : Common) (b₂ : List ℕ) (y : CommonPromise (commonIn s e (f .at)) c i i′ b b₂) where
+    -- common stopped
+    pub manifest-no-common : (c .stop ≡ 0 → ⊥) → BodyPromise (manifestAt s e at) (none (c .stop) (c .at)) i i′ b b₂
+    manifest-no-common n = rw (manifest-law s e at, front-is (frontAt s e at) f q h) (go (commonIn s e (f .at)) (y .0))
+      where
+        go : (x : Got ((List Span × List Section) × Span)) {g : (List Span × List Section) × Span → Got (Manifest × ℕ)} → c ≡ commonOf x →
+            BodyPromise (x >>= g) (none (c .stop) (c .at)) i i′ b b₂
+        go (refused k p) {g} u = (ap (λ (z : Common). none (z .stop) (z .at)) u, tt)
+        go (got a) {g} u = absurd (n (ap (λ (z : Common). z .stop) u))
+
+    module _ (z : c .stop ≡ 0) (r : Reading) (b₃ : List ℕ)
+        (w : Promise (λ xs. c .commands + countAll xs) (λ xs. xs) (sectionsAt s (c .components) (f .entries - 3) 8 (c .commands) e (c .at)) r b₂ b₃) where
+      -- the sections stopped
+      pub manifest-bad : (r .stop ≡ 0 → ⊥) → BodyPromise (manifestAt s e at) (none (r .stop) (r .at)) i i′ b b₃
+      manifest-bad n =
+          let (ids, xs, g, u, v) = common-is (commonIn s e (f .at)) c (y .0) z in
+          let x = reading-stopped (λ xs. c .commands + countAll xs) _ r (w .0) n in
+          rw (manifest-law s e at, front-is (frontAt s e at) f q h, g, ← u, ← v, x .was) (ap (λ (t : Reading). none (t .stop) (t .at)) (x .is), tt)
+
+      -- all is accepted
+      pub manifest-good : r .stop ≡ 0 →
+          BodyPromise (manifestAt s e at) (record { stop = 0; at = r .at; number = f .number; components = c .components; from = c .from; to = c .at }) i i′ b b₃
+      manifest-good n =
+          let (ids, xs, g, u, v) = common-is (commonIn s e (f .at)) c (y .0) z in
+          let (ys, t, _) = reading-went (λ xs. c .commands + countAll xs) _ r (w .0) n in
+          let k = rw g at (y .1) in
+          let l = rw t at (w .1) in
+          let all : manifestAt s e at ≡ got (record { part = span at (r .at); number = f .number; ids = ids; common = span (c .from) (c .at); sections = xs ++ ys }, r .at) =
+          manifest-law s e at ∙ rw (front-is (frontAt s e at) f q h, g, ← u, ← v, t) in
+          rw all
+          ((λ j. record { stop = 0; at = r .at; number = f .number; components = u j; from = c .from; to = c .at }), (k .0, l ∙ ap (placed ys) (k .1) ∙ sym (placed-append xs ys b)))
