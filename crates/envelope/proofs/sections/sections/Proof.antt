@@ -38,10 +38,11 @@ bad c =
 again : tie.Need-loop-again Inv-loop μ-loop
 again c =
     let g = item-went _ _ _ _ _ _ _ (c .before .before .before .before .item .ensures) (c .before .before .before .if1 .left) in
-    let i = item-law _ _ _ _ _ _ _ g in
-    (omega (arith, i .low, c .before .before .before .before .before .before .loop .inv .0),
-    sections-more _ _ _ _ _ _ _ _ (pos _ (c .before .before .before .before .before .loop-test .taken)) _ _ g
-    _ _ _ (c .before .section .ensures) (c .if2 .left) _ _ _ (c .before .before .before .before .before .before .loop .inv .1))
+    let i = item-law _ _ _ _ _ _ _ g in (
+      omega (arith, i .low, c .before .before .before .before .before .before .loop .inv .0),
+      sections-more _ _ _ _ _ _ _ _ (pos _ (c .before .before .before .before .before .loop-test .taken)) _ _ g
+          _ _ _ (c .before .section .ensures) (c .if2 .left) _ _ _ (c .before .before .before .before .before .before .loop .inv .1),
+    )
 
 done : tie.Need-returns-3 Inv-loop μ-loop
 done c = sections-none _ _ _ _ _ _ _ (omega arith) _ _ _ _ (c .before .loop .inv .1)
