@@ -27,7 +27,8 @@ use Rattle.envelope.specs.declared.identifiers.Repeat.the-variants.{At, 
 use Rattle.envelope.specs.Identifiers.{spanAt, flatSpans, laid, plain, Listing, onward, listing, listedAs, listed, equal, among, searchFrom, repeated, InBytes, Components}
 use Rattle.envelope.specs.Reading.{fault, ends, view, headReading, placeReading, reading}
 use Rattle.envelope.specs.Body.{listReading, Ids}
-use Rattle.envelope.proofs.ReadingLaws.{not-zero, stopped, went}
+use Rattle.envelope.proofs.ReadingLaws.{stopped, went}
+use Rattle.rules.proofs.AnswerLaws.{not-zero}
 use Rattle.envelope.proofs.LeafLaws.{alike}
 use Rattle.envelope.proofs.SequenceLaws.{bind-assoc}
 

@@ -6,3 +6,4 @@ pub mod SectionLaws
 pub mod BodyLaws
 pub mod CommonLaws
 pub mod ManifestLaws
+pub mod OuterLaws

@@ -6,6 +6,7 @@ use native.Mathlib.Omega.{arith}
 use lib.ListN.{length}
 use Rattle.rules.specs.declared.answers.Refusal.{Refusal}
 use Rattle.rules.specs.Answers.{refusalNumber}
+use Rattle.rules.proofs.AnswerLaws.{not-zero}
 use Rattle.rules.specs.Bytes.{Bytes, Span, span}
 use Rattle.rules.specs.Got.{Got, refused, got, _>>=_}
 use Rattle.rules.specs.Cbor.{MAP, item}
@@ -21,7 +22,7 @@ use Rattle.envelope.specs.declared.body.Body.{Body}
 use Rattle.envelope.specs.Reading.{fault, reading}
 use Rattle.envelope.specs.Sections.{placed, Placed}
 use Rattle.envelope.specs.Body.{versionAt, numberedAt, frontAt, frontOf, commonIn, commonOf, bodyOf, Kept}
-use Rattle.envelope.proofs.ReadingLaws.{Stopped, not-zero}
+use Rattle.envelope.proofs.ReadingLaws.{Stopped}
 use Rattle.envelope.proofs.SequenceLaws.{reading-stopped, reading-went}
 use Rattle.envelope.proofs.SectionLaws.{Promise}
 use Rattle.envelope.proofs.BodyLaws.{manifest-law}

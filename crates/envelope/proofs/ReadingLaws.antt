@@ -3,8 +3,7 @@ use Prim.Native.Nat.{ℕ, _≤_}
 use mathlib.Core.Path.{_≡_, refl, sym, ap, _∙_}
 use native.Mathlib.Omega.{arith}
 use Rattle.rules.specs.declared.answers.Refusal.{Refusal}
-use Rattle.rules.specs.declared.answers.Refusal.the-variants.{EnvelopeTooLong, NotCbor, Malformed, WrongVersion, RepeatedIdentifier, UnknownCommand, UnknownParameter, NotAllowed, NoSuchComponent, TooDeep, TooManyCommands, NotVerified, EventOpen, WrongNumber, BadSlots, NoSlot, BadAnswers, ShortTrace, ShortRoom, BadProgram}
-use Rattle.rules.specs.Answers.{refusalNumber}
+use Rattle.rules.proofs.AnswerLaws.{not-zero}
 use Rattle.rules.specs.Bytes.{Bytes}
 use Rattle.rules.specs.Cbor.{Head, item}
 use Rattle.rules.specs.Check.{number}
@@ -12,29 +11,6 @@ use Rattle.rules.proofs.CheckLaws.{item-law}
 use Rattle.rules.specs.Got.{Got, refused, got, _>>=_}
 use Rattle.envelope.specs.declared.reading.Reading.{Reading}
 use Rattle.envelope.specs.Reading.{fault, view, headReading, placeReading, reading, unnumbered}
-
--- no refusal has the number 0
-pub not-zero : (r : Refusal) → refusalNumber r ≡ 0 → ⊥
-not-zero EnvelopeTooLong e = omega arith
-not-zero NotCbor e = omega arith
-not-zero Malformed e = omega arith
-not-zero WrongVersion e = omega arith
-not-zero RepeatedIdentifier e = omega arith
-not-zero UnknownCommand e = omega arith
-not-zero UnknownParameter e = omega arith
-not-zero NotAllowed e = omega arith
-not-zero NoSuchComponent e = omega arith
-not-zero TooDeep e = omega arith
-not-zero TooManyCommands e = omega arith
-not-zero NotVerified e = omega arith
-not-zero EventOpen e = omega arith
-not-zero WrongNumber e = omega arith
-not-zero BadSlots e = omega arith
-not-zero NoSlot e = omega arith
-not-zero BadAnswers e = omega arith
-not-zero ShortTrace e = omega arith
-not-zero ShortRoom e = omega arith
-not-zero BadProgram e = omega arith
 
 module _ {A : Type 0} (p v : A → ℕ) (x : Got A) (r : Reading) (e : r ≡ view p v x) where
   -- what stopped stops all that would follow

@@ -4,4 +4,5 @@ pub mod Leaves
 pub mod Sequences
 pub mod Sections
 pub mod Body
+pub mod Outer
 pub mod Report

@@ -5,6 +5,7 @@ use mathlib.Core.List.{List, [], _∷_, _++_}
 use mathlib.Core.Bool.{cond}
 use lib.Dec.{eqb}
 use lib.ListN.{length, replicate, set}
+use Rattle.rules.specs.declared.answers.Refusal.{Refusal}
 use Rattle.rules.specs.Bytes.{Span, span}
 use Rattle.rules.specs.Got.{Got, refused, got}
 use Rattle.rules.specs.Manifest.{Section, Manifest}
@@ -18,8 +19,9 @@ use Rattle.envelope.specs.Sections.{placed}
 abbrev pub place : Span → Place
 place p = record { from = p .from; to = p .to }
 
-abbrev pub reportOf : Got Manifest → Report
-reportOf (refused r p) =
+-- the report of a refusal: all but the answer is 0
+abbrev pub refusedReport : Refusal → ℕ → Report
+refusedReport r p =
     record {
       answer = Refused r p;
       number = 0;
@@ -29,6 +31,9 @@ reportOf (refused r p) =
       common = place (span 0 0);
       sections = replicate 12 0;
     }
+
+abbrev pub reportOf : Got Manifest → Report
+reportOf (refused r p) = refusedReport r p
 reportOf (got m) =
     record {
       answer = Accepted;

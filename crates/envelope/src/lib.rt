@@ -1,8 +1,63 @@
 // Check and newer: an envelope is checked against the rules of document 01, and of two the newer manifest is handed back.
+ghost use mathlib.Core.Path.{_≡_};
+ghost use Rattle.rules.specs.Check as Check;
+ghost use Rattle.envelope.specs.Report.{reportOf};
+use body::read_body;
+use outer::read_outer;
+use report::Checked;
+use report::Place;
+use report::Report;
+use report::refused;
+use rules::answers::Refusal;
+use rules::controller::Controller;
+use rules::tables::tables;
+
 mod body;
 mod identifiers;
 mod leaves;
+mod outer;
 mod reading;
 pub mod report;
 mod sections;
 mod sequences;
+
+// Checks an envelope: what it holds and where, or the first fault.
+pub fn check(s: &[u8]) -> Report
+    ensures { λ r. ⌜ r ≡ reportOf (Check.check (now (s .entry))) ⌝ }
+{
+    let e = s.len();
+    if Controller::ENVELOPE_BYTES < e {
+        return refused(Refusal::EnvelopeTooLong, 0);
+    }
+    let o = read_outer(s, e);
+    let a = o.stop;
+    if a != 0 {
+        return refused(Refusal::of(a), o.at);
+    }
+    let from = o.at;
+    let to = from + o.value;
+    let table = tables();
+    let mut ids = [0usize; 16];
+    let mut places = [0usize; 12];
+    let b = read_body(s, &table, to, from, &mut ids, &mut places);
+    let c = b.stop;
+    if c != 0 {
+        return refused(Refusal::of(c), b.at);
+    }
+    let end = b.at;
+    if end != to {
+        return refused(Refusal::NotCbor, end);
+    }
+    if end != e {
+        return refused(Refusal::NotCbor, end);
+    }
+    Report {
+        answer: Checked::Accepted,
+        number: b.number,
+        components: b.components,
+        ids,
+        manifest: Place { from, to: end },
+        common: Place { from: b.from, to: b.to },
+        sections: places,
+    }
+}

@@ -1,4 +1,6 @@
 // What check hands back.
+ghost use mathlib.Core.Path.{_≡_};
+ghost use Rattle.envelope.specs.Report.{refusedReport};
 use rules::answers::Refusal;
 
 pub struct Place {
@@ -22,4 +24,19 @@ pub struct Report {
     pub common: Place,
     // common's sequence and sections 8 to 12, in that order, as ids; 0 and 0 for one that is not there
     pub sections: [usize; 12],
+}
+
+// The report of a refusal.
+pub fn refused(refusal: Refusal, at: usize) -> Report
+    ensures { λ r. ⌜ r ≡ refusedReport refusal at ⌝ }
+{
+    Report {
+        answer: Checked::Refused(refusal, at),
+        number: 0,
+        components: 0,
+        ids: [0usize; 16],
+        manifest: Place { from: 0, to: 0 },
+        common: Place { from: 0, to: 0 },
+        sections: [0usize; 12],
+    }
 }

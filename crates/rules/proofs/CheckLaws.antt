@@ -1,7 +1,8 @@
 -- What an accepted item, number, key or byte string tells of its place.
 use Prim.Native.Nat.{ℕ, _+_, _≤_, _<_}
-use mathlib.Core.Path.{_≡_, subst}
+use mathlib.Core.Path.{_≡_, refl, subst}
 use mathlib.Core.Bool.{Bool, true, false, _&&_, _||_, cond}
+use mathlib.Core.Logic.{_⊎_, inl, inr}
 use native.Mathlib.Omega.{arith}
 use lib.Dec.{ltb, leb, eqb}
 use lib.ListN.{getD}
@@ -68,6 +69,18 @@ module _ (s : Bytes) where
       let (_, q₂) = passed (eqb (h′ .kind) kind || eqb (h′ .kind) kind′) Malformed at _ h q₁ in
       let same : h′ ≡ h = cc in
       rw same at (whole-law e at h′ qh)
+
+  pub one-of-kind : (kind kind′ e at : ℕ) (h : Head) → oneOf kind kind′ s e at ≡ got h → (h .kind ≡ kind) ⊎ (h .kind ≡ kind′)
+  unfolding oneOf
+  one-of-kind kind kind′ e at h q₀ =
+      split _ (whole s e at) _ h q₀ λ h′ qh q₁.
+      let (t, q₂) = passed (eqb (h′ .kind) kind || eqb (h′ .kind) kind′) Malformed at _ h q₁ in
+      let same : h′ ≡ h = cc in
+      rw same at (go (h′ .kind) (eqb (h′ .kind) kind) refl t)
+    where
+      go : (n : ℕ) (b : Bool) → eqb n kind ≡ b → (b || eqb n kind′) ≡ true → (n ≡ kind) ⊎ (n ≡ kind′)
+      go n true e t = inl (eqb-true n kind e)
+      go n false e t = inr (eqb-true n kind′ t)
 
   -- a reading that went forward, and not past the end
   pub number-law : (e at k q : ℕ) → number s e at ≡ got (k, q) → (at < q) × (q ≤ e) × (k ≤ (limits .number))

@@ -1,6 +1,7 @@
 pub mod Cases
 pub mod BenchSheet
 pub mod EasyMistakes
+pub mod AnswerLaws
 pub mod GotLaws
 pub mod CheckLaws
 pub mod OpLaws

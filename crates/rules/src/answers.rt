@@ -1,6 +1,6 @@
 // The types that answers are made of, each with the number that document 01 gives its cases.
 ghost use mathlib.Core.Path.{_≡_};
-ghost use Rattle.rules.specs.Answers.{groupNumber, refusalNumber, failureNumber, endNumber};
+ghost use Rattle.rules.specs.Answers.{groupNumber, refusalNumber, refusalOf, failureNumber, endNumber};
 
 // What a run or a program is for.
 pub enum Group {
@@ -68,6 +68,34 @@ impl Refusal {
             Refusal::ShortTrace => 84,
             Refusal::ShortRoom => 96,
             Refusal::BadProgram => 97,
+        }
+    }
+
+    // The refusal of a number that some refusal has.
+    pub fn of(number: usize) -> Refusal
+        ensures { λ r. ⌜ r ≡ refusalOf number ⌝ }
+    {
+        match number {
+            64 => Refusal::EnvelopeTooLong,
+            65 => Refusal::NotCbor,
+            66 => Refusal::Malformed,
+            67 => Refusal::WrongVersion,
+            68 => Refusal::RepeatedIdentifier,
+            69 => Refusal::UnknownCommand,
+            70 => Refusal::UnknownParameter,
+            71 => Refusal::NotAllowed,
+            72 => Refusal::NoSuchComponent,
+            73 => Refusal::TooDeep,
+            74 => Refusal::TooManyCommands,
+            80 => Refusal::NotVerified,
+            81 => Refusal::EventOpen,
+            82 => Refusal::WrongNumber,
+            83 => Refusal::NoSlot,
+            84 => Refusal::ShortTrace,
+            85 => Refusal::BadSlots,
+            86 => Refusal::BadAnswers,
+            96 => Refusal::ShortRoom,
+            _ => Refusal::BadProgram,
         }
     }
 }
