@@ -7,3 +7,4 @@ pub mod BodyLaws
 pub mod CommonLaws
 pub mod ManifestLaws
 pub mod OuterLaws
+pub mod EnvelopeLaws

@@ -113,3 +113,12 @@ front-entries s e at f q h =
     let (pair, _) = both x₃ in
     let k : m .num ≡ f .entries = ap (λ (z : ℕ × ℕ). z .0) pair in
     omega (arith, i .low)
+
+-- the manifest's part starts where it was read, and ends where the reading did
+pub manifest-part : (s : Bytes) (e at : ℕ) (m : Manifest) (q : ℕ) → manifestAt s e at ≡ got (m, q) → m .part ≡ span at q
+manifest-part s e at m q x =
+    split _ (frontAt s e at) _ (m, q) (sym (manifest-law s e at) ∙ x) λ f qf x₁.
+    split _ (commonIn s e (f .1)) _ (m, q) x₁ λ c qc x₂.
+    split _ (sectionsAt s (length (c .0 .0)) (f .0 .0 - 3) 8 (countAll (c .0 .1)) e (c .1 .to)) _ (m, q) x₂ λ y qy x₃.
+    let (em, eq) = both x₃ in
+    sym (ap (λ (z : Manifest). z .part) em) ∙ ap (span at) eq

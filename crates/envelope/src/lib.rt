@@ -57,7 +57,10 @@ pub fn check(s: &[u8]) -> Report
         components: b.components,
         ids,
         manifest: Place { from, to: end },
-        common: Place { from: b.from, to: b.to },
+        common: Place {
+            from: b.from,
+            to: b.to,
+        },
         sections: places,
     }
 }

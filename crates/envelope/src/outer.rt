@@ -21,9 +21,17 @@ pub fn unread(s: &[u8], e: usize, at: usize) -> Reading
         ItemRead::Item(h) => {
             let kind = h.kind;
             if kind == cbor::BYTES {
-                return Reading { stop: 0, at: h.next + h.num, value: 0 };
+                return Reading {
+                    stop: 0,
+                    at: h.next + h.num,
+                    value: 0,
+                };
             }
-            Reading { stop: 0, at: h.next, value: 0 }
+            Reading {
+                stop: 0,
+                at: h.next,
+                value: 0,
+            }
         }
         ItemRead::NotCbor(p) => refuse(Refusal::NotCbor, p),
         ItemRead::Malformed(p) => refuse(Refusal::Malformed, p),
