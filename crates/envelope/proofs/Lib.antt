@@ -8,3 +8,4 @@ pub mod CommonLaws
 pub mod ManifestLaws
 pub mod OuterLaws
 pub mod EnvelopeLaws
+pub mod NewerLaws

@@ -1,8 +1,11 @@
 // Check and newer: an envelope is checked against the rules of document 01, and of two the newer manifest is handed back.
 ghost use mathlib.Core.Path.{_≡_};
 ghost use Rattle.rules.specs.Check as Check;
+ghost use Rattle.rules.specs.Newer as Rule;
 ghost use Rattle.envelope.specs.Report.{reportOf};
+ghost use Rattle.envelope.specs.Newer.{Handed};
 use body::read_body;
+use newest::part_in;
 use outer::read_outer;
 use report::Checked;
 use report::Place;
@@ -15,6 +18,7 @@ use rules::tables::tables;
 mod body;
 mod identifiers;
 mod leaves;
+mod newest;
 mod outer;
 mod reading;
 pub mod report;
@@ -63,4 +67,20 @@ pub fn check(s: &[u8]) -> Report
         },
         sections: places,
     }
+}
+
+// The manifest of the newer of two envelopes, a part of that envelope itself. The first wins a tie, and one that is refused is passed over.
+pub fn newer<'a>(a: &'a [u8], b: &'a [u8]) -> &'a [u8]
+    ensures { λ r. ⌜ Handed (Rule.newer (now (a .entry)) (now (b .entry))) (a .entry) (b .entry) r ⌝ }
+{
+    let x = part_in(a);
+    let y = part_in(b);
+    if x.rank < y.rank {
+        let from = y.from;
+        let to = y.to;
+        return &b[from..to];
+    }
+    let from = x.from;
+    let to = x.to;
+    &a[from..to]
 }
