@@ -2,7 +2,6 @@
 use Prim.Native.Nat.{ℕ, _+_, _≤_, _<_}
 use mathlib.Core.Path.{_≡_, refl, sym, ap, _∙_}
 use mathlib.Core.List.{List}
-use mathlib.Core.Bool.{Bool, true, false}
 use mathlib.Core.Logic.{_⊎_, inl, inr}
 use native.Mathlib.Omega.{arith}
 use lib.Dec.{leb, eqb}
@@ -10,20 +9,19 @@ use lib.ListN.{length, replicate}
 use borrow.Author.Tests.{le-leb, lt-leb, eq-eqb, ne-eqb}
 use Rattle.rules.specs.declared.answers.Refusal.{Refusal}
 use Rattle.rules.specs.declared.answers.Refusal.the-variants.{EnvelopeTooLong, NotCbor}
-use Rattle.rules.specs.Answers.{refusalNumber, refusalOf}
+use Rattle.rules.specs.Answers.{refusalOf}
 use Rattle.rules.specs.Limits.{limits}
-use Rattle.rules.specs.Bytes.{Bytes, Span, span}
+use Rattle.rules.specs.Bytes.{Bytes, span}
 use Rattle.rules.specs.Got.{Got, refused, got, need, _>>=_}
-use Rattle.rules.specs.Cbor.{BYTES, MAP, Head, after, item}
+use Rattle.rules.specs.Cbor.{BYTES, MAP, item}
 use Rattle.rules.specs.Manifest.{Manifest}
 use Rattle.rules.specs.Check.{key, unread, manifestAt, check}
 use Rattle.rules.proofs.AnswerLaws.{of-number, not-zero}
-use Rattle.rules.proofs.GotLaws.{both, split, split₂}
+use Rattle.rules.proofs.GotLaws.{both, split}
 use Rattle.rules.proofs.CheckLaws.{item-law}
 use Rattle.rules.proofs.ParamLaws.{bytes-after}
 use Rattle.envelope.specs.declared.reading.Reading.{Reading}
 use Rattle.envelope.specs.declared.body.Body.{Body}
-use Rattle.envelope.specs.declared.report.Place.{Place}
 use Rattle.envelope.specs.declared.report.Checked.the-variants.{Accepted}
 use Rattle.envelope.specs.declared.report.Report.{Report}
 use Rattle.envelope.specs.Reading.{reading}

@@ -153,12 +153,6 @@ module _ (s : Bytes) (e p : ℕ) where
     strings-stop l t =
         stopped (λ x. x .next) (λ x. x .num) (item BYTES 0 (limits .number) s e p) h q (λ x. x) (λ x. 0) (λ x. strings s (n - 1) e (after x)) t ∙ ap placeReading (sym (strings-turn n l))
 
-    pub string-fits : h .stop ≡ 0 → h .at + h .value ≤ e
-    string-fits z =
-        let (a, g, u, v) = went {A = Head} (λ x. x .next) (λ x. x .num) (item BYTES 0 (limits .number) s e p) h q z in
-        let i : Item s BYTES 0 (limits .number) e p a = item-law s BYTES 0 (limits .number) e p a g in
-        omega (arith, i .fits, bytes-after a (i .is))
-
     pub strings-next : 0 < n → h .stop ≡ 0 → strings s n e p ≡ strings s (n - 1) e (h .at + h .value)
     strings-next l z =
         let (a, g, u, v) = went {A = Head} (λ x. x .next) (λ x. x .num) (item BYTES 0 (limits .number) s e p) h q z in

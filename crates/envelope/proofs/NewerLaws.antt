@@ -1,10 +1,9 @@
 -- The newer of two envelopes by their ranks, and that a manifest's part lies in its envelope.
 use Prim.Native.Nat.{ℕ, _+_, _≤_, _<_}
-use mathlib.Core.Path.{_≡_, refl, sym, ap, _∙_, subst}
+use mathlib.Core.Path.{_≡_, refl, sym, ap, _∙_}
 use mathlib.Core.List.{List}
-use mathlib.Core.Bool.{Bool, true, false, cond}
 use native.Mathlib.Omega.{arith}
-use lib.Dec.{ltb, leb, eqb}
+use lib.Dec.{leb, eqb}
 use lib.ListN.{length}
 use borrow.Author.Tests.{lt-ltb, le-ltb}
 use denote.Ref.{RefT}
@@ -16,7 +15,7 @@ use Rattle.rules.specs.Got.{Got, refused, got}
 use Rattle.rules.specs.Cbor.{MAP, item}
 use Rattle.rules.specs.Manifest.{Manifest}
 use Rattle.rules.specs.Check.{key, unread, inBytes, manifestAt, check}
-use Rattle.rules.specs.Newer.{newerOf, newer, inFirst, inSecond}
+use Rattle.rules.specs.Newer.{newerOf, newer}
 use Rattle.rules.proofs.GotLaws.{passed, split, split₂}
 use Rattle.rules.proofs.CheckLaws.{inBytes-law}
 use Rattle.rules.proofs.ManifestLaws.{sound}
@@ -33,15 +32,15 @@ differ k p q = let z : _≡_ {A = ℕ} 0 1 = cc in absurd (omega arith)
 
 module _ (s : Bytes) (r : Report) (e : r ≡ reportOf (check s)) where
   -- what a report says of the part
-  pub report-accepted : r .answer ≡ Accepted → _≡_ {A = Part} (record { rank = r .number + 1; from = r .manifest .from; to = r .manifest .to }) (partIn (check s))
-  report-accepted h = go (check s) e
+  pub part-accepted : r .answer ≡ Accepted → _≡_ {A = Part} (record { rank = r .number + 1; from = r .manifest .from; to = r .manifest .to }) (partIn (check s))
+  part-accepted h = go (check s) e
     where
       go : (x : Got Manifest) → r ≡ reportOf x → _≡_ {A = Part} (record { rank = r .number + 1; from = r .manifest .from; to = r .manifest .to }) (partIn x)
       go (refused k p) u = absurd (differ k p (ap (λ (z : Report). z .answer) (sym u) ∙ h))
       go (got m) u = ap (λ (z : Report). record { rank = z .number + 1; from = z .manifest .from; to = z .manifest .to }) u
 
-  pub report-refused : (k : Refusal) (p : ℕ) → r .answer ≡ Refused k p → _≡_ {A = Part} (record { rank = 0; from = 0; to = 0 }) (partIn (check s))
-  report-refused k p h = go (check s) e
+  pub part-refused : (k : Refusal) (p : ℕ) → r .answer ≡ Refused k p → _≡_ {A = Part} (record { rank = 0; from = 0; to = 0 }) (partIn (check s))
+  part-refused k p h = go (check s) e
     where
       go : (x : Got Manifest) → r ≡ reportOf x → _≡_ {A = Part} (record { rank = 0; from = 0; to = 0 }) (partIn x)
       go (refused _ _) u = refl

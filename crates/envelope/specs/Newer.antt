@@ -1,8 +1,7 @@
 -- Newer: which part of which of two lent envelopes is handed back.
-use Prim.Native.Nat.{ℕ, _+_, _-_}
+use Prim.Native.Nat.{ℕ, _+_}
 use mathlib.Core.Path.{_≡_}
 use mathlib.Core.List.{List}
-use lib.ListN.{take, drop}
 use denote.Ref.{RefT}
 use Rattle.rules.specs.Bytes.{Span, bytesAt}
 use Rattle.rules.specs.Got.{Got, refused, got}

@@ -1,16 +1,11 @@
 -- What check hands back.
-use Prim.Native.Nat.{ℕ, zero, suc, _+_, _-_, _*_}
-use mathlib.Core.Path.{_≡_}
-use mathlib.Core.List.{List, [], _∷_, _++_}
-use mathlib.Core.Bool.{cond}
-use lib.Dec.{eqb}
-use lib.ListN.{length, replicate, set}
+use Prim.Native.Nat.{ℕ}
+use lib.ListN.{length, replicate}
 use Rattle.rules.specs.declared.answers.Refusal.{Refusal}
 use Rattle.rules.specs.Bytes.{Span, span}
 use Rattle.rules.specs.Got.{Got, refused, got}
-use Rattle.rules.specs.Manifest.{Section, Manifest}
+use Rattle.rules.specs.Manifest.{Manifest}
 use Rattle.envelope.specs.declared.report.Place.{Place}
-use Rattle.envelope.specs.declared.report.Checked.{Checked}
 use Rattle.envelope.specs.declared.report.Checked.the-variants.{Accepted, Refused}
 use Rattle.envelope.specs.declared.report.Report.{Report}
 use Rattle.envelope.specs.Identifiers.{laid}

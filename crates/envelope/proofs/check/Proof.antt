@@ -1,4 +1,4 @@
-use mathlib.Core.Path.{refl, _∙_, ap}
+use mathlib.Core.Path.{refl}
 use mathlib.Core.Logic.{inl, inr}
 use native.Mathlib.Omega.{arith}
 use borrow.Author.Needs.{needs}

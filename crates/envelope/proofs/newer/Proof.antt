@@ -1,4 +1,3 @@
-use native.Mathlib.Omega.{arith}
 use borrow.Author.Needs.{needs}
 use Rattle.envelope.proofs.NewerLaws.{ordered, inside, first, second}
 use Rattle.envelope.proofs.newer.Statement.{statement}

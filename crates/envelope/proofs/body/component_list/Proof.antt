@@ -1,7 +1,10 @@
-use mathlib.Core.Path.{_∙_}
+use mathlib.Core.Path.{refl, _∙_}
+use mathlib.Core.Logic.{inl}
 use native.Mathlib.Omega.{arith}
 use borrow.Author.Needs.{needs}
-use Rattle.envelope.proofs.IdentifierLaws.{string-fits, list-stop, list-refused, list-over, list-good}
+use Rattle.envelope.proofs.ReadingLaws.{item-went}
+use Rattle.envelope.proofs.LeafLaws.{string-fits}
+use Rattle.envelope.proofs.IdentifierLaws.{list-stop, list-refused, list-over, list-good}
 use Rattle.envelope.proofs.body.component_list.Statement.{statement}
 use Rattle.envelope.proofs.body.component_list.Tie as tie
 
@@ -9,10 +12,10 @@ no-string : tie.Need-returns
 no-string c = list-stop _ _ _ _ (c .before .item .ensures) _ _ (c .if1 .taken)
 
 in-range : tie.Need-add-to
-in-range c = let f = string-fits _ _ _ 0 _ (c .before .before .item .ensures) (c .before .if1 .left) in omega arith
+in-range c = let f = string-fits _ _ _ _ _ _ _ (inl refl) (item-went _ _ _ _ _ _ _ (c .before .before .item .ensures) (c .before .if1 .left)) in omega arith
 
 inside : tie.Need-components-requires
-inside c κs = let f = string-fits _ _ _ 0 _ (c .before .before .before .item .ensures) (c .before .before .if1 .left) in omega arith
+inside c κs = let f = string-fits _ _ _ _ _ _ _ (inl refl) (item-went _ _ _ _ _ _ _ (c .before .before .before .item .ensures) (c .before .before .if1 .left)) in omega arith
 
 refused : tie.Need-returns-2
 refused c =

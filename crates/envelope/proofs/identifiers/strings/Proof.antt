@@ -1,10 +1,13 @@
 -- The invariant: the strings that are left, read from here, end as all of them do.
 use mathlib.Core.Path.{_≡_, refl, sym, ap, _∙_}
+use mathlib.Core.Logic.{inl}
 use native.Mathlib.Omega.{arith}
 use borrow.Author.Needs.{needs}
 use Rattle.rules.specs.Check.{strings}
 use Rattle.envelope.specs.Reading.{placeReading}
-use Rattle.envelope.proofs.IdentifierLaws.{strings-end, strings-stop, string-fits, strings-next}
+use Rattle.envelope.proofs.ReadingLaws.{item-went}
+use Rattle.envelope.proofs.LeafLaws.{string-fits}
+use Rattle.envelope.proofs.IdentifierLaws.{strings-end, strings-stop, strings-next}
 use Rattle.envelope.proofs.identifiers.strings.Statement.{statement}
 use Rattle.envelope.proofs.identifiers.strings.Tie as tie
 
@@ -19,7 +22,7 @@ returns c =
     strings-stop _ _ _ _ _ (c .before .before .item .ensures) (omega arith) (c .if1 .taken) ∙ ap placeReading (sym (c .before .before .before .before .loop .inv))
 
 add-p : tie.Need-add-p Inv-loop μ-loop
-add-p c = let f = string-fits _ _ _ 0 _ (c .before .before .before .item .ensures) (c .before .if1 .left) in omega arith
+add-p c = let f = string-fits _ _ _ _ _ _ _ (inl refl) (item-went _ _ _ _ _ _ _ (c .before .before .before .item .ensures) (c .before .if1 .left)) in omega arith
 
 loop-again : tie.Need-loop-again Inv-loop μ-loop
 loop-again c =

@@ -1,14 +1,14 @@
 use native.Mathlib.Omega.{arith}
 use borrow.Author.Needs.{needs}
-use Rattle.envelope.proofs.NewerLaws.{report-accepted, report-refused, number-small}
+use Rattle.envelope.proofs.NewerLaws.{part-accepted, part-refused, number-small}
 use Rattle.envelope.proofs.newest.part_in.Statement.{statement}
 use Rattle.envelope.proofs.newest.part_in.Tie as tie
 
 accepted : tie.Need-returns
-accepted c = report-accepted _ _ (c .before .before .before .before .check .ensures) (c .before .before .enum-told .given .1)
+accepted c = part-accepted _ _ (c .before .before .before .before .check .ensures) (c .before .before .enum-told .given .1)
 
 passed-over : tie.Need-returns-2
-passed-over c = report-refused _ _ (c .before .before .check .ensures) _ _ (c .enum-told2 .given .1)
+passed-over c = part-refused _ _ (c .before .before .check .ensures) _ _ (c .enum-told2 .given .1)
 
 pub part-in-spec : {M : Type 1} → statement M
 part-in-spec =
