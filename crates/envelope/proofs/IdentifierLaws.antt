@@ -13,7 +13,7 @@ use borrow.Author.Tests.{le-leb, lt-leb, eq-eqb, ne-eqb}
 use Rattle.rules.specs.declared.answers.Refusal.{Refusal}
 use Rattle.rules.specs.declared.answers.Refusal.the-variants.{NotCbor, Malformed, RepeatedIdentifier}
 use Rattle.rules.specs.Limits.{limits}
-use Rattle.rules.specs.Bytes.{Bytes, Span, span, part, bytesAt, same, member}
+use Rattle.rules.specs.Bytes.{Bytes, spanAt, Span, span, part, bytesAt, same, member}
 use Rattle.rules.specs.Got.{Got, refused, got, need, _>>=_}
 use Rattle.rules.specs.Cbor.{BYTES, ARRAY, Head, after, item}
 use Rattle.rules.specs.Check.{inBytes, strings, identifier, identifiers, components}
@@ -24,7 +24,7 @@ use Rattle.rules.proofs.ParamLaws.{bytes-after, length-part}
 use Rattle.envelope.specs.declared.reading.Reading.{Reading}
 use Rattle.envelope.specs.declared.identifiers.Repeat.{Repeat}
 use Rattle.envelope.specs.declared.identifiers.Repeat.the-variants.{At, Nothing}
-use Rattle.envelope.specs.Identifiers.{spanAt, flatSpans, laid, plain, Listing, onward, listing, listedAs, listed, equal, among, searchFrom, repeated, InBytes, Components}
+use Rattle.envelope.specs.Identifiers.{flatSpans, laid, plain, Listing, onward, listing, listedAs, listed, equal, among, searchFrom, repeated, InBytes, Components}
 use Rattle.envelope.specs.Reading.{fault, ends, view, headReading, placeReading, reading}
 use Rattle.envelope.specs.Body.{listReading, Ids}
 use Rattle.envelope.proofs.ReadingLaws.{stopped, went}

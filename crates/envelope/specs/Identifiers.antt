@@ -4,11 +4,11 @@ use mathlib.Core.Path.{_≡_}
 use mathlib.Core.List.{List, [], _∷_, _++_}
 use mathlib.Core.Bool.{Bool, true, false, _||_}
 use lib.Dec.{leb}
-use lib.ListN.{length, getD, drop}
+use lib.ListN.{length, drop}
 use Rattle.rules.specs.declared.answers.Refusal.the-variants.{Malformed, RepeatedIdentifier}
 use Rattle.rules.specs.Answers.{refusalNumber}
 use Rattle.rules.specs.Limits.{limits}
-use Rattle.rules.specs.Bytes.{Bytes, Span, span, bytesAt, same}
+use Rattle.rules.specs.Bytes.{Bytes, Span, span, bytesAt, spanAt, same}
 use Rattle.rules.specs.Got.{Got, refused, got, need, _>>=_}
 use Rattle.rules.specs.Cbor.{ARRAY, item}
 use Rattle.rules.specs.Check.{strings, components}
@@ -17,10 +17,7 @@ use Rattle.envelope.specs.declared.identifiers.Repeat.the-variants.{At, 
 use Rattle.envelope.specs.declared.reading.Reading.{Reading}
 use Rattle.envelope.specs.Reading.{ends}
 
--- places in an array of numbers: the first byte of number k at 2k, and the byte after it at 2k + 1
-abbrev pub spanAt : List ℕ → ℕ → Span
-spanAt a k = span (getD a (2 * k) 0) (getD a (2 * k + 1) 0)
-
+-- places one after the other
 abbrev pub flatSpans : List Span → List ℕ
 flatSpans [] = []
 flatSpans (p ∷ ps) = p .from ∷ p .to ∷ flatSpans ps

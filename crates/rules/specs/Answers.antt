@@ -56,3 +56,14 @@ resultNumber Finished = 0
 resultNumber ConditionFailed = 1
 resultNumber Started = 0
 resultNumber (Failed f) = failureNumber f
+
+-- the failure and the end of a number that some failure or end has
+abbrev pub failureOf : ℕ → Failure
+failureOf n =
+    cond (eqb n 32) ParameterUnset
+    (cond (eqb n 33) Aborted
+    (cond (eqb n 34) NoAnswer
+    (cond (eqb n 35) BadStatus (cond (eqb n 36) TooLarge (cond (eqb n 37) NothingToCopy NothingToRun)))))
+
+abbrev pub endOf : ℕ → End
+endOf n = cond (eqb n 0) Finished (cond (eqb n 1) ConditionFailed (cond (eqb n 2) Started (Failed (failureOf n))))

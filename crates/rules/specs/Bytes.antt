@@ -1,5 +1,5 @@
 -- Lists of bytes: parts, big-endian numbers, equality, membership.
-use Rattle.rules.specs.Base.{ℕ, suc, _+_, _-_, _*_, _/_, _%_, List, [], _∷_, _++_, Bool, true, false, _&&_, _||_, eqb, take, drop, sets}
+use Rattle.rules.specs.Base.{ℕ, suc, _+_, _-_, _*_, _/_, _%_, List, [], _∷_, _++_, Bool, true, false, _&&_, _||_, eqb, take, drop, getD, sets}
 
 abbrev pub Bytes : Type 0
 Bytes = List ℕ
@@ -19,6 +19,10 @@ span a b = record { from = a; to = b }
 -- the bytes at a place
 abbrev pub bytesAt : Bytes → Span → Bytes
 bytesAt s p = part s (p .from) (p .to - p .from)
+
+-- places in an array of numbers: the first byte of number k at 2k, and the byte after it at 2k + 1
+abbrev pub spanAt : List ℕ → ℕ → Span
+spanAt a k = span (getD a (2 * k) 0) (getD a (2 * k + 1) 0)
 
 -- the bytes b over those of s from `at` on; s keeps its length
 abbrev pub put : Bytes → ℕ → Bytes → Bytes

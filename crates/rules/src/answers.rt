@@ -1,6 +1,6 @@
 // The types that answers are made of, each with the number that document 01 gives its cases.
 ghost use mathlib.Core.Path.{_≡_};
-ghost use Rattle.rules.specs.Answers.{groupNumber, refusalNumber, refusalOf, failureNumber, endNumber};
+ghost use Rattle.rules.specs.Answers.{groupNumber, refusalNumber, refusalOf, failureNumber, failureOf, endNumber, endOf};
 
 // What a run or a program is for.
 pub enum Group {
@@ -125,6 +125,21 @@ impl Failure {
             Failure::NothingToRun => 38,
         }
     }
+
+    // The failure of a number that some failure has.
+    pub fn of(number: usize) -> Failure
+        ensures { λ r. ⌜ r ≡ failureOf number ⌝ }
+    {
+        match number {
+            32 => Failure::ParameterUnset,
+            33 => Failure::Aborted,
+            34 => Failure::NoAnswer,
+            35 => Failure::BadStatus,
+            36 => Failure::TooLarge,
+            37 => Failure::NothingToCopy,
+            _ => Failure::NothingToRun,
+        }
+    }
 }
 
 // How a command, a sequence or a run ended.
@@ -144,6 +159,18 @@ impl End {
             End::ConditionFailed => 1,
             End::Started => 2,
             End::Failed(failure) => failure.number(),
+        }
+    }
+
+    // The end of a number that some end has.
+    pub fn of(number: usize) -> End
+        ensures { λ r. ⌜ r ≡ endOf number ⌝ }
+    {
+        match number {
+            0 => End::Finished,
+            1 => End::ConditionFailed,
+            2 => End::Started,
+            _ => End::Failed(Failure::of(number)),
         }
     }
 }

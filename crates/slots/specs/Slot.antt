@@ -1,0 +1,33 @@
+-- Slots in lent bytes, and the slots of components.
+use Prim.Native.Nat.{ℕ, _+_, _-_, _*_, _/_, _≤_, _<_}
+use mathlib.Core.Path.{_≡_}
+use mathlib.Core.List.{List, [], map}
+use lib.ListN.{length, getD}
+use Rattle.rules.specs.Bytes.{Bytes, bytesAt, spanAt}
+use Rattle.rules.specs.Slots.{Slot, slotBytes, slotAt, numbers, slotOf}
+use Rattle.rules.specs.Limits.{limits}
+
+-- the slot of number k is there
+abbrev pub Holds : Bytes → ℕ → Type 0
+Holds b k = slotBytes * k + slotBytes ≤ length b
+
+-- each slot's identifier has at most 32 bytes
+abbrev pub Short : Bytes → Type 0
+Short b = (k : ℕ) → k < length b / slotBytes → getD b (slotBytes * k) 0 ≤ limits .identifier
+
+-- the slots from number k on, before number n, and their identifiers
+abbrev pub slotsFrom : Bytes → ℕ → ℕ → List Slot
+slotsFrom b k n = map (slotAt b) (numbers (n - k) k)
+
+abbrev pub namesFrom : Bytes → ℕ → ℕ → List Bytes
+namesFrom b k n = map (λ x. x .id) (slotsFrom b k n)
+
+-- the n identifiers at places of s
+abbrev pub namesAt : Bytes → List ℕ → ℕ → List Bytes
+namesAt s ids n = map (λ k. bytesAt s (spanAt ids k)) (numbers n 0)
+
+-- `after` has the number of each identifier's slot, which is there; beyond them it has what `before` has
+pub record Found (ids : List Bytes) (slots : Bytes) (before after : List ℕ) : Type 0 where
+  pub number : (i : ℕ) → i < length ids → getD after i 0 ≡ slotOf (getD ids i []) slots
+  pub there : (i : ℕ) → i < length ids → Holds slots (getD after i 0)
+  pub beyond : (i : ℕ) → length ids ≤ i → getD after i 0 ≡ getD before i 0

@@ -1,0 +1,7 @@
+// Slots and parameters in lent memory.
+pub mod bytes;
+pub mod image;
+pub mod params;
+pub mod search;
+pub mod slot;
+pub mod whole;
