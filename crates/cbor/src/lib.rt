@@ -58,7 +58,7 @@ fn two(s: &[u8], at: usize) -> usize
     wide(s[at]) * 256 + wide(s[at + 1])
 }
 
-fn four(s: &[u8], at: usize) -> usize
+pub fn four(s: &[u8], at: usize) -> usize
     requires { ⌜ at + 4 ≤ length (now s) ⌝ }
     ensures { λ r. ⌜ r ≡ ((getD (now (s .entry)) at 0 * 256 + getD (now (s .entry)) (at + 1) 0) * 256 + getD (now (s .entry)) (at + 2) 0) * 256 + getD (now (s .entry)) (at + 3) 0 ⌝ }
 {
