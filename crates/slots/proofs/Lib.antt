@@ -1,2 +1,4 @@
 pub mod ByteLoops
 pub mod GoodSlot
+pub mod ImageLaws
+pub mod ParamsLaws
