@@ -2,3 +2,4 @@ pub mod ByteLoops
 pub mod GoodSlot
 pub mod ImageLaws
 pub mod ParamsLaws
+pub mod SearchLaws

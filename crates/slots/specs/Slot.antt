@@ -16,10 +16,10 @@ abbrev pub Short : Bytes → Type 0
 Short b = (k : ℕ) → k < length b / slotBytes → getD b (slotBytes * k) 0 ≤ limits .identifier
 
 -- the slots from number k on, before number n, and their identifiers
-abbrev pub slotsFrom : Bytes → ℕ → ℕ → List Slot
+unfoldable pub slotsFrom : Bytes → ℕ → ℕ → List Slot
 slotsFrom b k n = map (slotAt b) (numbers (n - k) k)
 
-abbrev pub namesFrom : Bytes → ℕ → ℕ → List Bytes
+unfoldable pub namesFrom : Bytes → ℕ → ℕ → List Bytes
 namesFrom b k n = map (λ x. x .id) (slotsFrom b k n)
 
 -- the n identifiers at places of s

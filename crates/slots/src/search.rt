@@ -48,6 +48,7 @@ pub fn find_slots(
     requires { ⌜ (n ≤ 8) × ((k : ℕ) → k < n → (spanAt (now ids) k .from ≤ spanAt (now ids) k .to) × (spanAt (now ids) k .to ≤ length (now s))) × Short (now slots) ⌝ }
     ensures { λ r. ⌜ (r ≡ allIn (namesAt (now (s .entry)) (now (ids .entry)) n) (slotNames (now (slots .entry)))) × (r ≡ true → Found (namesAt (now (s .entry)) (now (ids .entry)) n) (now (slots .entry)) (now (found .entry)) (now (found .exit))) ⌝ }
 {
+    let numbers: &mut [usize] = found;
     let count = slots.len() / SLOT_BYTES;
     let mut i = 0;
     while i < n {
@@ -56,7 +57,7 @@ pub fn find_slots(
         if k == count {
             return false;
         }
-        found[i] = k;
+        numbers[i] = k;
         i += 1;
     }
     true
