@@ -1,6 +1,6 @@
 -- What an image that is put into a slot leaves as it was: every other slot, and of its own slot the identifier and the capacity.
 use Prim.Native.Nat.{ℕ, suc, _+_, _-_, _*_, _/_, _≤_, _<_}
-use mathlib.Core.Path.{_≡_, refl, sym, ap, _∙_}
+use mathlib.Core.Path.{_≡_, refl, ap, _∙_}
 use mathlib.Core.List.{List, [], _∷_, map}
 use native.Mathlib.Omega.{arith}
 use native.Mathlib.Nat.{add-suc, add-zero, eq-or-lt-of-le}
@@ -9,7 +9,7 @@ use mathlib.Core.Logic.{_⊎_, inl, inr}
 use lib.Dec.{ltb}
 use borrow.Author.Tests.{ltb-true, ltb-false}
 use lib.ListN.{length, getD, set, take, drop}
-use lib.Seq.{take-set-le, drop-set-lt, drop-set-add, length-sets, getD-drop, getD-take}
+use lib.Seq.{take-set-le, drop-set-lt, drop-set-add, length-sets, getD-drop, getD-take, take-take, drop-drop}
 use Rattle.rules.specs.Bytes.{Bytes, part, put}
 use Rattle.rules.specs.Slots.{slotBytes, answerBytes, imageFrom, slotAt, putImage, slotsIn, slotNames, numbers, slotOf}
 
@@ -34,8 +34,31 @@ part-before s i x at n h =
 pub part-after : (s : Bytes) (i : ℕ) (x : Bytes) (at n : ℕ) → i + length x ≤ at → part (put s i x) at n ≡ part s at n
 part-after s i x at n h = ap (take n) (drop-put-past at s i x h)
 
-getD-part : (s : Bytes) (at : ℕ) → getD (part s at 1) 0 0 ≡ getD s at 0
-getD-part s at = getD-take 1 (drop at s) 0 0 (omega arith) ∙ rw add-zero at (getD-drop at s 0 0)
+-- an identifier lies before the image
+abbrev named : Bytes → Bytes
+named p = take (getD p 0 0) (part p 1 32)
+
+part-of : (l : Bytes) → part (take imageFrom l) 1 32 ≡ part l 1 32
+part-of [] = refl
+part-of (x ∷ l) = take-take 32 36 l (omega arith)
+
+id-is : (b : Bytes) (c : ℕ) → slotAt b c .id ≡ named (part b (slotBytes * c) imageFrom)
+unfolding slotAt
+id-is b c =
+    let first : getD (part b (slotBytes * c) imageFrom) 0 0 ≡ getD b (slotBytes * c) 0 =
+    getD-take imageFrom (drop (slotBytes * c) b) 0 0 (omega arith) ∙ rw add-zero at (getD-drop (slotBytes * c) b 0 0) in
+    let rest : part (part b (slotBytes * c) imageFrom) 1 32 ≡ part b (slotBytes * c + 1) 32 =
+    part-of (drop (slotBytes * c) b) ∙ ap (take 32) (drop-drop 1 (slotBytes * c) b) in
+    rw (first, rest)
+
+-- slots that differ in their images alone have the same identifiers
+pub names-same : (a b : Bytes) → length a ≡ length b → ((c : ℕ) → part a (slotBytes * c) imageFrom ≡ part b (slotBytes * c) imageFrom) → slotNames a ≡ slotNames b
+unfolding slotsIn
+names-same a b e same = rw e (each (numbers (length b / slotBytes) 0))
+  where
+    each : (cs : List ℕ) → map (λ y. y .id) (map (slotAt a) cs) ≡ map (λ y. y .id) (map (slotAt b) cs)
+    each [] = refl
+    each (c ∷ cs) = rw (id-is a c, same c, ← id-is b c, each cs)
 
 -- a stretch of slot c, up to its byte `to`, that an image in slot k does not reach
 abbrev Apart : ℕ → ℕ → ℕ → Type 0
@@ -72,25 +95,12 @@ module _ (b : Bytes) (k : ℕ) (x : Bytes) (short : length x ≤ answerBytes) wh
   pub fixed-kept : (c : ℕ) → part (putImage b k x) (slotBytes * c) imageFrom ≡ part b (slotBytes * c) imageFrom
   fixed-kept c = rw add-zero at (slot-part c 0 imageFrom (omega arith, λ e. omega arith))
 
-  id-kept : (c : ℕ) → slotAt (putImage b k x) c .id ≡ slotAt b c .id
-  unfolding slotAt
-  id-kept c =
-      let first : part (putImage b k x) (slotBytes * c) 1 ≡ part b (slotBytes * c) 1 = rw add-zero at (slot-part c 0 1 (omega arith, λ e. omega arith)) in
-      let len : getD (putImage b k x) (slotBytes * c) 0 ≡ getD b (slotBytes * c) 0 =
-      sym (getD-part (putImage b k x) (slotBytes * c)) ∙ ap (λ (l : Bytes). getD l 0 0) first ∙ getD-part b (slotBytes * c) in
-      rw (len, slot-part c 1 32 (omega arith, λ e. omega arith))
-
   pub length-kept : length (putImage b k x) ≡ length b
   unfolding putImage
   length-kept = length-sets b (slotBytes * k + imageFrom) x
 
   pub names-kept : slotNames (putImage b k x) ≡ slotNames b
-  unfolding slotsIn
-  names-kept = rw length-kept (each (numbers (length b / slotBytes) 0))
-    where
-      each : (cs : List ℕ) → map (λ y. y .id) (map (slotAt (putImage b k x)) cs) ≡ map (λ y. y .id) (map (slotAt b) cs)
-      each [] = refl
-      each (c ∷ cs) = rw (id-kept c, each cs)
+  names-kept = names-same (putImage b k x) b length-kept fixed-kept
 
   pub number-kept : (id : Bytes) → slotOf id (putImage b k x) ≡ slotOf id b
   unfolding slotOf

@@ -2,18 +2,18 @@
 use Prim.Native.Nat.{ℕ, zero, suc, _+_, _-_, _*_, _/_, _%_, _≤_, _<_}
 use mathlib.Core.Path.{_≡_, refl, sym, ap, _∙_}
 use mathlib.Core.List.{List, [], _∷_, map}
-use mathlib.Core.Bool.{Bool, true, false, _&&_, _||_, not}
+use mathlib.Core.Bool.{Bool, true, false, _&&_, not, and-false}
 use native.Mathlib.Omega.{arith}
 use native.Mathlib.Numerals.{add-one}
-use native.Mathlib.Nat.{add-zero}
+use native.Mathlib.Nat.{add-zero, zero-add}
 use lib.Dec.{eqb, leb}
-use lib.ListN.{length, getD, take, drop, set, length-map}
+use lib.ListN.{length, getD, drop, set, length-map}
 use lib.Seq.{take-take, getD-set-same, getD-set-other}
 use borrow.Author.Count.{below-more}
-use borrow.Author.Tests.{eq-eqb, ne-eqb, le-leb, lt-leb, leb-true, not-true}
+use borrow.Author.Tests.{eq-eqb, ne-eqb, le-leb, lt-leb, leb-true}
 use Rattle.rules.specs.Bytes.{Bytes, Span, span, spanAt, bytesAt, part, same, member, indexOf, repeats, allIn}
 use Rattle.rules.specs.Limits.{limits}
-use Rattle.rules.specs.Slots.{Slot, slotBytes, slotAt, numbers, slotsIn, slotNames, slotOf, goodSlot, allGood, goodSlots}
+use Rattle.rules.specs.Slots.{slotBytes, slotAt, numbers, slotsIn, slotNames, slotOf, goodSlot, allGood, goodSlots}
 use Rattle.rules.proofs.ParamLaws.{length-part}
 use Rattle.slots.specs.Slot.{Holds, Short, slotsFrom, namesFrom, namesAt, Found}
 
@@ -34,10 +34,6 @@ numbers-at (suc n) k zero l = sym (add-zero k)
 numbers-at (suc n) k (suc i) l = numbers-at n (suc k) i (omega arith) ∙ omega arith
 
 -- identifiers of different lengths are not the same
-and-false : (b : Bool) → (b && false) ≡ false
-and-false true = refl
-and-false false = refl
-
 pub same-lengths : (x y : Bytes) → (length x ≡ length y → ⊥) → same x y ≡ false
 same-lengths [] [] d = absurd (d refl)
 same-lengths [] (y ∷ ys) d = refl
@@ -320,3 +316,15 @@ good-short b g = all-short b (good-parts b g .1)
 
 pub good-some : (b : Bytes) → goodSlots b ≡ true → slotBytes ≤ length b
 good-some b g = let l = good-parts b g .0 in omega arith
+
+-- the identifiers of a list of places, by an array that holds these
+pub names-laid : (s : Bytes) (ids : List Span) (a : List ℕ) → ((k : ℕ) → k < length ids → spanAt a k ≡ getD ids k (span 0 0)) → namesAt s a (length ids) ≡ map (bytesAt s) ids
+names-laid s ids a h = from ids 0 (λ k l. rw zero-add (h k l))
+  where
+    from : (ps : List Span) (i : ℕ) → ((k : ℕ) → k < length ps → spanAt a (i + k) ≡ getD ps k (span 0 0)) →
+        map (λ k. bytesAt s (spanAt a k)) (numbers (length ps) i) ≡ map (bytesAt s) ps
+    from [] i g = refl
+    from (p ∷ ps) i g =
+        let here : spanAt a i ≡ p = rw add-zero at (g 0 (omega arith)) in
+        let later = from ps (suc i) (λ k l. let e : suc i + k ≡ i + suc k = omega arith in rw e (g (suc k) (omega arith))) in
+        rw (← here, later)

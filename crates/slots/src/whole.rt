@@ -1,11 +1,11 @@
 // 85: whole slots, 1 to 8 of them, each good, no identifier twice.
 ghost use mathlib.Core.Path.{_≡_};
 ghost use mathlib.Core.Bool.{true};
-ghost use Prim.Native.Nat.{ℕ, _+_, _-_, _*_, _≤_, _<_};
-ghost use lib.ListN.{length, getD};
+ghost use Prim.Native.Nat.{_+_, _*_, _≤_, _<_};
+ghost use lib.ListN.{length};
 ghost use Rattle.rules.specs.Bytes.{member, repeats};
 ghost use Rattle.rules.specs.Slots.{slotAt, allGood, goodSlots};
-ghost use Rattle.slots.specs.Slot.{Holds, Short, slotsFrom, namesFrom};
+ghost use Rattle.slots.specs.Slot.{Short, slotsFrom, namesFrom};
 use crate::search::named;
 use crate::slot::SLOT_BYTES;
 use crate::slot::good_slot;

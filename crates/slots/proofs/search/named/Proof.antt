@@ -1,5 +1,4 @@
 use mathlib.Core.Path.{sym, _∙_}
-use native.Mathlib.Omega.{arith}
 use borrow.Author.Needs.{needs}
 use Rattle.slots.proofs.SearchLaws.{named-unlike, named-like}
 use Rattle.slots.proofs.search.named.Statement.{statement}

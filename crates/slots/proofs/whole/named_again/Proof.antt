@@ -32,7 +32,9 @@ named-requires c κs =
     (omega (arith, short (at .args .i) (omega arith)), omega arith, short (c .before .loop .k) (omega arith))
 
 -- the slot's own identifier, as `named` was given it
-own : (c : tie.After-named Inv-loop μ-loop) → c .named .result ≡ same (slotAt (c .before .before .before .before .before .args .slots .now) (c .before .before .before .before .before .args .i) .id) (slotAt (c .before .before .before .before .before .args .slots .now) (c .before .before .loop .k) .id)
+own : (c : tie.After-named Inv-loop μ-loop) →
+    let at = c .before .before .before .before .before in
+    c .named .result ≡ same (slotAt (at .args .slots .now) (at .args .i) .id) (slotAt (at .args .slots .now) (c .before .before .loop .k) .id)
 own c =
     let at = c .before .before .before .before .before in
     let b = at .args .slots .now in
