@@ -15,12 +15,10 @@ use Rattle.rules.specs.Cbor.{NUMBER, BYTES, MAP, Head, after, item}
 use Rattle.rules.specs.Manifest.{countAll}
 use Rattle.rules.specs.Check.{number, key, inBytes, components, commonSeq, commonAt, sectionsAt, manifestAt, unread, check}
 use Rattle.rules.proofs.CheckLaws.{item-law}
-use Rattle.envelope.specs.declared.reading.Reading.{Reading}
-use Rattle.envelope.specs.Reading.{ends, view, headReading}
+use Rattle.cbor.specs.declared.reading.Reading.{Reading}
+use Rattle.cbor.specs.Reading.{ends, view, headReading}
 use Rattle.envelope.specs.Body.{versionAt, numberedAt, frontAt, commonIn}
-use Rattle.envelope.proofs.ReadingLaws.{stopped, went}
-use Rattle.envelope.proofs.LeafLaws.{alike}
-use Rattle.envelope.proofs.SequenceLaws.{bind-assoc}
+use Rattle.cbor.proofs.ReadingLaws.{stopped, went, alike, bind-assoc}
 
 -- r tells what was read: where x ends and a number of it, or its refusal
 pub record Told {A : Type 0} (p v : A → ℕ) (x : Got A) (r : Reading) : Type 0 where

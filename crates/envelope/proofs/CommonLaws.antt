@@ -1,26 +1,22 @@
 -- Common, one step after the other, in the order in which it is read.
-use Prim.Native.Nat.{ℕ, suc, _+_, _-_, _≤_}
-use mathlib.Core.Path.{_≡_, refl, sym, ap, _∙_}
-use mathlib.Core.List.{List, [], _∷_}
-use mathlib.Core.Bool.{Bool, true, false}
-use native.Mathlib.Omega.{arith}
+use Prim.Native.Nat.{ℕ, _+_, _-_}
+use mathlib.Core.Path.{_≡_, ap, _∙_}
+use mathlib.Core.List.{List, []}
 use lib.ListN.{length}
 use borrow.Author.Tests.{eq-eqb, ne-eqb}
 use Rattle.rules.specs.declared.answers.Refusal.the-variants.{NotCbor}
 use Rattle.rules.specs.Limits.{limits}
 use Rattle.rules.specs.Bytes.{Bytes, Span, span}
-use Rattle.rules.specs.Got.{Got, refused, got, need, _>>=_}
+use Rattle.rules.specs.Got.{Got, got, _>>=_}
 use Rattle.rules.specs.Cbor.{NUMBER, BYTES, MAP, item}
 use Rattle.rules.specs.Manifest.{Section, countAll}
 use Rattle.rules.specs.Check.{key, inBytes, components, commonSeq}
-use Rattle.envelope.specs.declared.reading.Reading.{Reading}
+use Rattle.cbor.specs.declared.reading.Reading.{Reading}
 use Rattle.envelope.specs.declared.body.Common.{Common}
-use Rattle.envelope.specs.Reading.{fault, reading}
+use Rattle.cbor.specs.Reading.{fault, reading}
 use Rattle.envelope.specs.Sections.{Placed}
 use Rattle.envelope.specs.Body.{commonIn, commonOf, listReading, Ids, Kept}
-use Rattle.envelope.proofs.ReadingLaws.{Stopped, stop-of, went}
-use Rattle.envelope.proofs.SequenceLaws.{reading-stopped, reading-went}
-use Rattle.envelope.proofs.SectionLaws.{Promise}
+use Rattle.cbor.proofs.ReadingLaws.{Stopped, stop-of, went, reading-went}
 use Rattle.envelope.proofs.BodyLaws.{common-law}
 
 -- what is promised of common

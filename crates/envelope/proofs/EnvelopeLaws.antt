@@ -20,19 +20,17 @@ use Rattle.rules.proofs.AnswerLaws.{of-number, not-zero}
 use Rattle.rules.proofs.GotLaws.{both, split}
 use Rattle.rules.proofs.CheckLaws.{item-law}
 use Rattle.rules.proofs.ParamLaws.{bytes-after}
-use Rattle.envelope.specs.declared.reading.Reading.{Reading}
+use Rattle.cbor.specs.declared.reading.Reading.{Reading}
 use Rattle.envelope.specs.declared.body.Body.{Body}
 use Rattle.envelope.specs.declared.report.Checked.the-variants.{Accepted}
 use Rattle.envelope.specs.declared.report.Report.{Report}
-use Rattle.envelope.specs.Reading.{reading}
+use Rattle.cbor.specs.Reading.{reading}
 use Rattle.envelope.specs.Body.{bodyOf}
-use Rattle.envelope.specs.Identifiers.{laid}
+use Rattle.identifiers.specs.Identifiers.{laid}
 use Rattle.envelope.specs.Sections.{placed}
 use Rattle.envelope.specs.Outer.{outerAt}
 use Rattle.envelope.specs.Report.{place, refusedReport, reportOf}
-use Rattle.envelope.proofs.ReadingLaws.{Stopped}
-use Rattle.envelope.proofs.LeafLaws.{alike}
-use Rattle.envelope.proofs.SequenceLaws.{bind-assoc, reading-stopped, reading-went}
+use Rattle.cbor.proofs.ReadingLaws.{Stopped, alike, bind-assoc, reading-stopped, reading-went}
 use Rattle.envelope.proofs.BodyLaws.{check-law}
 use Rattle.envelope.proofs.ManifestLaws.{BodyPromise, manifest-part}
 

@@ -1,9 +1,6 @@
-pub mod ReadingLaws
-pub mod LeafLaws
-pub mod SequenceLaws
-pub mod IdentifierLaws
 pub mod SectionLaws
 pub mod BodyLaws
+pub mod ListLaws
 pub mod CommonLaws
 pub mod ManifestLaws
 pub mod OuterLaws

@@ -4,26 +4,22 @@ use mathlib.Core.Path.{_≡_, refl, sym, ap, _∙_}
 use mathlib.Core.List.{List, [], _∷_, _++_}
 use native.Mathlib.Omega.{arith}
 use lib.ListN.{length}
-use Rattle.rules.specs.declared.answers.Refusal.{Refusal}
-use Rattle.rules.specs.Answers.{refusalNumber}
 use Rattle.rules.proofs.AnswerLaws.{not-zero}
 use Rattle.rules.specs.Bytes.{Bytes, Span, span}
 use Rattle.rules.specs.Got.{Got, refused, got, _>>=_}
 use Rattle.rules.specs.Cbor.{MAP, item}
 use Rattle.rules.proofs.GotLaws.{both, split}
 use Rattle.rules.proofs.CheckLaws.{item-law}
-use Rattle.envelope.specs.Identifiers.{laid}
+use Rattle.identifiers.specs.Identifiers.{laid}
 use Rattle.rules.specs.Manifest.{Section, countAll, Manifest}
 use Rattle.rules.specs.Check.{sectionsAt, manifestAt}
-use Rattle.envelope.specs.declared.reading.Reading.{Reading}
+use Rattle.cbor.specs.declared.reading.Reading.{Reading}
 use Rattle.envelope.specs.declared.body.Front.{Front}
 use Rattle.envelope.specs.declared.body.Common.{Common}
 use Rattle.envelope.specs.declared.body.Body.{Body}
-use Rattle.envelope.specs.Reading.{fault, reading}
-use Rattle.envelope.specs.Sections.{placed, Placed}
+use Rattle.envelope.specs.Sections.{placed}
 use Rattle.envelope.specs.Body.{versionAt, numberedAt, frontAt, frontOf, commonIn, commonOf, bodyOf, Kept}
-use Rattle.envelope.proofs.ReadingLaws.{Stopped}
-use Rattle.envelope.proofs.SequenceLaws.{reading-stopped, reading-went}
+use Rattle.cbor.proofs.ReadingLaws.{reading-stopped, reading-went}
 use Rattle.envelope.proofs.SectionLaws.{Promise}
 use Rattle.envelope.proofs.BodyLaws.{manifest-law}
 use Rattle.envelope.proofs.CommonLaws.{CommonPromise}

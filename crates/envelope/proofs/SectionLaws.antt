@@ -2,27 +2,24 @@
 use Prim.Native.Nat.{ℕ, zero, suc, _+_, _-_, _*_, _≤_, _<_}
 use mathlib.Core.Path.{_≡_, refl, sym, ap, _∙_}
 use mathlib.Core.List.{List, [], _∷_}
-use mathlib.Core.Bool.{Bool, true, false, cond}
 use native.Mathlib.Omega.{arith}
 use native.Mathlib.Nat.{add-zero, add-assoc}
 use lib.Dec.{eqb}
 use lib.ListN.{set}
 use borrow.Author.Tests.{eq-eqb, ne-eqb}
-use Rattle.rules.specs.declared.answers.Refusal.{Refusal}
 use Rattle.rules.specs.declared.answers.Refusal.the-variants.{NotCbor}
 use Rattle.rules.specs.Limits.{limits}
-use Rattle.rules.specs.Bytes.{Bytes, Span, span}
+use Rattle.rules.specs.Bytes.{Bytes, span}
 use Rattle.rules.specs.Got.{Got, refused, got, need, _>>=_}
-use Rattle.rules.specs.Cbor.{NUMBER, BYTES, Head, after, item}
+use Rattle.rules.specs.Cbor.{NUMBER, BYTES, after, item}
 use Rattle.rules.specs.Manifest.{Seq, count, Section, countAll}
 use Rattle.rules.specs.Check.{key, inBytes, sequenceAt, sectionAt, sectionsAt, commonSeq}
-use Rattle.envelope.specs.declared.reading.Reading.{Reading}
-use Rattle.envelope.specs.Reading.{fault, ends, reading}
-use Rattle.envelope.specs.Sequences as Q
-use Rattle.envelope.specs.Sections.{sectionNo, placedOne, placed, Placed}
-use Rattle.envelope.proofs.ReadingLaws.{Stopped}
-use Rattle.envelope.proofs.LeafLaws.{alike}
-use Rattle.envelope.proofs.SequenceLaws.{bind-assoc, reading-went, read}
+use Rattle.cbor.specs.declared.reading.Reading.{Reading}
+use Rattle.cbor.specs.Reading.{fault, ends, reading}
+use Rattle.sequences.specs.Sequences as Q
+use Rattle.envelope.specs.Sections.{sectionNo, placedOne, Placed}
+use Rattle.cbor.proofs.ReadingLaws.{Stopped, alike, bind-assoc, reading-went}
+use Rattle.sequences.proofs.SequenceLaws.{read}
 
 -- what is promised of a reading, and of the places that it left
 abbrev pub Promise : {A : Type 0} → (A → ℕ) → (A → List Section) → Got (A × ℕ) → Reading → List ℕ → List ℕ → Type 0

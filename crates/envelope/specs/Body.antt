@@ -1,5 +1,5 @@
 -- The manifest by its parts, as the code reads it: up to common, common, the sections.
-use Prim.Native.Nat.{ℕ, _-_}
+use Prim.Native.Nat.{ℕ}
 use mathlib.Core.Path.{_≡_}
 use mathlib.Core.List.{List}
 use lib.Dec.{eqb}
@@ -14,9 +14,9 @@ use Rattle.rules.specs.Check.{number, key, inBytes, commonAt}
 use Rattle.envelope.specs.declared.body.Front.{Front}
 use Rattle.envelope.specs.declared.body.Common.{Common}
 use Rattle.envelope.specs.declared.body.Body.{Body}
-use Rattle.envelope.specs.declared.reading.Reading.{Reading}
-use Rattle.envelope.specs.Reading.{view}
-use Rattle.envelope.specs.Identifiers.{laid}
+use Rattle.cbor.specs.declared.reading.Reading.{Reading}
+use Rattle.cbor.specs.Reading.{view}
+use Rattle.identifiers.specs.Identifiers.{laid}
 use Rattle.envelope.specs.Sections.{placed}
 
 module _ (s : Bytes) where

@@ -4,17 +4,17 @@ ghost use Prim.Native.Nat.{ℕ, _+_, _≤_, _<_};
 ghost use lib.ListN.{length};
 ghost use Rattle.rules.specs.Tables.{byNumber};
 ghost use Rattle.rules.specs.Check as Check;
-ghost use Rattle.envelope.specs.Reading.{placeReading, reading};
+ghost use Rattle.cbor.specs.Reading.{placeReading, reading};
 ghost use Rattle.envelope.specs.Body.{versionAt, numberedAt, frontAt, frontOf, listReading, Ids, commonIn, commonOf, bodyOf, Kept};
-use crate::identifiers::components;
-use crate::leaves::number;
-use crate::reading::Reading;
-use crate::reading::item;
-use crate::reading::refuse;
 use crate::sections::common_sequence;
 use crate::sections::sections;
+use cbor::reading::Reading;
+use cbor::reading::item;
+use cbor::reading::refuse;
+use identifiers::components;
 use rules::answers::Refusal;
 use rules::controller::Controller;
+use sequences::leaves::number;
 
 pub struct Front {
     pub stop: usize,

@@ -16,14 +16,10 @@ use rules::controller::Controller;
 use rules::tables::tables;
 
 mod body;
-mod identifiers;
-mod leaves;
 mod newest;
 mod outer;
-mod reading;
 pub mod report;
 mod sections;
-mod sequences;
 
 // Checks an envelope: what it holds and where, or the first fault.
 pub fn check(s: &[u8]) -> Report

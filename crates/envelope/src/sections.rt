@@ -6,15 +6,15 @@ ghost use lib.ListN.{length};
 ghost use Rattle.rules.specs.Tables.{byNumber};
 ghost use Rattle.rules.specs.Manifest.{count, countAll};
 ghost use Rattle.rules.specs.Check as Check;
-ghost use Rattle.envelope.specs.Reading.{reading};
-ghost use Rattle.envelope.specs.Sequences.{Section};
+ghost use Rattle.cbor.specs.Reading.{reading};
+ghost use Rattle.sequences.specs.Sequences.{Section};
 ghost use Rattle.envelope.specs.Sections.{sectionNo, Placed};
-use crate::reading::Reading;
-use crate::reading::item;
-use crate::reading::refuse;
-use crate::sequences::check_sequence;
+use cbor::reading::Reading;
+use cbor::reading::item;
+use cbor::reading::refuse;
 use rules::answers::Refusal;
 use rules::controller::Controller;
+use sequences::check_sequence;
 
 // The number of a section in the array of places.
 pub fn section_number(key: usize) -> usize

@@ -2,9 +2,8 @@ use mathlib.Core.Path.{refl, _∙_}
 use mathlib.Core.Logic.{inl}
 use native.Mathlib.Omega.{arith}
 use borrow.Author.Needs.{needs}
-use Rattle.envelope.proofs.ReadingLaws.{item-went}
-use Rattle.envelope.proofs.LeafLaws.{string-fits}
-use Rattle.envelope.proofs.IdentifierLaws.{list-stop, list-refused, list-over, list-good}
+use Rattle.cbor.proofs.ReadingLaws.{item-went, string-fits}
+use Rattle.envelope.proofs.ListLaws.{list-stop, list-refused, list-over, list-good}
 use Rattle.envelope.proofs.body.component_list.Statement.{statement}
 use Rattle.envelope.proofs.body.component_list.Tie as tie
 

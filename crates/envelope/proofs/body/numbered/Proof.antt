@@ -3,7 +3,7 @@ use Prim.Native.Nat.{ℕ}
 use borrow.Author.Needs.{needs}
 use Rattle.rules.specs.Bytes.{Bytes}
 use Rattle.rules.specs.Check.{number, key}
-use Rattle.envelope.specs.Reading.{ends, reading}
+use Rattle.cbor.specs.Reading.{ends, reading}
 use Rattle.envelope.specs.Body.{numberedAt}
 use Rattle.envelope.proofs.BodyLaws.{Told, told, onward, halts, key-told}
 use Rattle.envelope.proofs.body.numbered.Statement.{statement}

@@ -1,12 +1,10 @@
-use mathlib.Core.Path.{refl, sym, _∙_}
+use mathlib.Core.Path.{refl}
 use mathlib.Core.Logic.{inl}
 use native.Mathlib.Omega.{arith}
 use borrow.Author.Needs.{needs}
 use Rattle.rules.specs.Manifest.{countAll}
 use Rattle.rules.proofs.CheckLaws.{item-law}
-use Rattle.envelope.proofs.ReadingLaws.{item-stopped, item-went}
-use Rattle.envelope.proofs.LeafLaws.{string-fits}
-use Rattle.envelope.proofs.SequenceLaws.{reading-stopped}
+use Rattle.cbor.proofs.ReadingLaws.{item-stopped, item-went, string-fits, reading-stopped}
 use Rattle.envelope.proofs.CommonLaws.{none-common, common-no-bytes, common-no-map, common-no-key, common-no-list, common-bad, common-left-over, common-good, list-went, list-stopped, common-sequence-went}
 use Rattle.envelope.proofs.body.read_common.Statement.{statement}
 use Rattle.envelope.proofs.body.read_common.Tie as tie

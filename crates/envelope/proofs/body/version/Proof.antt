@@ -5,7 +5,7 @@ use borrow.Author.Tests.{eq-eqb, ne-eqb}
 use Rattle.rules.specs.declared.answers.Refusal.the-variants.{WrongVersion}
 use Rattle.rules.specs.Bytes.{Bytes}
 use Rattle.rules.specs.Check.{number, key}
-use Rattle.envelope.specs.Reading.{fault, ends, placeReading}
+use Rattle.cbor.specs.Reading.{fault, ends, placeReading}
 use Rattle.envelope.specs.Body.{versionAt}
 use Rattle.envelope.proofs.BodyLaws.{Told, told, onward, halts, key-told}
 use Rattle.envelope.proofs.body.version.Statement.{statement}

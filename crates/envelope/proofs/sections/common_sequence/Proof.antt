@@ -1,7 +1,5 @@
-use mathlib.Core.Path.{refl}
 use borrow.Author.Needs.{needs}
-use Rattle.envelope.proofs.ReadingLaws.{item-stopped, item-went}
-use Rattle.envelope.proofs.LeafLaws.{above}
+use Rattle.cbor.proofs.ReadingLaws.{item-stopped, item-went, above}
 use Rattle.envelope.proofs.SectionLaws.{common-none, common-stop, common-more}
 use Rattle.envelope.proofs.sections.common_sequence.Statement.{statement}
 use Rattle.envelope.proofs.sections.common_sequence.Tie as tie

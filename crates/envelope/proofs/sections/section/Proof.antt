@@ -1,10 +1,9 @@
-use mathlib.Core.Path.{refl, _∙_}
+use mathlib.Core.Path.{refl}
 use mathlib.Core.Logic.{inl}
 use native.Mathlib.Omega.{arith}
 use borrow.Author.Needs.{needs}
-use Rattle.envelope.proofs.ReadingLaws.{item-stopped, item-went}
-use Rattle.envelope.proofs.LeafLaws.{string-fits}
-use Rattle.envelope.proofs.SequenceLaws.{reading-stopped, read}
+use Rattle.cbor.proofs.ReadingLaws.{item-stopped, item-went, string-fits, reading-stopped}
+use Rattle.sequences.proofs.SequenceLaws.{read}
 use Rattle.envelope.proofs.SectionLaws.{stopped-promise, section-stop, section-bad, section-left-over, section-promise}
 use Rattle.envelope.proofs.sections.section.Statement.{statement}
 use Rattle.envelope.proofs.sections.section.Tie as tie

@@ -1,12 +1,9 @@
 use Prim.Native.Nat.{_≤_}
-use mathlib.Core.Path.{refl, sym, _∙_}
 use native.Mathlib.Omega.{arith}
 use borrow.Author.Needs.{needs}
 use Rattle.rules.specs.Check.{sectionsAt}
 use Rattle.rules.proofs.CheckLaws.{item-law}
-use Rattle.envelope.proofs.ReadingLaws.{item-stopped, item-went}
-use Rattle.envelope.proofs.LeafLaws.{pos}
-use Rattle.envelope.proofs.SequenceLaws.{reading-stopped}
+use Rattle.cbor.proofs.ReadingLaws.{item-stopped, item-went, pos, reading-stopped}
 use Rattle.envelope.proofs.SectionLaws.{key-section, Left, all-left, left-stopped, sections-none, sections-stop, sections-bad, sections-more}
 use Rattle.envelope.proofs.sections.sections.Statement.{statement}
 use Rattle.envelope.proofs.sections.sections.Tie as tie
