@@ -1,4 +1,5 @@
 use mathlib.Core.Path.{sym, _∙_}
+use native.Mathlib.Omega.{arith}
 use borrow.Author.Needs.{needs}
 use borrow.Author.Tests.{not-true, not-false}
 use Rattle.cbor.proofs.ReadingLaws.{number-stopped, number-went}
@@ -31,7 +32,7 @@ too-many c =
     (number-went _ _ _ _ (c .before .before .before .before .before .before .before .before .before .number .ensures) (c .before .before .before .before .before .before .before .before .if1 .left))
     _ (sym (c .before .before .before .before .before .before .before .look-up .ensures) ∙ c .before .before .before .before .before .row .given .1)
     (c .before .before .before .before .before .before .before .before .before .before .before .pre .2)
-    (sym (c .before .before .before .has-section .ensures) ∙ not-false _ (c .before .before .if2 .left)) (c .before .if3 .taken)
+    (sym (c .before .before .before .has-section .ensures) ∙ not-false _ (c .before .before .if2 .left)) (omega (arith, c .before .if3 .taken))
 
 argument : tie.Need-returns-5
 argument c =
