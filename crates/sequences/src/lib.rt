@@ -1,11 +1,8 @@
 // Sequences hold commands and commands hold sequences.
 ghost use mathlib.Core.Path.{_≡_};
-ghost use mathlib.Core.Bool.{true};
-ghost use mathlib.Core.List.{[], _∷_};
-ghost use Prim.Native.Nat.{ℕ, _+_, _/_, _%_, _≤_, _<_};
+ghost use Prim.Native.Nat.{_+_, _/_, _%_, _≤_};
 ghost use lib.Dec.{eqb};
 ghost use lib.ListN.{length};
-ghost use Rattle.rules.specs.Commands.{among};
 ghost use Rattle.rules.specs.Tables.{byNumber, weightOf};
 ghost use Rattle.rules.specs.Manifest.{count, countCmd};
 ghost use Rattle.rules.specs.Check as Check;
