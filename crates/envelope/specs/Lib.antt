@@ -1,5 +1,3 @@
-pub mod Sections
-pub mod Body
 pub mod Outer
 pub mod Report
 pub mod Newer

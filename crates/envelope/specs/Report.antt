@@ -9,7 +9,7 @@ use Rattle.envelope.specs.declared.report.Place.{Place}
 use Rattle.envelope.specs.declared.report.Checked.the-variants.{Accepted, Refused}
 use Rattle.envelope.specs.declared.report.Report.{Report}
 use Rattle.identifiers.specs.Identifiers.{laid}
-use Rattle.envelope.specs.Sections.{placed}
+use Rattle.manifest.specs.Sections.{placed}
 
 abbrev pub place : Span → Place
 place p = record { from = p .from; to = p .to }
