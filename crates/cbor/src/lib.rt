@@ -7,6 +7,8 @@ ghost use Rattle.rules.specs.Got.{refused, got};
 ghost use Rattle.rules.specs.Cbor.{head, whole, item, oneOf, after};
 ghost use Rattle.cbor.specs.Answer.{headOf, headMeans, itemMeans};
 
+pub mod reading;
+
 // Kinds of items.
 pub const NUMBER: usize = 0;
 

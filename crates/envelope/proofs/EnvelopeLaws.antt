@@ -13,28 +13,43 @@ use Rattle.rules.specs.Answers.{refusalOf}
 use Rattle.rules.specs.Limits.{limits}
 use Rattle.rules.specs.Bytes.{Bytes, span}
 use Rattle.rules.specs.Got.{Got, refused, got, need, _>>=_}
-use Rattle.rules.specs.Cbor.{BYTES, MAP, item}
+use Rattle.rules.specs.Cbor.{BYTES, MAP, after, item}
 use Rattle.rules.specs.Manifest.{Manifest}
-use Rattle.rules.specs.Check.{key, unread, manifestAt, check}
+use Rattle.rules.specs.Check.{key, unread, inBytes, manifestAt, check}
 use Rattle.rules.proofs.AnswerLaws.{of-number, not-zero}
 use Rattle.rules.proofs.GotLaws.{both, split}
 use Rattle.rules.proofs.CheckLaws.{item-law}
 use Rattle.rules.proofs.ParamLaws.{bytes-after}
-use Rattle.envelope.specs.declared.reading.Reading.{Reading}
-use Rattle.envelope.specs.declared.body.Body.{Body}
+use Rattle.cbor.specs.declared.reading.Reading.{Reading}
+use Rattle.manifest.specs.declared.Body.{Body}
 use Rattle.envelope.specs.declared.report.Checked.the-variants.{Accepted}
 use Rattle.envelope.specs.declared.report.Report.{Report}
-use Rattle.envelope.specs.Reading.{reading}
-use Rattle.envelope.specs.Body.{bodyOf}
-use Rattle.envelope.specs.Identifiers.{laid}
-use Rattle.envelope.specs.Sections.{placed}
+use Rattle.cbor.specs.Reading.{reading}
+use Rattle.manifest.specs.Body.{bodyOf}
+use Rattle.identifiers.specs.Identifiers.{laid}
+use Rattle.manifest.specs.Sections.{placed}
 use Rattle.envelope.specs.Outer.{outerAt}
 use Rattle.envelope.specs.Report.{place, refusedReport, reportOf}
-use Rattle.envelope.proofs.ReadingLaws.{Stopped}
-use Rattle.envelope.proofs.LeafLaws.{alike}
-use Rattle.envelope.proofs.SequenceLaws.{bind-assoc, reading-stopped, reading-went}
-use Rattle.envelope.proofs.BodyLaws.{check-law}
-use Rattle.envelope.proofs.ManifestLaws.{BodyPromise, manifest-part}
+use Rattle.cbor.proofs.ReadingLaws.{Stopped, alike, bind-assoc, reading-stopped, reading-went}
+use Rattle.manifest.proofs.ManifestLaws.{BodyPromise, manifest-part}
+
+-- the envelope around the manifest
+check-law : (s : Bytes) →
+    check s
+    ≡ (need (leb (length s) (limits .envelope)) EnvelopeTooLong 0 >>= λ _. item MAP 2 2 s (length s) 0 >>= λ h. key s 1 (length s) (h .next) >>= λ p.
+    unread s (length s) p >>= λ q. key s 3 (length s) q >>= λ r. item BYTES 0 (limits .number) s (length s) r >>= λ b.
+    manifestAt s (after b) (b .next) >>= λ m. need (eqb (m .1) (after b)) NotCbor (m .1) >>= λ _.
+    need (eqb (m .1) (length s)) NotCbor (m .1) >>= λ _. got (m .0))
+unfolding check inBytes
+check-law s =
+    alike (need (leb (length s) (limits .envelope)) EnvelopeTooLong 0) _ _ λ u q.
+    alike (item MAP 2 2 s (length s) 0) _ _ λ h q₁.
+    alike (key s 1 (length s) (h .next)) _ _ λ p q₂.
+    alike (unread s (length s) p) _ _ λ n q₃.
+    alike (key s 3 (length s) n) _ _ λ r q₄.
+    bind-assoc (item BYTES 0 (limits .number) s (length s) r) _ _ ∙ alike (item BYTES 0 (limits .number) s (length s) r) _ _ λ b q₅.
+    bind-assoc (manifestAt s (after b) (b .next)) _ _ ∙ alike (manifestAt s (after b) (b .next)) _ _ λ m q₆.
+    bind-assoc (need (eqb (m .1) (after b)) NotCbor (m .1)) _ _
 
 module _ (s : Bytes) where
   inner : ℕ × ℕ → Got Manifest

@@ -1,11 +1,3 @@
-pub mod ReadingLaws
-pub mod LeafLaws
-pub mod SequenceLaws
-pub mod IdentifierLaws
-pub mod SectionLaws
-pub mod BodyLaws
-pub mod CommonLaws
-pub mod ManifestLaws
 pub mod OuterLaws
 pub mod EnvelopeLaws
 pub mod NewerLaws

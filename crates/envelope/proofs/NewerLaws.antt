@@ -25,7 +25,7 @@ use Rattle.envelope.specs.declared.report.Checked.the-variants.{Accepted
 use Rattle.envelope.specs.declared.report.Report.{Report}
 use Rattle.envelope.specs.Report.{reportOf}
 use Rattle.envelope.specs.Newer.{PartOf, Handed, partIn}
-use Rattle.envelope.proofs.ManifestLaws.{manifest-part}
+use Rattle.manifest.proofs.ManifestLaws.{manifest-part}
 
 differ : (k : Refusal) (p : ℕ) → _≡_ {A = Checked} (Refused k p) Accepted → ⊥
 differ k p q = let z : _≡_ {A = ℕ} 0 1 = cc in absurd (omega arith)

@@ -1,10 +1,8 @@
 -- The envelope around the manifest, one step after the other.
 use Prim.Native.Nat.{ℕ, _+_, _≤_}
-use mathlib.Core.Path.{_≡_, refl, sym, ap, _∙_}
+use mathlib.Core.Path.{_≡_, refl, _∙_}
 use mathlib.Core.Logic.{_⊎_, inl, inr}
 use native.Mathlib.Omega.{arith}
-use lib.Dec.{eqb}
-use lib.ListN.{length}
 use Rattle.rules.specs.declared.answers.Refusal.{Refusal}
 use Rattle.rules.specs.Limits.{limits}
 use Rattle.rules.specs.Bytes.{Bytes}
@@ -13,10 +11,10 @@ use Rattle.rules.specs.Cbor.{NUMBER, BYTES, MAP, NIL, Head, after, item, oneOf}
 use Rattle.rules.specs.Check.{key, unread}
 use Rattle.rules.proofs.CheckLaws.{one-of-law, one-of-kind}
 use Rattle.rules.proofs.ParamLaws.{bytes-after}
-use Rattle.envelope.specs.declared.reading.Reading.{Reading}
-use Rattle.envelope.specs.Reading.{fault, ends, headReading, placeReading, reading}
+use Rattle.cbor.specs.declared.reading.Reading.{Reading}
+use Rattle.cbor.specs.Reading.{fault, ends, headReading, placeReading, reading}
 use Rattle.envelope.specs.Outer.{outerAt}
-use Rattle.envelope.proofs.ReadingLaws.{Stopped}
+use Rattle.cbor.proofs.ReadingLaws.{Stopped}
 
 -- nil or a byte string
 module _ (s : Bytes) (e at : ℕ) where

@@ -1,6 +1,5 @@
 -- The envelope around the manifest.
 use Prim.Native.Nat.{ℕ}
-use lib.ListN.{length}
 use Rattle.rules.specs.Limits.{limits}
 use Rattle.rules.specs.Bytes.{Bytes}
 use Rattle.rules.specs.Got.{Got, got, _>>=_}

@@ -4,7 +4,7 @@ ghost use Rattle.rules.specs.Check as Check;
 ghost use Rattle.rules.specs.Newer as Rule;
 ghost use Rattle.envelope.specs.Report.{reportOf};
 ghost use Rattle.envelope.specs.Newer.{Handed};
-use body::read_body;
+use manifest::read_body;
 use newest::part_in;
 use outer::read_outer;
 use report::Checked;
@@ -15,15 +15,9 @@ use rules::answers::Refusal;
 use rules::controller::Controller;
 use rules::tables::tables;
 
-mod body;
-mod identifiers;
-mod leaves;
 mod newest;
 mod outer;
-mod reading;
 pub mod report;
-mod sections;
-mod sequences;
 
 // Checks an envelope: what it holds and where, or the first fault.
 pub fn check(s: &[u8]) -> Report

@@ -3,12 +3,12 @@ ghost use mathlib.Core.Path.{_≡_};
 ghost use Prim.Native.Nat.{_≤_};
 ghost use lib.ListN.{length};
 ghost use Rattle.rules.specs.Check as Check;
-ghost use Rattle.envelope.specs.Reading.{reading, placeReading};
+ghost use Rattle.cbor.specs.Reading.{reading, placeReading};
 ghost use Rattle.envelope.specs.Outer.{outerAt};
-use crate::reading::Reading;
-use crate::reading::item;
-use crate::reading::refuse;
 use cbor::ItemRead;
+use cbor::reading::Reading;
+use cbor::reading::item;
+use cbor::reading::refuse;
 use rules::answers::Refusal;
 use rules::controller::Controller;
 

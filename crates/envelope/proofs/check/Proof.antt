@@ -23,7 +23,7 @@ inside c =
 after : tie.Need-returns-5
 after c =
     check-left-over _ (c .before .before .before .before .before .before .before .before .before .before .before .before .if1 .left) _ (c .before .before .before .before .before .before .before .before .before .before .before .read-outer .ensures) (c .before .before .before .before .before .before .before .before .before .before .if2 .left) _ _ _ _ _ (c .before .before .before .before .read-body .ensures) (c .before .before .before .if3 .left)
-    (inr (c .before .before .if4 .left, c .before .if5 .taken)) _ (c .refused5 .ensures)
+    (inr (c .before .before .if4 .left, λ k. omega (arith, k, c .before .before .if4 .left, c .before .if5 .taken))) _ (c .refused5 .ensures)
 
 good : tie.Need-returns-6
 good c =

@@ -1,5 +1,5 @@
 use borrow.Author.Needs.{needs}
-use Rattle.envelope.proofs.ReadingLaws.{item-stopped, item-went, place-stopped, place-went}
+use Rattle.cbor.proofs.ReadingLaws.{item-stopped, item-went, place-stopped, place-went}
 use Rattle.envelope.proofs.OuterLaws.{outer-stop, outer-no-key, outer-bad, outer-no-manifest, outer-bytes}
 use Rattle.envelope.proofs.outer.read_outer.Statement.{statement}
 use Rattle.envelope.proofs.outer.read_outer.Tie as tie

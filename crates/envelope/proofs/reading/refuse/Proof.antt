@@ -1,9 +1,0 @@
-use borrow.Author.Needs.{needs}
-use Rattle.envelope.proofs.reading.refuse.Statement.{statement}
-use Rattle.envelope.proofs.reading.refuse.Tie as tie
-
-returns : tie.Need-returns
-returns c = rw (c .number .ensures)
-
-pub refuse-spec : {M : Type 1} → statement M
-refuse-spec = tie.close (tie.spec (λ c κs. search needs) (λ c. search needs) returns)
