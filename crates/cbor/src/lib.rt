@@ -46,14 +46,14 @@ pub enum ItemRead {
     Malformed(usize),
 }
 
-fn wide(x: u8) -> usize
+pub fn wide(x: u8) -> usize
     ensures { λ r. ⌜ (r ≡ x) × (r < 256) ⌝ }
 {
     x as usize
 }
 
 // Big-endian numbers of two and four bytes.
-fn two(s: &[u8], at: usize) -> usize
+pub fn two(s: &[u8], at: usize) -> usize
     requires { ⌜ at + 2 ≤ length (now s) ⌝ }
     ensures { λ r. ⌜ (r ≡ getD (now (s .entry)) at 0 * 256 + getD (now (s .entry)) (at + 1) 0) × (r < 65536) ⌝ }
 {

@@ -147,11 +147,11 @@ module _ (env : Env) where
       apart c e n = let z : _≡_ {A = Bool} true false = sym h ∙ rw (← e) n in let y : _≡_ {A = ℕ} 0 1 = cc in omega arith
 
   -- the number of a component's slot stays
-  same-number : (j i : ℕ) (x : Bytes) (st : State) → length x ≤ answerBytes → slotNo env j (filled env i x st) ≡ slotNo env j st
+  pub same-number : (j i : ℕ) (x : Bytes) (st : State) → length x ≤ answerBytes → slotNo env j (filled env i x st) ≡ slotNo env j st
   unfolding slotNo filled
   same-number j i x st short = number-kept (st .slots) (slotOf _ (st .slots)) x short _
 
-  image-length : (j : ℕ) (st : State) → length (image env j st) ≤ answerBytes
+  pub image-length : (j : ℕ) (st : State) → length (image env j st) ≤ answerBytes
   unfolding image imageAt
   image-length j st = omega (arith, length-take answerBytes (drop (slotBytes * slotNo env j st + imageFrom) (st .slots)))
 
@@ -271,19 +271,19 @@ module _ (env : Env) where
   mutual
     unfolding runSeq count
 
-    seq-reaches : (s : Seq) (own : Bool) (i : ℕ) (c : Bool) (st : State) → Reaches (count s) st (runSeq env s own i c st)
+    pub seq-reaches : (s : Seq) (own : Bool) (i : ℕ) (c : Bool) (st : State) → Reaches (count s) st (runSeq env s own i c st)
     seq-reaches end own i c st = stays 0 st Finished
     seq-reaches (then x xs) own i c st =
         next-law (countCmd x) (count xs) st (runCmd env x i st) _ _ (cmd-reaches x i st)
         (λ st′. seq-reaches xs own (indexAfter x i) (coerceAfter x c) st′) (λ st′. stays (count xs) st′ _)
 
-    cmd-reaches : (x : Cmd) (i : ℕ) (st : State) → Reaches (countCmd x) st (runCmd env x i st)
+    pub cmd-reaches : (x : Cmd) (i : ℕ) (st : State) → Reaches (countCmd x) st (runCmd env x i st)
     cmd-reaches (one p op b) i st =
         record { did = record { op = op; at = component op i; place = p } ∷ []; goes = refl; few = omega arith }
     cmd-reaches (sub s) i st = let r = seq-reaches s true i false st in record { did = r .did; goes = r .goes; few = omega (arith, r .few) }
     cmd-reaches (try a) i st = let r = alts-reaches a i st in record { did = r .did; goes = r .goes; few = omega (arith, r .few) }
 
-    alts-reaches : (a : Alts) (i : ℕ) (st : State) → Reaches (countAlts a) st (runAlts env a i st)
+    pub alts-reaches : (a : Alts) (i : ℕ) (st : State) → Reaches (countAlts a) st (runAlts env a i st)
     alts-reaches (last s) i st = seq-reaches s false i false st
     alts-reaches (or s a) i st =
         next-law (count s) (countAlts a) st (runSeq env s false i false st) _ _ (seq-reaches s false i false st)

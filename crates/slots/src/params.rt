@@ -3,6 +3,7 @@ ghost use mathlib.Core.Path.{_≡_};
 ghost use Prim.Native.Nat.{_+_, _*_, _≤_, _<_};
 ghost use mathlib.Core.Bool.{cond};
 ghost use lib.Dec.{eqb};
+ghost use lib.ListN.{length};
 ghost use Rattle.slots.specs.Params.{wordsAt, stored, overWords};
 
 // 0 is unset: where the URI and the digest start, and one more than the source and the size.
@@ -30,8 +31,8 @@ pub fn load(words: &[usize; 40], i: usize) -> Params
     }
 }
 
-pub fn store(words: &mut [usize; 40], i: usize, p: Params)
-    requires { ⌜ i < 8 ⌝ }
+pub fn store(words: &mut [usize], i: usize, p: Params)
+    requires { ⌜ 5 * i + 5 ≤ length (now words) ⌝ }
     ensures { λ _. ⌜ now (words .exit) ≡ stored (now (words .entry)) i p ⌝ }
 {
     let at = WORDS * i;
