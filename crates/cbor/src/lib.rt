@@ -6,6 +6,9 @@ ghost use Rattle.rules.specs.declared.answers.Refusal.the-variants.{NotCbor};
 ghost use Rattle.rules.specs.Got.{refused, got};
 ghost use Rattle.rules.specs.Cbor.{head, whole, item, oneOf, after};
 ghost use Rattle.cbor.specs.Answer.{headOf, headMeans, itemMeans};
+use numbers::four;
+use numbers::two;
+use numbers::wide;
 
 pub mod reading;
 
@@ -44,27 +47,6 @@ pub enum ItemRead {
     Item(Head),
     NotCbor(usize),
     Malformed(usize),
-}
-
-pub fn wide(x: u8) -> usize
-    ensures { λ r. ⌜ (r ≡ x) × (r < 256) ⌝ }
-{
-    x as usize
-}
-
-// Big-endian numbers of two and four bytes.
-pub fn two(s: &[u8], at: usize) -> usize
-    requires { ⌜ at + 2 ≤ length (now s) ⌝ }
-    ensures { λ r. ⌜ (r ≡ getD (now (s .entry)) at 0 * 256 + getD (now (s .entry)) (at + 1) 0) × (r < 65536) ⌝ }
-{
-    wide(s[at]) * 256 + wide(s[at + 1])
-}
-
-pub fn four(s: &[u8], at: usize) -> usize
-    requires { ⌜ at + 4 ≤ length (now s) ⌝ }
-    ensures { λ r. ⌜ r ≡ ((getD (now (s .entry)) at 0 * 256 + getD (now (s .entry)) (at + 1) 0) * 256 + getD (now (s .entry)) (at + 2) 0) * 256 + getD (now (s .entry)) (at + 3) 0 ⌝ }
-{
-    (two(s, at) * 256 + wide(s[at + 2])) * 256 + wide(s[at + 3])
 }
 
 // The head, unless its number is too small for the bytes that it has.

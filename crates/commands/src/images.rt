@@ -9,7 +9,7 @@ ghost use Rattle.slots.specs.Slot.{Holds};
 ghost use Rattle.slots.specs.Params.{meaning};
 ghost use Rattle.commands.specs.Machine.{Ends, At, AllHold, SourceAt};
 use crate::perform::Done;
-use cbor::four;
+use numbers::four;
 use slots::image::IMAGE_BYTES;
 use slots::image::image;
 use slots::image::put_image;

@@ -6,7 +6,7 @@ ghost use lib.Dec.{eqb};
 ghost use lib.ListN.{length, getD};
 ghost use Rattle.rules.specs.Slots.{slotAt, goodSlot};
 ghost use Rattle.slots.specs.Slot.{Holds};
-use cbor::four;
+use numbers::four;
 use rules::controller::Controller;
 
 pub const SLOT_BYTES: usize = 74;
