@@ -1,5 +1,5 @@
 -- What a command that check has accepted tells of its argument.
-use Prim.Native.Nat.{ℕ, zero, suc, _+_, _-_, _≤_, _<_}
+use Prim.Native.Nat.{ℕ, _+_, _-_, _≤_, _<_}
 use mathlib.Core.Path.{_≡_, refl, sym, ap, subst, _∙_}
 use mathlib.Core.List.{List, [], _∷_}
 use mathlib.Core.Bool.{Bool, true, false}
@@ -9,17 +9,15 @@ use lib.Dec.{ltb, eqb}
 use lib.ListN.{length}
 use borrow.Author.Tests.{ltb-true, eqb-true}
 use Rattle.rules.specs.declared.answers.Refusal.{Refusal}
-use Rattle.rules.specs.declared.answers.Refusal.the-variants.{NotCbor, NotAllowed, NoSuchComponent, TooManyCommands, UnknownCommand}
+use Rattle.rules.specs.declared.answers.Refusal.the-variants.{NotAllowed, NoSuchComponent, TooManyCommands, UnknownCommand}
 use Rattle.rules.specs.Limits.{limits}
-use Rattle.rules.specs.Bytes.{Bytes, part, Span}
+use Rattle.rules.specs.Bytes.{Bytes, part}
 use Rattle.rules.specs.Got.{got, found}
-use Rattle.rules.specs.Cbor.{BYTES, ARRAY, MAP, NIL, Head, after, item}
+use Rattle.rules.specs.Cbor.{BYTES, MAP, NIL, item}
 use Rattle.rules.specs.Commands.{Op, Params, sixteen, nil, below, parameters, Row, commands, rowOf, isAllowed}
-use Rattle.rules.specs.Manifest.{Seq, Cmd, one, sub, try, Alts, count}
-use Rattle.rules.specs.Check.{Read, nothing, number, strings, inBytes, entries, alternativesAt, argument, command, sequenceAt}
+use Rattle.rules.specs.Manifest.{Seq, Cmd, one}
+use Rattle.rules.specs.Check.{Read, nothing, number, entries, argument, command, sequenceAt}
 use Rattle.rules.proofs.GotLaws.{passed, both, split, split₂}
-use Rattle.rules.proofs.CheckLaws.{item-law}
-use Rattle.rules.proofs.ParamLaws.{bytes-after}
 use Rattle.runner.specs.Arguments.{One}
 
 pub found-is : {A : Type 0} (o : Option A) (r : Refusal) (p : ℕ) (a : A) → found o r p ≡ got a → o ≡ some a
@@ -49,49 +47,6 @@ pub form-of : (c : ℕ) (r x : Row) → rowOf c commands ≡ some r → rowOf c 
 form-of c r x p q = let same : r ≡ x = cc in rw same
 
 module _ (s : Bytes) where
-  -- one thing in a byte string
-  pub record Held {A : Type 0} (read : Read A) (e at : ℕ) (a : A) (p : Span) : Type 0 where
-    pub head : Head
-    pub string : item BYTES 0 (limits .number) s e at ≡ got head
-    pub reads : read (after head) (head .next) ≡ got (a, after head)
-    pub ends : after head ≡ head .next + head .num
-    pub fits : after head ≤ e
-    pub to : p .to ≡ after head
-
-  pub held : {A : Type 0} (read : Read A) (e at : ℕ) (a : A) (p : Span) → inBytes s read e at ≡ got (a, p) → Held read e at a p
-  unfolding inBytes
-  held {A} read e at a p q₀ =
-      split _ (item BYTES 0 (limits .number) s e at) _ (a, p) q₀ λ h qh q₁.
-      split₂ _ (read (after h) (h .next)) _ (a, p) q₁ λ b next qr q₂.
-      let i = item-law s BYTES 0 (limits .number) e at h qh in
-      let (t, q₃) = passed (eqb next (after h)) NotCbor next _ (a, p) q₂ in
-      let (ea, ep) = both q₃ in
-      let l : next ≡ after h = eqb-true _ _ t in
-      record {
-        head = h;
-        string = qh;
-        reads = qr ∙ (rw (ea, l));
-        ends = bytes-after h (i .is);
-        fits = i .fits;
-        to = ap (λ (x : Span). x .to) (sym ep) ∙ l;
-      }
-
-  -- alternatives as byte strings
-  pub alternatives-strings : (deeper : ℕ → Read Seq) (k m e at : ℕ) (a : Alts) (to : ℕ) → alternativesAt s deeper k m e at ≡ got (a, to) →
-      strings s (suc k) e at ≡ got to
-  unfolding alternativesAt strings
-  alternatives-strings deeper zero m e at a to q₀ =
-      split₂ _ (inBytes s (deeper m) e at) _ (a, to) q₀ λ b p qb q₁.
-      let x = held (deeper m) e at b p qb in
-      let (ea, et) = both q₁ in
-      rw (x .string, ← x .to, et)
-  alternatives-strings deeper (suc k) m e at a to q₀ =
-      split₂ _ (inBytes s (deeper m) e at) _ (a, to) q₀ λ b p qb q₁.
-      split₂ _ (alternativesAt s deeper k (m + count b) e (p .to)) _ (a, to) q₁ λ bs next qs q₂.
-      let x = held (deeper m) e at b p qb in
-      let (ea, et) = both q₂ in
-      rw (x .string, ← x .to, ← et) (alternatives-strings deeper k (m + count b) e (p .to) bs next qs)
-
   -- a command's row, and its argument
   pub record Coded (deeper : ℕ → Read Seq) (n m e at : ℕ) (cmd : Cmd) (to c p : ℕ) : Type 0 where
     pub row : Row
@@ -145,80 +100,29 @@ module _ (s : Bytes) where
         & (λ a b q. absurd (b refl)) & (λ a b. parameters-one _) & (λ a b. parameters-one _) & (λ a b. nil-one _) & (λ a b. nil-one _)
         & (λ a b. nil-one _) & (λ a b q. absurd (a refl)) & (λ a b. nil-one _) & tt)
 
-  module _ (n section depth m e at : ℕ) (cmd : Cmd) (to : ℕ) where
-    -- run sequence
-    pub record SubAt (p : ℕ) : Type 0 where
-      pub seq : Seq
-      pub head : Head
-      pub string : item BYTES 0 (limits .number) s e p ≡ got head
-      pub reads : sequenceAt s n section depth (m + 1) (after head) (head .next) ≡ got (seq, after head)
-      pub ends : after head ≡ head .next + head .num
-      pub fits : after head ≤ e
-      pub is : cmd ≡ sub seq
-      pub next : to ≡ after head
-      pub room : m < limits .commands
-
-    -- try each
-    pub record TryAt (p : ℕ) : Type 0 where
-      pub head : Head
-      pub array : item ARRAY 1 (limits .alternatives) s e p ≡ got head
-      pub alts : Alts
-      pub reads : alternativesAt s (sequenceAt s n section depth) (head .num - 1) (m + 1) e (head .next) ≡ got (alts, to)
-      pub is : cmd ≡ try alts
-      pub room : m < limits .commands
-
-    module _ (f : e ≤ length s) (q₀ : command s (sequenceAt s n section depth) n section m e at ≡ got (cmd, to)) where
-      pub command-one : (c p : ℕ) → number s e at ≡ got (c, p) → (c ≡ 30 → ⊥) → (c ≡ 15 → ⊥) →
-          (x : One s c p) × (x .n ≡ n) × (cmd ≡ one at (x .op) (x .coerce)) × (x .to ≡ to) × (m < limits .commands)
-      command-one c p qn a b =
-          let x = command-coded (sequenceAt s n section depth) n section m e at cmd to q₀ c p qn in
-          let (op, coerce, is) = one-row (sequenceAt s n section depth) n (m + 1) at e p cmd to c (x .row) (x .listed) a b (x .reads) in (
-            record {
-              deeper = sequenceAt s n section depth;
-              n = n;
-              m = m + 1;
-              place = at;
-              e = e;
-              fits = f;
-              row = x .row;
-              listed = x .listed;
-              op = op;
-              coerce = coerce;
-              to = to;
-              reads = x .reads ∙ ap (λ (y : Cmd). got (y, to)) is;
-            },
-            refl,
-            is,
-            refl,
-            x .room,
-          )
-
-      pub command-sub : (p : ℕ) → number s e at ≡ got (30, p) → SubAt p
-      unfolding argument
-      command-sub p qn =
-          let x = command-coded (sequenceAt s n section depth) n section m e at cmd to q₀ 30 p qn in
-          let q₁ = rw (form-of 30 (x .row) _ (x .listed) refl) at (x .reads) in
-          split₂ _ (inBytes s (sequenceAt s n section depth (m + 1)) e p) _ (cmd, to) q₁ λ a place qa q₂.
-          let y = held (sequenceAt s n section depth (m + 1)) e p a place qa in
-          let (is, next) = both q₂ in
+  module _ (n section depth m e at : ℕ) (cmd : Cmd) (to : ℕ) (f : e ≤ length s)
+      (q₀ : command s (sequenceAt s n section depth) n section m e at ≡ got (cmd, to)) where
+    pub command-one : (c p : ℕ) → number s e at ≡ got (c, p) → (c ≡ 30 → ⊥) → (c ≡ 15 → ⊥) →
+        (x : One s c p) × (x .n ≡ n) × (cmd ≡ one at (x .op) (x .coerce)) × (x .to ≡ to) × (m < limits .commands)
+    command-one c p qn a b =
+        let x = command-coded (sequenceAt s n section depth) n section m e at cmd to q₀ c p qn in
+        let (op, coerce, is) = one-row (sequenceAt s n section depth) n (m + 1) at e p cmd to c (x .row) (x .listed) a b (x .reads) in (
           record {
-            seq = a;
-            head = y .head;
-            string = y .string;
-            reads = y .reads;
-            ends = y .ends;
-            fits = y .fits;
-            is = sym is;
-            next = sym next ∙ y .to;
-            room = x .room;
-          }
-
-      pub command-try : (p : ℕ) → number s e at ≡ got (15, p) → TryAt p
-      unfolding argument
-      command-try p qn =
-          let x = command-coded (sequenceAt s n section depth) n section m e at cmd to q₀ 15 p qn in
-          let q₁ = rw (form-of 15 (x .row) _ (x .listed) refl) at (x .reads) in
-          split _ (item ARRAY 1 (limits .alternatives) s e p) _ (cmd, to) q₁ λ h qh q₂.
-          split₂ _ (alternativesAt s (sequenceAt s n section depth) (h .num - 1) (m + 1) e (h .next)) _ (cmd, to) q₂ λ a next qa q₃.
-          let (is, end) = both q₃ in
-          record { head = h; array = qh; alts = a; reads = rw end at qa; is = sym is; room = x .room }
+            deeper = sequenceAt s n section depth;
+            n = n;
+            m = m + 1;
+            place = at;
+            e = e;
+            fits = f;
+            row = x .row;
+            listed = x .listed;
+            op = op;
+            coerce = coerce;
+            to = to;
+            reads = x .reads ∙ ap (λ (y : Cmd). got (y, to)) is;
+          },
+          refl,
+          is,
+          refl,
+          x .room,
+        )

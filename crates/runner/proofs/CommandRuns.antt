@@ -1,29 +1,29 @@
 -- A command, by its code: as check read it, and as it runs.
 use Prim.Native.Nat.{ℕ, zero, suc, _+_, _-_, _≤_, _<_}
 use mathlib.Core.Path.{_≡_, refl, sym, ap, _∙_}
-use mathlib.Core.Bool.{Bool, true, false, cond}
+use mathlib.Core.Bool.{false}
 use mathlib.Core.List.{List, [], _∷_}
 use mathlib.Core.Option.{some}
 use native.Mathlib.Omega.{arith}
-use lib.Dec.{eqb, ltb}
+use lib.Dec.{eqb}
 use lib.ListN.{length}
-use borrow.Author.Tests.{eqb-true, ltb-true, ne-eqb}
+use borrow.Author.Tests.{eqb-true}
 use Rattle.rules.specs.declared.answers.End.{End}
 use Rattle.rules.specs.declared.answers.End.the-variants.{Finished, ConditionFailed, Started, Failed}
-use Rattle.rules.specs.declared.answers.Refusal.the-variants.{NotCbor, NotAllowed, TooManyCommands, UnknownCommand}
-use Rattle.rules.specs.Answers.{endOf, failureOf}
+use Rattle.rules.specs.declared.answers.Refusal.the-variants.{NotCbor}
 use Rattle.rules.specs.Bytes.{Bytes, Span}
-use Rattle.rules.specs.Got.{got, found}
+use Rattle.rules.specs.Got.{got}
 use Rattle.rules.specs.Cbor.{BYTES, ARRAY, Head, after, item}
 use Rattle.rules.specs.Limits.{limits}
-use Rattle.rules.specs.Commands.{Row, rowOf, commands, isAllowed}
-use Rattle.rules.specs.Manifest.{Seq, Cmd, sub, try, Alts, last, or, count, countCmd}
-use Rattle.rules.specs.Check.{Read, number, strings, inBytes, alternativesAt, argument, command, sequenceAt}
+use Rattle.rules.specs.Commands.{Row, rowOf, commands}
+use Rattle.rules.specs.Manifest.{Seq, sub, try, Alts, last, or, count}
+use Rattle.rules.specs.Check.{Read, number, inBytes, alternativesAt, argument, command, sequenceAt}
 use Rattle.rules.specs.Step.{Env, State, Out, out}
-use Rattle.rules.specs.Run.{on, next, runSeq, runCmd, runAlts}
+use Rattle.rules.specs.Run.{on, next, runSeq, runAlts}
 use Rattle.rules.proofs.GotLaws.{passed, split, split₂, both}
 use Rattle.rules.proofs.CheckLaws.{Item, item-law}
 use Rattle.runner.specs.Cycle.{CommandAt}
+use Rattle.runner.proofs.ArgumentLaws.{command-coded}
 
 -- a command's code, and its argument
 pub record Coded (s : Bytes) (n depth events at : ℕ) (x : CommandAt s n depth events at) : Type 0 where
@@ -35,18 +35,12 @@ pub record Coded (s : Bytes) (n depth events at : ℕ) (x : CommandAt s n depth 
   pub few : x .m < limits .commands
   pub argument : Rattle.rules.specs.Check.argument s (sequenceAt s n (x .section) depth) n (x .m + 1) at (row .form) (x .e) from ≡ got (x .cmd, x .to)
 
-found-some : {A : Type 0} (o : mathlib.Core.Option.Option A) (p : ℕ) (a : A) → found o UnknownCommand p ≡ got a → o ≡ some a
-found-some mathlib.Core.Option.none p a e = let z : _≡_ {A = ℕ} 0 1 = cc in absurd (omega arith)
-found-some (some b) p a e = let q : b ≡ a = cc in rw q
-
 pub coded : (s : Bytes) (n depth events at : ℕ) (x : CommandAt s n depth events at) → Coded s n depth events at x
 unfolding command
 coded s n depth events at x =
     split₂ _ (number s (x .e) at) _ (x .cmd, x .to) (x .reads) λ c p qc q₁.
-    split _ (found (rowOf c commands) UnknownCommand at) _ (x .cmd, x .to) q₁ λ row qr q₂.
-    let (_, q₃) = passed (isAllowed (x .section) (row .allowed)) NotAllowed at _ (x .cmd, x .to) q₂ in
-    let (few, q₄) = passed (ltb (x .m) (limits .commands)) TooManyCommands at _ (x .cmd, x .to) q₃ in
-    record { code = c; from = p; reads = qc; row = row; listed = found-some (rowOf c commands) at row qr; few = ltb-true _ _ few; argument = q₄ }
+    let y = command-coded s (sequenceAt s n (x .section) depth) n (x .section) (x .m) (x .e) at (x .cmd) (x .to) (x .reads) c p qc in
+    record { code = c; from = p; reads = qc; row = y .row; listed = y .listed; few = y .room; argument = y .reads }
 
 -- a sequence in a byte string
 pub record InString (s : Bytes) (deeper : ℕ → Read Seq) (m e at : ℕ) (a : Seq) : Type 0 where

@@ -1,17 +1,17 @@
 -- What every sequence and command keeps: the lengths, the identifiers of slots, and that there are no more events than commands.
 use Prim.Native.Nat.{ℕ, _+_, _≤_, _<_, _%_}
-use mathlib.Core.Path.{_≡_, refl, sym, ap, _∙_}
+use mathlib.Core.Path.{_≡_, ap, _∙_}
 use mathlib.Core.Bool.{Bool}
-use mathlib.Core.List.{List, []}
+use mathlib.Core.List.{List}
 use native.Mathlib.Omega.{arith}
-use lib.ListN.{length, getD}
+use lib.ListN.{length}
 use Rattle.rules.specs.Bytes.{Bytes}
 use Rattle.rules.specs.Limits.{limits}
 use Rattle.rules.specs.Manifest.{Seq, Cmd, count, countCmd}
 use Rattle.rules.specs.Slots.{slotNames, slotOf}
 use Rattle.rules.specs.Step.{Env, State, Out}
 use Rattle.rules.specs.Run.{runSeq, runCmd}
-use Rattle.rules.proofs.Effects.{Did, follow, namedBy, Changes, Reaches, follow-law, seq-reaches, cmd-reaches}
+use Rattle.rules.proofs.Effects.{namedBy, Changes, Reaches, follow-law, seq-reaches, cmd-reaches}
 use Rattle.rules.proofs.SlotLaws.{names-same}
 use Rattle.runner.specs.declared.cycle.Run.{Run}
 use Rattle.slots.specs.Params.{FitAll}

@@ -6,22 +6,20 @@ use mathlib.Core.List.{List}
 use native.Mathlib.Omega.{arith}
 use lib.Dec.{eqb}
 use lib.ListN.{length}
-use borrow.Author.Tests.{eqb-true, eqb-false, ne-eqb}
-use Rattle.rules.specs.declared.answers.End.{End}
+use borrow.Author.Tests.{ne-eqb}
 use Rattle.rules.specs.declared.answers.End.the-variants.{Finished, ConditionFailed, Started, Failed}
-use Rattle.rules.specs.declared.answers.Refusal.the-variants.{Malformed, TooDeep}
+use Rattle.rules.specs.declared.answers.Refusal.the-variants.{Malformed}
 use Rattle.rules.specs.Answers.{endOf, failureOf}
 use Rattle.rules.specs.Bytes.{Bytes}
-use Rattle.rules.specs.Got.{got, refused}
+use Rattle.rules.specs.Got.{got}
 use Rattle.rules.specs.Cbor.{ARRAY, Head, item}
 use Rattle.rules.specs.Limits.{limits}
-use Rattle.rules.specs.Manifest.{Seq, end, then, Cmd, count, countCmd}
+use Rattle.rules.specs.Manifest.{Seq, end, then, Cmd, countCmd}
 use Rattle.rules.specs.Check.{command, commandsAt, sequenceAt}
 use Rattle.rules.specs.Step.{Env, State, Out, out}
 use Rattle.rules.specs.Run.{on, next, runSeq, runCmd, indexAfter, coerceAfter}
 use Rattle.rules.proofs.GotLaws.{passed, split, split₂, both}
 use Rattle.runner.specs.declared.cycle.Run.{Run}
-use Rattle.slots.specs.Params.{FitAll}
 use Rattle.runner.specs.Arguments.{isTrue}
 use Rattle.runner.specs.Cycle.{stateOf, outOf, Ready, CommandAt, SequenceAt, CommandJob, SequenceJob, CommandRan, SequenceRan, caughtBy}
 use Rattle.runner.specs.Heads.{Headed}

@@ -1,5 +1,5 @@
 -- The commands that hold sequences, as the code runs them.
-use Prim.Native.Nat.{ℕ, zero, suc, _+_, _-_, _≤_, _<_}
+use Prim.Native.Nat.{ℕ, _+_, _-_, _≤_, _<_}
 use mathlib.Core.Path.{_≡_, refl, sym, ap, _∙_}
 use mathlib.Core.Bool.{Bool, true, false, cond}
 use mathlib.Core.List.{List, [], _∷_}
@@ -7,13 +7,13 @@ use native.Mathlib.Omega.{arith}
 use lib.Dec.{eqb}
 use lib.ListN.{length}
 use borrow.Author.Tests.{ne-eqb}
-use Rattle.rules.specs.declared.answers.End.the-variants.{Finished, ConditionFailed, Started, Failed}
+use Rattle.rules.specs.declared.answers.End.the-variants.{Finished, Started, Failed}
 use Rattle.rules.specs.Answers.{endOf, failureOf}
 use Rattle.rules.specs.Bytes.{Bytes}
 use Rattle.rules.specs.Got.{got}
-use Rattle.rules.specs.Cbor.{BYTES, ARRAY, after, item}
+use Rattle.rules.specs.Cbor.{BYTES, ARRAY, after}
 use Rattle.rules.specs.Limits.{limits}
-use Rattle.rules.specs.Manifest.{Seq, Cmd, one, sub, try, Alts, count}
+use Rattle.rules.specs.Manifest.{Seq, Cmd, one, try, Alts, count}
 use Rattle.rules.specs.Check.{Read, strings, sequenceAt}
 use Rattle.rules.specs.Step.{Env, State, Out, out}
 use Rattle.rules.specs.Run.{on, next, runSeq, runCmd, indexAfter, coerceAfter}
@@ -21,7 +21,7 @@ use Rattle.rules.proofs.CheckLaws.{Item, item-law}
 use Rattle.runner.specs.declared.cycle.Run.{Run}
 use Rattle.slots.specs.Params.{FitAll}
 use Rattle.runner.specs.Heads.{Headed, Strings}
-use Rattle.runner.specs.Cycle.{stateOf, outOf, CommandAt, LeafJob, CommandJob, SequenceJob, CommandRan, SequenceRan}
+use Rattle.runner.specs.Cycle.{stateOf, outOf, LeafJob, CommandJob, SequenceJob, CommandRan, SequenceRan}
 use Rattle.runner.specs.Arguments.{One}
 use Rattle.runner.proofs.ArgumentLaws.{command-one}
 use Rattle.runner.proofs.HeadLaws.{item-headed, number-headed}
