@@ -7,3 +7,7 @@ pub mod Keeping
 pub mod SequenceRuns
 pub mod CommandRuns
 pub mod TryRuns
+pub mod IdentifiersRead
+pub mod SectionsRead
+pub mod SectionsLaws
+pub mod OutcomeLaws

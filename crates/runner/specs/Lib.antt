@@ -1,3 +1,5 @@
 pub mod Heads
 pub mod Arguments
 pub mod Cycle
+pub mod Sections
+pub mod Accepted

@@ -1,0 +1,3 @@
+pub mod AdmitLaws
+pub mod EndingLaws
+pub mod FrameLaws

@@ -1,0 +1,259 @@
+-- The run of sections one after the other: what is left of the rule's answer after each.
+use Prim.Native.Nat.{ℕ, _+_, _*_, _%_, _≤_, _<_}
+use mathlib.Core.Path.{_≡_, refl, sym, ap, _∙_}
+use mathlib.Core.List.{List, [], _∷_}
+use mathlib.Core.Bool.{Bool, true, false, cond}
+use native.Mathlib.Omega.{arith}
+use lib.Dec.{eqb}
+use lib.ListN.{length, getD}
+use borrow.Author.Tests.{eqb-true, eqb-false, ne-eqb}
+use Rattle.rules.specs.declared.answers.End.{End}
+use Rattle.rules.specs.declared.answers.End.the-variants.{Finished, ConditionFailed, Started, Failed}
+use Rattle.rules.specs.declared.answers.Group.{Group}
+use Rattle.rules.specs.Answers.{endOf, failureOf}
+use Rattle.rules.specs.Limits.{limits}
+use Rattle.rules.specs.Bytes.{Bytes}
+use Rattle.rules.specs.Commands.{among}
+use Rattle.rules.specs.Slots.{slotOf}
+use Rattle.rules.specs.Manifest.{Seq, count, Section}
+use Rattle.rules.specs.Step.{Env, State, Out, out}
+use Rattle.rules.specs.Run.{on, runSeq, runAll, sectionsOf, chosen, planOf}
+use Rattle.rules.proofs.Effects.{follow, follow-law, seq-reaches}
+use Rattle.rules.proofs.SlotLaws.{names-same}
+use Rattle.runner.specs.declared.cycle.Run.{Run}
+use Rattle.slots.specs.Params.{FitAll}
+use Rattle.commands.specs.Machine.{stateAt, Host, AllHold}
+use Rattle.runner.specs.Cycle.{stateOf, SequenceJob, SequenceRan}
+use Rattle.runner.specs.Sections.{keyOf, startOf, SectionsJob, SectionsRan}
+use Rattle.runner.proofs.SectionsRead.{Rest, Here, rest-start, rest-end, rest-none, rest-some}
+
+-- what a sequence leaves as it was
+record Kept (slots trace : Bytes) (events n : ℕ) (slots′ trace′ : Bytes) (events′ : ℕ) : Type 0 where
+  numbers : (id : Bytes) → slotOf id slots′ ≡ slotOf id slots
+  slots-length : length slots′ ≡ length slots
+  trace-length : length trace′ ≡ length trace
+  few : events′ ≤ events + n
+
+seq-kept : (env : Env) (q : Seq) (own : Bool) (i : ℕ) (c : Bool) (st : State) (o : Out) → o ≡ runSeq env q own i c st →
+    Kept (st .slots) (st .trace) (st .events) (count q) (o .state .slots) (o .state .trace) (o .state .events)
+unfolding slotOf
+seq-kept env q own i c st o e =
+    let r = seq-reaches env q own i c st in
+    let f : follow env (r .did) st ≡ o .state = r .goes ∙ ap (λ (x : Out). x .state) (sym e) in
+    let y = rw f at (follow-law env (r .did) st) in
+    record {
+      numbers = λ id. rw (names-same (o .state .slots) (st .slots) (y .slots-length) (y .fixed));
+      slots-length = y .slots-length;
+      trace-length = y .trace-length;
+      few = omega (arith, y .events, r .few);
+    }
+
+-- an end is no success unless its number is 0
+not-finished : (n : ℕ) → (n ≡ 0 → ⊥) → endOf n ≡ Finished → ⊥
+not-finished n h e = go (eqb n 1) (eqb n 2) (rw (ne-eqb n 0 h) at e)
+  where
+    go : (a b : Bool) → cond a ConditionFailed (cond b Started (Failed (failureOf n))) ≡ Finished → ⊥
+    go true b q = let z : _≡_ {A = ℕ} 0 1 = cc in omega arith
+    go false true q = let z : _≡_ {A = ℕ} 0 1 = cc in omega arith
+    go false false q = let z : _≡_ {A = ℕ} 0 1 = cc in omega arith
+
+next-stops : (e : End) (st : State) (f : State → Out) → (e ≡ Finished → ⊥) → on e st f (λ st′. out ConditionFailed st′) ≡ out e st
+unfolding on
+next-stops Finished st f h = absurd (h refl)
+next-stops ConditionFailed st f h = refl
+next-stops Started st f h = refl
+next-stops (Failed k) st f h = refl
+
+module _ (env : Env) (q : Seq) (qs : List Seq) (st : State) (e : End) (st′ : State) (h : out e st′ ≡ runSeq env q false 0 false st) where
+  all-next : runAll env (q ∷ qs) st ≡ on e st′ (λ x. runAll env qs x) (λ x. out ConditionFailed x)
+  unfolding runAll
+  all-next = rw (← h)
+
+  all-stops : (e ≡ Finished → ⊥) → runAll env (q ∷ qs) st ≡ out e st′
+  all-stops n = all-next ∙ next-stops e st′ (λ x. runAll env qs x) n
+
+  all-goes : e ≡ Finished → runAll env (q ∷ qs) st ≡ runAll env qs st′
+  unfolding on
+  all-goes n = all-next ∙ rw n
+
+module _ (s vendor class : Bytes) (found : List ℕ) (answers : Bytes) (group : Group) (places : List ℕ) (env : Env) (plan : List Seq) (slots₀ : Bytes) (words₀ : List ℕ) (trace₀ : Bytes) where
+  -- before section k: the rule's answer is that for the sections that are left, from what memory holds now
+  pub record Left (slots : Bytes) (words : List ℕ) (trace : Bytes) (run : Run) (k : ℕ) : Type 0 where
+    pub host : Host env vendor class answers found slots
+    pub hold : AllHold found slots
+    pub fit : FitAll s (length (env .ids)) words
+    pub answered : length answers % 37 ≡ 0
+    pub room : limits .trace ≤ length trace
+    pub inside : 0 < length (env .ids)
+    pub commands : ℕ
+    pub rest : List Section
+    pub stand : Rest s (length (env .ids)) places k commands rest
+    pub few : run .events ≤ commands
+    pub going : run .stop ≡ 0
+    pub goes : runAll env plan (stateAt s (length (env .ids)) words₀ slots₀ trace₀ 0 0) ≡ runAll env (chosen (sectionsOf group) rest) (stateOf s (length (env .ids)) words slots trace run)
+
+  module _ (slots : Bytes) (words : List ℕ) (trace : Bytes) (run : Run) (k : ℕ) (l : Left slots words trace run k) where
+    pub all-done : 6 ≤ k → SectionsRan s env plan slots₀ words₀ trace₀ run slots words trace
+    unfolding runAll
+    all-done h =
+        let e : l .rest ≡ [] = rest-end s (length (env .ids)) places k (l .commands) (l .rest) h (l .stand) in
+        let g : runAll env (chosen (sectionsOf group) (l .rest)) (stateOf s (length (env .ids)) words slots trace run) ≡ out Finished (stateOf s (length (env .ids)) words slots trace run) =
+        ap (λ (xs : List Section). runAll env (chosen (sectionsOf group) xs) (stateOf s (length (env .ids)) words slots trace run)) e in
+        record { goes = rw (l .going) (sym (l .goes ∙ g)); late = λ z. absurd (omega (arith, l .going)) }
+
+    -- section k is not the group's, or not there
+    module _ (h : k < 6) where
+      not-there : getD places (2 * k + 1) 0 ≡ 0 → Left slots words trace run (k + 1)
+      not-there e =
+          record {
+            host = l .host;
+            hold = l .hold;
+            fit = l .fit;
+            answered = l .answered;
+            room = l .room;
+            inside = l .inside;
+            commands = l .commands;
+            rest = l .rest;
+            stand = rest-none s (length (env .ids)) places k (l .commands) (l .rest) e (l .stand);
+            few = l .few;
+            going = l .going;
+            goes = l .goes;
+          }
+
+      not-wanted : (x : Here s (length (env .ids)) places k (l .commands) (l .rest)) → among (x .section .key) (sectionsOf group) ≡ false → Left slots words trace run (k + 1)
+      not-wanted x a =
+          record {
+            host = l .host;
+            hold = l .hold;
+            fit = l .fit;
+            answered = l .answered;
+            room = l .room;
+            inside = l .inside;
+            commands = l .commands + count (x .section .seq);
+            rest = x .others;
+            stand = x .left;
+            few = omega (arith, l .few);
+            going = l .going;
+            goes = l .goes ∙ ap (λ (xs : List Section). runAll env (chosen (sectionsOf group) xs) (stateOf s (length (env .ids)) words slots trace run)) (x .all) ∙ rw a;
+          }
+
+      abbrev pub Wanted : Bool → Type 0
+      Wanted w = w ≡ cond (eqb (getD places (2 * k + 1) 0) 0) false (among (keyOf k) (sectionsOf group))
+
+      skipped : Wanted false → Left slots words trace run (k + 1)
+      skipped w = go (eqb (getD places (2 * k + 1) 0) 0) refl
+        where
+          go : (b : Bool) → eqb (getD places (2 * k + 1) 0) 0 ≡ b → Left slots words trace run (k + 1)
+          go true e = not-there (eqb-true _ 0 e)
+          go false e =
+              let x = rest-some s (length (env .ids)) places k (l .commands) (l .rest) h (eqb-false _ 0 e) (l .stand) in
+              not-wanted x (rw (x .key) (sym (rw e at w)))
+
+      taken : Wanted true → (x : Here s (length (env .ids)) places k (l .commands) (l .rest)) × (among (x .section .key) (sectionsOf group) ≡ true)
+      taken w = go (eqb (getD places (2 * k + 1) 0) 0) refl
+        where
+          go : (b : Bool) → eqb (getD places (2 * k + 1) 0) 0 ≡ b → (x : Here s (length (env .ids)) places k (l .commands) (l .rest)) × (among (x .section .key) (sectionsOf group) ≡ true)
+          go true e = let y : _≡_ {A = Bool} true false = rw e at w in let z : _≡_ {A = ℕ} 0 1 = cc in absurd (omega arith)
+          go false e =
+              let x = rest-some s (length (env .ids)) places k (l .commands) (l .rest) h (eqb-false _ 0 e) (l .stand) in
+              (x, rw (x .key) (sym (rw e at w)))
+
+    -- section k is run
+    module _ (x : Here s (length (env .ids)) places k (l .commands) (l .rest)) where
+      abbrev job : SequenceJob s 4 (startOf (getD places (2 * k) 0) run) vendor class found answers slots words trace
+      job =
+          record {
+            ready = record { env = env; host = l .host; hold = l .hold; fit = l .fit; answered = l .answered; room = l .room; inside = l .inside };
+            place =
+                record {
+                  section = x .section .key;
+                  m = l .commands;
+                  e = x .section .place .to;
+                  fits = x .read .fits;
+                  seq = x .section .seq;
+                  to = x .section .place .to;
+                  reads = rw (x .from) (x .read .reads);
+                  few = l .few;
+                };
+          }
+
+      module _ (a : among (x .section .key) (sectionsOf group) ≡ true) (r : Run) (slots′ : Bytes) (words′ : List ℕ) (trace′ : Bytes)
+          (d : SequenceRan s env (x .section .seq) false (startOf (getD places (2 * k) 0) run) slots words trace r slots′ words′ trace′) where
+        first :
+            runAll env plan (stateAt s (length (env .ids)) words₀ slots₀ trace₀ 0 0)
+            ≡ runAll env (x .section .seq ∷ chosen (sectionsOf group) (x .others)) (stateOf s (length (env .ids)) words slots trace run)
+        first = l .goes ∙ ap (λ (xs : List Section). runAll env (chosen (sectionsOf group) xs) (stateOf s (length (env .ids)) words slots trace run)) (x .all) ∙ rw a
+
+        stopped : (r .stop ≡ 0 → ⊥) → SectionsRan s env plan slots₀ words₀ trace₀ r slots′ words′ trace′
+        stopped n =
+            record {
+              goes = sym (first ∙ all-stops env (x .section .seq) _ _ _ _ (d .goes) (not-finished (r .stop) n));
+              late = d .late;
+            }
+
+        went : r .stop ≡ 0 → Left slots′ words′ trace′ r (k + 1)
+        went z =
+            let y = seq-kept env (x .section .seq) false 0 false _ _ (d .goes) in
+            record {
+              host =
+                  record {
+                    vendors = l .host .vendors;
+                    classes = l .host .classes;
+                    replies = l .host .replies;
+                    few = l .host .few;
+                    numbers = λ i h. y .numbers _ ∙ l .host .numbers i h;
+                  };
+              hold = λ i h. omega (arith, l .hold i h, y .slots-length);
+              fit = d .fit;
+              answered = l .answered;
+              room = omega (arith, l .room, y .trace-length);
+              inside = l .inside;
+              commands = l .commands + count (x .section .seq);
+              rest = x .others;
+              stand = x .left;
+              few = omega (arith, l .few, y .few);
+              going = z;
+              goes = first ∙ all-goes env (x .section .seq) _ _ _ _ (d .goes) (rw z refl);
+            }
+
+    -- one turn of the loop, whether section k is run or not
+    module _ (h : k < 6) (w : Bool) (e : Wanted h w) where
+      pub turn-job : w ≡ true → SequenceJob s 4 (startOf (getD places (2 * k) 0) run) vendor class found answers slots words trace
+      turn-job t = let (x, a) = taken h (sym t ∙ e) in job x
+
+      module _ (r : Run) (slots′ : Bytes) (words′ : List ℕ) (trace′ : Bytes)
+          (run-it : w ≡ true → (j : SequenceJob s 4 (startOf (getD places (2 * k) 0) run) vendor class found answers slots words trace) →
+          SequenceRan s (j .ready .env) (j .place .seq) false (startOf (getD places (2 * k) 0) run) slots words trace r slots′ words′ trace′)
+          (skip-it : w ≡ false → (r ≡ run) × (slots′ ≡ slots) × (words′ ≡ words) × (trace′ ≡ trace)) where
+        pub turn-stops : (r .stop ≡ 0 → ⊥) → SectionsRan s env plan slots₀ words₀ trace₀ r slots′ words′ trace′
+        turn-stops n = go w refl
+          where
+            go : (b : Bool) → w ≡ b → SectionsRan s env plan slots₀ words₀ trace₀ r slots′ words′ trace′
+            go true t = let (x, a) = taken h (sym t ∙ e) in stopped x a r slots′ words′ trace′ (run-it t (job x)) n
+            go false t = absurd (n (ap (λ (y : Run). y .stop) (skip-it t .0) ∙ l .going))
+
+        pub turn-goes : r .stop ≡ 0 → Left slots′ words′ trace′ r (k + 1)
+        turn-goes z = go w refl
+          where
+            go : (b : Bool) → w ≡ b → Left slots′ words′ trace′ r (k + 1)
+            go true t = let (x, a) = taken h (sym t ∙ e) in went x a r slots′ words′ trace′ (run-it t (job x)) z
+            go false t = let (p, q, u, v) = skip-it t in rw (p, q, u, v) (skipped h (sym t ∙ e))
+
+pub left-start : (s vendor class : Bytes) (found : List ℕ) (answers : Bytes) (group : Group) (places : List ℕ) (slots : Bytes) (words : List ℕ) (trace : Bytes) →
+    (j : SectionsJob s places vendor class found answers slots words trace) →
+    Left s vendor class found answers group places (j .ready .env) (planOf group (j .manifest)) slots words trace slots words trace (record { next = 0; index = 0; coerce = 1; events = 0; used = 0; stop = 0 }) 0
+left-start s vendor class found answers group places slots words trace j =
+    record {
+      host = j .ready .host;
+      hold = j .ready .hold;
+      fit = j .ready .fit;
+      answered = j .ready .answered;
+      room = j .ready .room;
+      inside = j .ready .inside;
+      commands = 0;
+      rest = j .manifest .sections;
+      stand = rest-start s (length (j .ready .env .ids)) places (j .manifest) (sym (j .among)) (j .checks) (j .places);
+      few = omega arith;
+      going = refl;
+      goes = refl;
+    }
