@@ -43,13 +43,13 @@ module _ (s : Bytes) (code at : ℕ) (run : Run) (vendor class : Bytes) (found :
   leaf-inside = omega (arith, leaf-component, r .inside (run .index) (omega (arith, j .among, j .ready .inside)), j .among)
 
   pub leaf-fit : FitAll s 8 words
-  leaf-fit k h = record { source = omega (arith, j .ready .fit k h .source, j .ready .host .few); digest = j .ready .fit k h .digest }
+  leaf-fit k h = record { source = omega (arith, j .ready .lent .fit k h .source, j .ready .lent .host .few); digest = j .ready .lent .fit k h .digest }
 
   pub leaf-code : IsCode s code (a .value) (paramsOf a)
   leaf-code = rw (r .op) (one-plain s code at (j .argument) .0)
 
   pub leaf-room : 8 * run .events + 8 ≤ length trace
-  leaf-room = omega (arith, j .few, j .ready .room)
+  leaf-room = omega (arith, j .few, j .ready .lent .room)
 
   pub leaf-ran : (d : Done) (slots′ : Bytes) (words′ : List ℕ) (trace′ : Bytes) → d .events ≡ run .events + 1 →
       outAt s (length (j .ready .env .ids)) words′ slots′ trace′ d

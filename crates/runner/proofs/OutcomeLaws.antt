@@ -110,18 +110,21 @@ module _ (s : Bytes) (number n : ℕ) (ids sections : List ℕ) (a : Accepted s 
               ready =
                   record {
                     env = envOf (names s (a .manifest)) x;
-                    host =
+                    lent =
                         record {
-                          vendors = refl;
-                          classes = refl;
-                          replies = refl;
-                          few = known .some-ids .1;
-                          numbers = λ i h. sym (finds .number i h);
+                          host =
+                              record {
+                                vendors = refl;
+                                classes = refl;
+                                replies = refl;
+                                few = known .some-ids .1;
+                                numbers = λ i h. sym (finds .number i h);
+                              };
+                          hold = holds;
+                          fit = fit-start s _;
+                          answered = facts .answers;
+                          room = facts .trace;
                         };
-                    hold = holds;
-                    fit = fit-start s _;
-                    answered = facts .answers;
-                    room = facts .trace;
                     inside = known .some-ids .0;
                   };
               among = length-map (a .manifest .ids) (bytesAt s);

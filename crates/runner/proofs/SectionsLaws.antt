@@ -1,5 +1,5 @@
 -- The run of sections one after the other: what is left of the rule's answer after each.
-use Prim.Native.Nat.{ℕ, _+_, _*_, _%_, _≤_, _<_}
+use Prim.Native.Nat.{ℕ, _+_, _*_, _≤_, _<_}
 use mathlib.Core.Path.{_≡_, refl, sym, ap, _∙_}
 use mathlib.Core.List.{List, [], _∷_}
 use mathlib.Core.Bool.{Bool, true, false, cond}
@@ -11,42 +11,18 @@ use Rattle.rules.specs.declared.answers.End.{End}
 use Rattle.rules.specs.declared.answers.End.the-variants.{Finished, ConditionFailed, Started, Failed}
 use Rattle.rules.specs.declared.answers.Group.{Group}
 use Rattle.rules.specs.Answers.{endOf, failureOf}
-use Rattle.rules.specs.Limits.{limits}
 use Rattle.rules.specs.Bytes.{Bytes}
 use Rattle.rules.specs.Commands.{among}
-use Rattle.rules.specs.Slots.{slotOf}
 use Rattle.rules.specs.Manifest.{Seq, count, Section}
 use Rattle.rules.specs.Step.{Env, State, Out, out}
 use Rattle.rules.specs.Run.{on, runSeq, runAll, sectionsOf, chosen, planOf}
-use Rattle.rules.proofs.Effects.{follow, follow-law, seq-reaches}
-use Rattle.rules.proofs.SlotLaws.{names-same}
 use Rattle.runner.specs.declared.cycle.Run.{Run}
-use Rattle.slots.specs.Params.{FitAll}
-use Rattle.commands.specs.Machine.{stateAt, Host, AllHold}
+use Rattle.commands.specs.Machine.{stateAt}
 use Rattle.runner.specs.Cycle.{stateOf, SequenceJob, SequenceRan}
 use Rattle.runner.specs.Sections.{keyOf, startOf, SectionsJob, SectionsRan}
+use Rattle.commands.proofs.LentLaws.{Moves, moves-seq}
+use Rattle.runner.proofs.Keeping.{Kept, ready-of, kept-of, kept-after, events-after}
 use Rattle.runner.proofs.SectionsRead.{Rest, Here, rest-start, rest-end, rest-none, rest-some}
-
--- what a sequence leaves as it was
-record Kept (slots trace : Bytes) (events n : ℕ) (slots′ trace′ : Bytes) (events′ : ℕ) : Type 0 where
-  numbers : (id : Bytes) → slotOf id slots′ ≡ slotOf id slots
-  slots-length : length slots′ ≡ length slots
-  trace-length : length trace′ ≡ length trace
-  few : events′ ≤ events + n
-
-seq-kept : (env : Env) (q : Seq) (own : Bool) (i : ℕ) (c : Bool) (st : State) (o : Out) → o ≡ runSeq env q own i c st →
-    Kept (st .slots) (st .trace) (st .events) (count q) (o .state .slots) (o .state .trace) (o .state .events)
-unfolding slotOf
-seq-kept env q own i c st o e =
-    let r = seq-reaches env q own i c st in
-    let f : follow env (r .did) st ≡ o .state = r .goes ∙ ap (λ (x : Out). x .state) (sym e) in
-    let y = rw f at (follow-law env (r .did) st) in
-    record {
-      numbers = λ id. rw (names-same (o .state .slots) (st .slots) (y .slots-length) (y .fixed));
-      slots-length = y .slots-length;
-      trace-length = y .trace-length;
-      few = omega (arith, y .events, r .few);
-    }
 
 -- an end is no success unless its number is 0
 not-finished : (n : ℕ) → (n ≡ 0 → ⊥) → endOf n ≡ Finished → ⊥
@@ -79,12 +55,7 @@ module _ (env : Env) (q : Seq) (qs : List Seq) (st : State) (e : End) (st′ : S
 module _ (s vendor class : Bytes) (found : List ℕ) (answers : Bytes) (group : Group) (places : List ℕ) (env : Env) (plan : List Seq) (slots₀ : Bytes) (words₀ : List ℕ) (trace₀ : Bytes) where
   -- before section k: the rule's answer is that for the sections that are left, from what memory holds now
   pub record Left (slots : Bytes) (words : List ℕ) (trace : Bytes) (run : Run) (k : ℕ) : Type 0 where
-    pub host : Host env vendor class answers found slots
-    pub hold : AllHold found slots
-    pub fit : FitAll s (length (env .ids)) words
-    pub answered : length answers % 37 ≡ 0
-    pub room : limits .trace ≤ length trace
-    pub inside : 0 < length (env .ids)
+    pub kept : Kept env s vendor class found answers slots words trace 0
     pub commands : ℕ
     pub rest : List Section
     pub stand : Rest s (length (env .ids)) places k commands rest
@@ -106,12 +77,7 @@ module _ (s vendor class : Bytes) (found : List ℕ) (answers : Bytes) (group : 
       not-there : getD places (2 * k + 1) 0 ≡ 0 → Left slots words trace run (k + 1)
       not-there e =
           record {
-            host = l .host;
-            hold = l .hold;
-            fit = l .fit;
-            answered = l .answered;
-            room = l .room;
-            inside = l .inside;
+            kept = l .kept;
             commands = l .commands;
             rest = l .rest;
             stand = rest-none s (length (env .ids)) places k (l .commands) (l .rest) e (l .stand);
@@ -123,12 +89,7 @@ module _ (s vendor class : Bytes) (found : List ℕ) (answers : Bytes) (group : 
       not-wanted : (x : Here s (length (env .ids)) places k (l .commands) (l .rest)) → among (x .section .key) (sectionsOf group) ≡ false → Left slots words trace run (k + 1)
       not-wanted x a =
           record {
-            host = l .host;
-            hold = l .hold;
-            fit = l .fit;
-            answered = l .answered;
-            room = l .room;
-            inside = l .inside;
+            kept = l .kept;
             commands = l .commands + count (x .section .seq);
             rest = x .others;
             stand = x .left;
@@ -163,7 +124,7 @@ module _ (s vendor class : Bytes) (found : List ℕ) (answers : Bytes) (group : 
       abbrev job : SequenceJob s 4 (startOf (getD places (2 * k) 0) run) vendor class found answers slots words trace
       job =
           record {
-            ready = record { env = env; host = l .host; hold = l .hold; fit = l .fit; answered = l .answered; room = l .room; inside = l .inside };
+            ready = ready-of s vendor class found answers env slots words trace 0 (l .kept);
             place =
                 record {
                   section = x .section .key;
@@ -193,25 +154,14 @@ module _ (s vendor class : Bytes) (found : List ℕ) (answers : Bytes) (group : 
 
         went : r .stop ≡ 0 → Left slots′ words′ trace′ r (k + 1)
         went z =
-            let y = seq-kept env (x .section .seq) false 0 false _ _ (d .goes) in
+            let st : State = stateOf s (length (env .ids)) words slots trace run in
+            let y : Moves st (runSeq env (x .section .seq) false 0 false st .state) (count (x .section .seq)) = moves-seq env (x .section .seq) false 0 false st in
             record {
-              host =
-                  record {
-                    vendors = l .host .vendors;
-                    classes = l .host .classes;
-                    replies = l .host .replies;
-                    few = l .host .few;
-                    numbers = λ i h. y .numbers _ ∙ l .host .numbers i h;
-                  };
-              hold = λ i h. omega (arith, l .hold i h, y .slots-length);
-              fit = d .fit;
-              answered = l .answered;
-              room = omega (arith, l .room, y .trace-length);
-              inside = l .inside;
+              kept = kept-after s vendor class found answers env slots words trace 0 (l .kept) run _ _ y r slots′ words′ trace′ (d .goes) (d .fit) 0 (l .kept .inside);
               commands = l .commands + count (x .section .seq);
               rest = x .others;
               stand = x .left;
-              few = omega (arith, l .few, y .few);
+              few = events-after s vendor class found answers (length (env .ids)) words slots trace run _ _ (l .commands) y (l .few) r slots′ words′ trace′ (d .goes);
               going = z;
               goes = first ∙ all-goes env (x .section .seq) _ _ _ _ (d .goes) (rw z refl);
             }
@@ -244,12 +194,7 @@ pub left-start : (s vendor class : Bytes) (found : List ℕ) (answers : Bytes) (
     Left s vendor class found answers group places (j .ready .env) (planOf group (j .manifest)) slots words trace slots words trace (record { next = 0; index = 0; coerce = 1; events = 0; used = 0; stop = 0 }) 0
 left-start s vendor class found answers group places slots words trace j =
     record {
-      host = j .ready .host;
-      hold = j .ready .hold;
-      fit = j .ready .fit;
-      answered = j .ready .answered;
-      room = j .ready .room;
-      inside = j .ready .inside;
+      kept = kept-of s vendor class found answers slots words trace 0 (j .ready);
       commands = 0;
       rest = j .manifest .sections;
       stand = rest-start s (length (j .ready .env .ids)) places (j .manifest) (sym (j .among)) (j .checks) (j .places);

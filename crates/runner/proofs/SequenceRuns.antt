@@ -24,7 +24,8 @@ use Rattle.runner.specs.Arguments.{isTrue}
 use Rattle.runner.specs.Cycle.{stateOf, outOf, Ready, CommandAt, SequenceAt, CommandJob, SequenceJob, CommandRan, SequenceRan, caughtBy}
 use Rattle.runner.specs.Heads.{Headed}
 use Rattle.runner.proofs.HeadLaws.{item-headed}
-use Rattle.runner.proofs.Keeping.{Moves, moves-cmd, Kept, ready-of, kept-of, kept-after, events-after}
+use Rattle.commands.proofs.LentLaws.{Moves, moves-cmd}
+use Rattle.runner.proofs.Keeping.{Kept, ready-of, kept-of, kept-after, events-after}
 
 -- k commands at `at` as check read them
 pub record CommandsAt (s : Bytes) (n depth events k at : ℕ) : Type 0 where
@@ -211,7 +212,7 @@ module _ (s vendor class : Bytes) (found : List ℕ) (answers : Bytes) (depth : 
   sequence-done z =
       record {
         goes = loop-done s vendor class found answers depth own slots words trace left now env _ l z;
-        fit = l .kept .fit;
+        fit = l .kept .lent .fit;
         late = λ h. absurd (omega (arith, l .calm));
       }
 

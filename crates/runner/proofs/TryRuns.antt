@@ -25,7 +25,8 @@ use Rattle.runner.specs.Cycle.{stateOf, outOf, LeafJob, CommandJob, Sequ
 use Rattle.runner.specs.Arguments.{One}
 use Rattle.runner.proofs.ArgumentLaws.{command-one}
 use Rattle.runner.proofs.HeadLaws.{item-headed, number-headed}
-use Rattle.runner.proofs.Keeping.{Moves, moves-seq, Kept, ready-of, kept-of, kept-after, events-after}
+use Rattle.commands.proofs.LentLaws.{Moves, moves-seq}
+use Rattle.runner.proofs.Keeping.{Kept, ready-of, kept-of, kept-after, events-after}
 use Rattle.runner.proofs.CommandRuns.{Coded, coded, InString, Sub, its-sequence, Tries, its-alternatives, listOf, Alternatives, alternatives-law, tryAll, try-law}
 
 -- the run where a sequence starts, and after a command that held sequences
@@ -253,7 +254,7 @@ module _ (s vendor class : Bytes) (found : List ℕ) (answers : Bytes) (depth : 
       let st : State = stateOf s (length (env .ids)) words slots trace now in
       holds-sequences s env cmd to run slots₀ words₀ trace₀ p now slots words trace
       (rw (l .final z .0) (sym (l .goes ∙ ap (λ (a : List Seq). tryAll env a (run .index) st) none)))
-      (l .kept .fit) (λ x. l .final z .1) (λ x. at) (l .kept .inside) (λ i. rw (l .is)) (λ c. rw (l .is))
+      (l .kept .lent .fit) (λ x. l .final z .1) (λ x. at) (l .kept .inside) (λ i. rw (l .is)) (λ c. rw (l .is))
 
   module _ (h : 0 < k) where
     abbrev pub its-choice : Choice s (length (env .ids)) depth (now .events) k p to (l .place)

@@ -1,5 +1,5 @@
 -- Sequences and commands as they stand in an accepted envelope, and what their runs give.
-use Prim.Native.Nat.{ℕ, _+_, _*_, _%_, _≤_, _<_}
+use Prim.Native.Nat.{ℕ, _≤_, _<_}
 use mathlib.Core.Path.{_≡_}
 use mathlib.Core.Bool.{Bool, false, _&&_, cond}
 use lib.Dec.{eqb}
@@ -15,7 +15,7 @@ use Rattle.rules.specs.Step.{Env, State, Out, out}
 use Rattle.rules.specs.Run.{runSeq, runCmd, indexAfter, coerceAfter}
 use Rattle.runner.specs.declared.cycle.Run.{Run}
 use Rattle.slots.specs.Params.{FitAll}
-use Rattle.commands.specs.Machine.{stateAt, Host, AllHold}
+use Rattle.commands.specs.Machine.{stateAt, Lent}
 use Rattle.runner.specs.Arguments.{isTrue, One}
 
 -- the state and the outcome that a run has reached
@@ -28,11 +28,7 @@ outOf s n words slots trace r = out (endOf (r .stop)) (stateOf s n words slots t
 -- a run over lent memory, at one of the components
 pub record Ready (s vendor class : Bytes) (found : List ℕ) (answers slots : Bytes) (words : List ℕ) (trace : Bytes) (index : ℕ) : Type 0 where
   pub env : Env
-  pub host : Host env vendor class answers found slots
-  pub hold : AllHold found slots
-  pub fit : FitAll s (length (env .ids)) words
-  pub answered : length answers % 37 ≡ 0
-  pub room : limits .trace ≤ length trace
+  pub lent : Lent env s vendor class found answers slots words trace
   pub inside : index < length (env .ids)
 
 -- the command or sequence at `at` as check read it, after at least as many commands as there are events; those in it may be `depth` deep

@@ -10,11 +10,11 @@ performs c κs =
     let r = c .before .before .before .before .read-one .ensures (j .argument) in
     let e = c .before .before .before .component .ensures in
     let i = leaf-inside _ _ _ _ _ _ _ _ _ _ _ j _ r _ e in (
-      omega (arith, i, j .ready .host .few),
+      omega (arith, i, j .ready .lent .host .few),
       r .sixteen,
-      j .ready .hold,
+      j .ready .lent .hold,
       leaf-fit _ _ _ _ _ _ _ _ _ _ _ j _ r _ e,
-      j .ready .answered,
+      j .ready .lent .answered,
       leaf-code _ _ _ _ _ _ _ _ _ _ _ j _ r _ e,
       leaf-room _ _ _ _ _ _ _ _ _ _ _ j _ r _ e,
     )
@@ -28,8 +28,8 @@ ran c = λ j.
     -- of perform: its event is counted, the outcome is the rule's, parameters fit as before
     let (counted, _, goes, fits) = d .perform .ensures in
     leaf-ran _ _ _ _ _ _ _ _ _ _ _ j _ r _ e (d .perform .result) _ _ _ counted
-    (goes (j .ready .env) (j .ready .host) (leaf-inside _ _ _ _ _ _ _ _ _ _ _ j _ r _ e) (j .ready .fit))
-    (fits _ (j .ready .fit) (rw n at (r .fit)))
+    (goes (j .ready .env) (j .ready .lent .host) (leaf-inside _ _ _ _ _ _ _ _ _ _ _ j _ r _ e) (j .ready .lent .fit))
+    (fits _ (j .ready .lent .fit) (rw n at (r .fit)))
     _ (c .either .ensures)
 
 pub leaf-spec : {M : Type 1} → statement M
