@@ -1,5 +1,6 @@
 -- What a run hands back, and what it leaves in lent memory.
 use Prim.Native.Nat.{ℕ, _-_, _*_}
+use mathlib.Core.Path.{_≡_}
 use mathlib.Core.Bool.{Bool, cond}
 use lib.Dec.{eqb}
 use Rattle.rules.specs.declared.controller.Controller.{Controller}
@@ -29,6 +30,10 @@ slotsAfter slots (got r) = r .slots
 abbrev pub traceAfter : Bytes → Got Ran → Bytes
 traceAfter trace (refused r p) = trace
 traceAfter trace (got r) = r .trace
+
+-- r, and what is in the lent slots and trace after the run, are what the rule's answer g says
+abbrev pub Settles : Controller → Got Ran → Outcome → Bytes → Bytes → Bytes → Bytes → Type 0
+Settles device g r slots slots′ trace trace′ = (r ≡ outcomeOf device g) × (slots′ ≡ slotsAfter slots g) × (trace′ ≡ traceAfter trace g)
 
 -- the number of a refusal, 0 for none
 abbrev pub stopOf : {A : Type 0} → Got A → ℕ

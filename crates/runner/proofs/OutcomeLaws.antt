@@ -2,22 +2,17 @@
 use Prim.Native.Nat.{ℕ, _*_, _≤_, _<_}
 use mathlib.Core.Path.{_≡_, refl, sym, ap, _∙_, subst}
 use mathlib.Core.List.{List}
-use mathlib.Core.Bool.{Bool, true, false}
 use native.Mathlib.Omega.{arith}
-use lib.Dec.{ltb}
-use lib.ListN.{length, getD, replicate, length-map, getD-replicate}
-use borrow.Author.Tests.{ltb-true, ltb-false}
+use lib.ListN.{length, getD, replicate, length-map}
 use Rattle.rules.specs.declared.answers.Group.{Group}
 use Rattle.rules.specs.declared.answers.Refusal.{Refusal}
 use Rattle.rules.specs.Answers.{refusalOf, endOf}
 use Rattle.rules.specs.Limits.{limits}
 use Rattle.rules.specs.Bytes.{Bytes, Span, span, bytesAt, spanAt}
 use Rattle.rules.specs.Got.{Got, refused, got, _>>=_}
-use Rattle.rules.specs.Commands.{Params}
 use Rattle.rules.specs.Manifest.{Manifest, names}
 use Rattle.rules.specs.Check.{check}
-use Rattle.rules.specs.Run.{Input, runAll, planOf, admit, numberAfter, report, startState, envOf, runOf, runEnvelope}
-use Rattle.rules.specs.Step.{state}
+use Rattle.rules.specs.Run.{Input, runAll, planOf, admit, numberAfter, report, envOf, runOf, runEnvelope}
 use Rattle.rules.proofs.Effects.{envelope-effects}
 use Rattle.rules.proofs.ManifestLaws.{Sound, sound}
 use Rattle.envelope.specs.declared.report.Checked.{Checked}
@@ -27,19 +22,15 @@ use Rattle.envelope.specs.Report.{reportOf}
 use Rattle.identifiers.proofs.IdentifierLaws.{span-laid}
 use Rattle.frame.specs.declared.answer.Answer.the-variants.{Refused, Ran}
 use Rattle.frame.specs.declared.answer.Ending.{Ending}
-use Rattle.frame.specs.declared.answer.Outcome.{Outcome}
 use Rattle.runner.specs.declared.cycle.Run.{Run}
-use Rattle.slots.specs.Slot.{Holds, namesAt, Found}
-use Rattle.commands.specs.Machine.{stateAt, AllHold}
-use Rattle.frame.specs.Answer.{stopOf, endingOf, outcomeOf, slotsAfter, traceAfter}
+use Rattle.slots.specs.Slot.{namesAt, Found}
+use Rattle.frame.specs.Answer.{stopOf, endingOf, Settles}
 use Rattle.runner.specs.Cycle.{outOf}
 use Rattle.runner.specs.Sections.{SectionsJob, SectionsRan}
 use Rattle.runner.specs.Accepted.{Accepted}
-use Rattle.slots.proofs.ParamsLaws.{params-start, fit-start}
-use Rattle.slots.proofs.SearchLaws.{good-some, names-laid}
+use Rattle.slots.proofs.SearchLaws.{names-laid}
 use Rattle.runner.proofs.IdentifiersRead.{In, ids-in}
-use Rattle.frame.proofs.EndingLaws.{finished-law}
-use Rattle.frame.proofs.FrameLaws.{admit-zero, by-number, no-number, Tested, tested}
+use Rattle.frame.proofs.FrameLaws.{refused-run, ran-run, trace-room, lent-start, state-start, settles-refused, settles-ran}
 
 module _ (s : Bytes) (number n : ℕ) (ids sections : List ℕ) (a : Accepted s number n ids sections) where
   known : Sound s (a .manifest)
@@ -69,95 +60,56 @@ module _ (s : Bytes) (number n : ℕ) (ids sections : List ℕ) (a : Accepted s 
     stops : refusal ≡ stopOf (admit group (a .manifest .number) (names s (a .manifest)) x)
     stops = rw (← a .numbered, ← named) e
 
-    refused-run : (refusal ≡ 0 → ⊥) → runEnvelope s group x ≡ refused (refusalOf refusal) 0
-    unfolding runEnvelope runOf
-    refused-run d =
-        let y : admit group (a .manifest .number) (names s (a .manifest)) x ≡ refused (refusalOf refusal) 0 =
-        by-number group (a .manifest .number) (names s (a .manifest)) x _ (admit-zero group (a .manifest .number) (names s (a .manifest)) x) refusal stops d in
-        rw (a .checks, y)
-
     pub refused-answer : (refusal ≡ 0 → ⊥) → (r : Refusal) → r ≡ refusalOf refusal →
-        _≡_ {A = Outcome} (record { answer = Refused r 0; number = x .device .number }) (outcomeOf (x .device) (runEnvelope s group x))
-        × (x .slots ≡ slotsAfter (x .slots) (runEnvelope s group x)) × (x .trace ≡ traceAfter (x .trace) (runEnvelope s group x))
-    refused-answer d r q = rw (refused-run d, q) (refl, refl, refl)
+        Settles (x .device) (runEnvelope s group x) (record { answer = Refused r 0; number = x .device .number }) (x .slots) (x .slots) (x .trace) (x .trace)
+    unfolding runEnvelope
+    refused-answer d r q =
+        settles-refused x (runEnvelope s group x) r 0
+        (rw (a .checks, refused-run group (a .manifest .number) (names s (a .manifest)) x refusal stops (λ env st. runAll env (planOf group (a .manifest)) st) d, q))
 
-    module _ (z : refusal ≡ 0) where
-      admitted : admit group (a .manifest .number) (names s (a .manifest)) x ≡ got tt
-      admitted = no-number group (a .manifest .number) (names s (a .manifest)) x _ refusal stops z
+    module _ (z : refusal ≡ 0) (found : List ℕ) (f : Found (namesAt s ids n) (x .slots) (replicate 8 0) found) where
+      unfoldable whole : SectionsJob s sections (x .device .vendor) (x .device .class) found (x .answers) (x .slots) (replicate 40 0) (x .trace)
+      whole =
+          record {
+            manifest = a .manifest;
+            checks = a .checks;
+            places = a .places;
+            ready =
+                record {
+                  env = envOf (names s (a .manifest)) x;
+                  lent = lent-start group (a .manifest .number) (names s (a .manifest)) x refusal stops z (known .some-ids .1) found (rw named at f) s;
+                  inside = known .some-ids .0;
+                };
+            among = length-map (a .manifest .ids) (bytesAt s);
+          }
 
-      facts : Tested group (a .manifest .number) (names s (a .manifest)) x
-      facts = tested group (a .manifest .number) (names s (a .manifest)) x admitted
+      pub job : SectionsJob s sections (x .device .vendor) (x .device .class) found (x .answers) (x .slots) (replicate 40 0) (x .trace)
+      job = whole
 
-      module _ (found : List ℕ) (f : Found (namesAt s ids n) (x .slots) (replicate 8 0) found) where
-        finds : Found (names s (a .manifest)) (x .slots) (replicate 8 0) found
-        finds = rw named at f
+      module _ (r : Run) (slots′ : Bytes) (words′ : List ℕ) (trace′ : Bytes)
+          (d : (j : SectionsJob s sections (x .device .vendor) (x .device .class) found (x .answers) (x .slots) (replicate 40 0) (x .trace)) →
+          SectionsRan s (j .ready .env) (planOf group (j .manifest)) (x .slots) (replicate 40 0) (x .trace) r slots′ words′ trace′) where
+        ran : SectionsRan s (envOf (names s (a .manifest)) x) (planOf group (a .manifest)) (x .slots) (replicate 40 0) (x .trace) r slots′ words′ trace′
+        unfolding whole
+        ran = d whole
 
-        holds : AllHold found (x .slots)
-        holds i h = go (ltb i (length (names s (a .manifest)))) refl
-          where
-            go : (b : Bool) → ltb i (length (names s (a .manifest))) ≡ b → Holds (x .slots) (getD found i 0)
-            go true l = finds .there i (ltb-true _ _ l)
-            go false l =
-                let y : getD found i 0 ≡ 0 = finds .beyond i (ltb-false _ _ l) ∙ getD-replicate {A = ℕ} 8 i 0 0 h in
-                rw y (omega (arith, good-some (x .slots) (facts .slots)))
+        run-as : runEnvelope s group x ≡ got (report group (a .manifest .number) x (outOf s (length (names s (a .manifest))) words′ slots′ trace′ r))
+        unfolding runEnvelope
+        run-as =
+            rw (a .checks)
+            (ran-run group (a .manifest .number) (names s (a .manifest)) x refusal stops z (λ env st. runAll env (planOf group (a .manifest)) st) _
+            (ran .goes ∙ ap (runAll (envOf (names s (a .manifest)) x) (planOf group (a .manifest))) (state-start s (names s (a .manifest)) x)))
 
-        unfoldable whole : SectionsJob s sections (x .device .vendor) (x .device .class) found (x .answers) (x .slots) (replicate 40 0) (x .trace)
-        whole =
-            record {
-              manifest = a .manifest;
-              checks = a .checks;
-              places = a .places;
-              ready =
-                  record {
-                    env = envOf (names s (a .manifest)) x;
-                    lent =
-                        record {
-                          host =
-                              record {
-                                vendors = refl;
-                                classes = refl;
-                                replies = refl;
-                                few = known .some-ids .1;
-                                numbers = λ i h. sym (finds .number i h);
-                              };
-                          hold = holds;
-                          fit = fit-start s _;
-                          answered = facts .answers;
-                          room = facts .trace;
-                        };
-                    inside = known .some-ids .0;
-                  };
-              among = length-map (a .manifest .ids) (bytesAt s);
-            }
+        pub last-event : (0 < r .stop → 0 < r .events) × (8 * r .events ≤ length trace′)
+        unfolding report
+        last-event =
+            let f = envelope-effects s group (a .manifest) x _ (a .checks) run-as in
+            (ran .late, omega (arith, f .fits, f .trace-length, trace-room group (a .manifest .number) (names s (a .manifest)) x refusal stops z))
 
-        pub job : SectionsJob s sections (x .device .vendor) (x .device .class) found (x .answers) (x .slots) (replicate 40 0) (x .trace)
-        job = whole
-
-        module _ (r : Run) (slots′ : Bytes) (words′ : List ℕ) (trace′ : Bytes)
-            (d : (j : SectionsJob s sections (x .device .vendor) (x .device .class) found (x .answers) (x .slots) (replicate 40 0) (x .trace)) →
-            SectionsRan s (j .ready .env) (planOf group (j .manifest)) (x .slots) (replicate 40 0) (x .trace) r slots′ words′ trace′) where
-          ran : SectionsRan s (envOf (names s (a .manifest)) x) (planOf group (a .manifest)) (x .slots) (replicate 40 0) (x .trace) r slots′ words′ trace′
-          unfolding whole
-          ran = d whole
-
-          started : stateAt s (length (names s (a .manifest))) (replicate 40 0) (x .slots) (x .trace) 0 0 ≡ startState (names s (a .manifest)) x
-          started = ap (λ (ps : List Params). state ps (x .slots) (x .trace) 0 0) (params-start s (length (names s (a .manifest))))
-
-          run-as : runEnvelope s group x ≡ got (report group (a .manifest .number) x (outOf s (length (names s (a .manifest))) words′ slots′ trace′ r))
-          unfolding runEnvelope runOf
-          run-as = rw (a .checks, admitted, ← started, ← ran .goes)
-
-          pub last-event : (0 < r .stop → 0 < r .events) × (8 * r .events ≤ length trace′)
-          unfolding report
-          last-event =
-              let f = envelope-effects s group (a .manifest) x _ (a .checks) run-as in
-              (ran .late, omega (arith, f .fits, f .trace-length, facts .trace))
-
-          pub answered : (ending : Ending) (after : ℕ) → ending ≡ endingOf (r .stop) (r .events) (r .used) trace′ → after ≡ numberAfter group (endOf (r .stop)) number (x .device .number) →
-              _≡_ {A = Outcome} (record { answer = Ran ending; number = after }) (outcomeOf (x .device) (runEnvelope s group x))
-              × (slots′ ≡ slotsAfter (x .slots) (runEnvelope s group x)) × (trace′ ≡ traceAfter (x .trace) (runEnvelope s group x))
-          unfolding report
-          answered ending after p q = rw (run-as, p, q, a .numbered, finished-law (r .stop)) (refl, refl, refl)
+        pub answered : (ending : Ending) (after : ℕ) → ending ≡ endingOf (r .stop) (r .events) (r .used) trace′ → after ≡ numberAfter group (endOf (r .stop)) number (x .device .number) →
+            Settles (x .device) (runEnvelope s group x) (record { answer = Ran ending; number = after }) (x .slots) slots′ (x .trace) trace′
+        answered ending after p q =
+            settles-ran group (a .manifest .number) x (r .stop) (r .events) (r .used) _ slots′ trace′ (runEnvelope s group x) run-as ending after p (rw (← a .numbered) q)
 
 -- what check reported
 differ : (k : Refusal) (p : ℕ) → _≡_ {A = Checked} (The.Refused k p) The.Accepted → ⊥
@@ -194,6 +146,5 @@ module _ (s : Bytes) (r : Report) (e : r ≡ reportOf (check s)) where
         go (got m) u = absurd (differ k p (sym h ∙ ap (λ (z : Report). z .answer) u))
 
     pub refused-check : (group : Group) (x : Input) →
-        _≡_ {A = Outcome} (record { answer = Refused k p; number = x .device .number }) (outcomeOf (x .device) (runEnvelope s group x))
-        × (x .slots ≡ slotsAfter (x .slots) (runEnvelope s group x)) × (x .trace ≡ traceAfter (x .trace) (runEnvelope s group x))
-    refused-check group x = rw (not-run group x) (refl, refl, refl)
+        Settles (x .device) (runEnvelope s group x) (record { answer = Refused k p; number = x .device .number }) (x .slots) (x .slots) (x .trace) (x .trace)
+    refused-check group x = settles-refused x (runEnvelope s group x) k p (not-run group x)

@@ -2,7 +2,7 @@
 ghost use mathlib.Core.Path.{_≡_};
 ghost use Prim.Native.Nat.{_-_};
 ghost use Rattle.rules.specs.Run.{runEnvelope};
-ghost use Rattle.frame.specs.Answer.{inputOf, outcomeOf, slotsAfter, traceAfter};
+ghost use Rattle.frame.specs.Answer.{inputOf, Settles};
 ghost use Rattle.runner.specs.Accepted.{Accepted};
 use envelope::check;
 use envelope::report::Checked;
@@ -36,7 +36,7 @@ fn run_checked(
     trace: &mut [u8],
 ) -> Outcome
     requires { ⌜ Accepted (now s) number n (now ids) (now sections) ⌝ }
-    ensures { λ r. ⌜ (r ≡ outcomeOf device (runEnvelope (now (s .entry)) group (inputOf verdict device (now (slots .entry)) (now (answers .entry)) (now (trace .entry))))) × (now (slots .exit) ≡ slotsAfter (now (slots .entry)) (runEnvelope (now (s .entry)) group (inputOf verdict device (now (slots .entry)) (now (answers .entry)) (now (trace .entry))))) × (now (trace .exit) ≡ traceAfter (now (trace .entry)) (runEnvelope (now (s .entry)) group (inputOf verdict device (now (slots .entry)) (now (answers .entry)) (now (trace .entry))))) ⌝ }
+    ensures { λ r. ⌜ Settles device (runEnvelope (now (s .entry)) group (inputOf verdict device (now (slots .entry)) (now (answers .entry)) (now (trace .entry)))) r (now (slots .entry)) (now (slots .exit)) (now (trace .entry)) (now (trace .exit)) ⌝ }
 {
     let mut found = [0usize; 8];
     let refusal = admit(
@@ -89,7 +89,7 @@ pub fn run(
     answers: &[u8],
     trace: &mut [u8],
 ) -> Outcome
-    ensures { λ r. ⌜ (r ≡ outcomeOf device (runEnvelope (now (s .entry)) group (inputOf verdict device (now (slots .entry)) (now (answers .entry)) (now (trace .entry))))) × (now (slots .exit) ≡ slotsAfter (now (slots .entry)) (runEnvelope (now (s .entry)) group (inputOf verdict device (now (slots .entry)) (now (answers .entry)) (now (trace .entry))))) × (now (trace .exit) ≡ traceAfter (now (trace .entry)) (runEnvelope (now (s .entry)) group (inputOf verdict device (now (slots .entry)) (now (answers .entry)) (now (trace .entry))))) ⌝ }
+    ensures { λ r. ⌜ Settles device (runEnvelope (now (s .entry)) group (inputOf verdict device (now (slots .entry)) (now (answers .entry)) (now (trace .entry)))) r (now (slots .entry)) (now (slots .exit)) (now (trace .entry)) (now (trace .exit)) ⌝ }
 {
     let report = check(s);
     let answer = report.answer;
