@@ -100,13 +100,13 @@ fn enter(run: Run, at: usize, now: Run) -> Run
 }
 
 // The run after a command that held sequences: its caller's index and coerce, with what `now` has done.
-fn leave(run: Run, at: usize, now: Run) -> Run
-    ensures { λ r. ⌜ r ≡ record { next = at; index = run .index; coerce = run .coerce; events = now .events; used = now .used; stop = now .stop } ⌝ }
+fn leave(caller: Run, at: usize, now: Run) -> Run
+    ensures { λ r. ⌜ r ≡ record { next = at; index = caller .index; coerce = caller .coerce; events = now .events; used = now .used; stop = now .stop } ⌝ }
 {
     Run {
         next: at,
-        index: run.index,
-        coerce: run.coerce,
+        index: caller.index,
+        coerce: caller.coerce,
         events: now.events,
         used: now.used,
         stop: now.stop,
