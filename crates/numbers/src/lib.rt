@@ -20,7 +20,7 @@ pub fn two(s: &[u8], at: usize) -> usize
 
 pub fn four(s: &[u8], at: usize) -> usize
     requires { ⌜ at + 4 ≤ length (now s) ⌝ }
-    ensures { λ r. ⌜ r ≡ ((getD (now (s .entry)) at 0 * 256 + getD (now (s .entry)) (at + 1) 0) * 256 + getD (now (s .entry)) (at + 2) 0) * 256 + getD (now (s .entry)) (at + 3) 0 ⌝ }
+    ensures { λ r. ⌜ (r ≡ ((getD (now (s .entry)) at 0 * 256 + getD (now (s .entry)) (at + 1) 0) * 256 + getD (now (s .entry)) (at + 2) 0) * 256 + getD (now (s .entry)) (at + 3) 0) × (r < 4294967296) ⌝ }
 {
     (two(s, at) * 256 + wide(s[at + 2])) * 256 + wide(s[at + 3])
 }

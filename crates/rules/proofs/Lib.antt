@@ -14,6 +14,7 @@ pub mod FlatLaws
 pub mod Demand3
 pub mod SlotLaws
 pub mod Effects
+pub mod ProgramFaults
 pub mod TableLaws
 pub mod BytesLaws
 pub mod CborLaws

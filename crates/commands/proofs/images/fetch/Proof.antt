@@ -34,7 +34,7 @@ returns-4 c =
     let at = 37 * args .used in
     let l : at + 37 ≤ length (args .answers .now) = omega arith in
     let n : c .before .four .result ≡ num (part (args .answers .now) (at + 1) 4) =
-    rw (num-4 (args .answers .now) (at + 1) (omega arith)) (c .before .four .ensures) in (
+    rw (num-4 (args .answers .now) (at + 1) (omega arith)) (c .before .four .ensures .0) in (
       search needs,
       search needs,
       λ s env i st a x u.
@@ -54,7 +54,7 @@ returns-5 c =
     let at = 37 * args .used in
     let l : at + 37 ≤ length (args .answers .now) = omega (arith, c .before .before .before .before .before .before .before .before .before .before .before .if2 .left, c .before .before .before .before .before .before .before .before .before .before .before .before .before .before .before .pre .1) in
     let n : c .before .before .before .before .before .before .four .result ≡ num (part (args .answers .now) (at + 1) 4) =
-    rw (num-4 (args .answers .now) (at + 1) (omega arith)) (c .before .before .before .before .before .before .four .ensures) in (
+    rw (num-4 (args .answers .now) (at + 1) (omega arith)) (c .before .before .before .before .before .before .four .ensures .0) in (
       search needs,
       search needs,
       λ s env i st a x u.

@@ -9,7 +9,7 @@ use Rattle.slots.proofs.slot.size.Tie as tie
 
 returns : tie.Need-returns
 unfolding slotAt
-returns c = let a = c .before .before .args in c .four .ensures ∙ sym (num-4 (a .slots .now) (74 * a .k + 38) (omega arith))
+returns c = let a = c .before .before .args in c .four .ensures .0 ∙ sym (num-4 (a .slots .now) (74 * a .k + 38) (omega arith))
 
 pub size-spec : {M : Type 1} → statement M
 size-spec = tie.close (tie.spec (λ c. search needs) (λ c. search needs) (λ c κs. search needs) returns)
