@@ -1,11 +1,12 @@
 // The parameters of a command, as a program writes them: key, length, value.
 ghost use mathlib.Core.Path.{_≡_};
-ghost use Prim.Native.Nat.{_-_, _≤_, _<_};
+ghost use mathlib.Core.Bool.{false};
+ghost use Prim.Native.Nat.{_+_, _-_, _≤_, _<_};
 ghost use lib.ListN.{length};
 ghost use Rattle.rules.specs.Bytes.{part};
 ghost use Rattle.rules.specs.ProgramTest as Rule;
-ghost use Rattle.program.specs.Test.{nextIn, ParamsAre};
-use numbers::four;
+ghost use Rattle.program.specs.Test.{nextIn, placeIn, lengthIn, sourceIn, sizeIn, ParamsAre};
+use numbers::two;
 use numbers::wide;
 use rules::controller::Controller;
 
@@ -47,7 +48,9 @@ pub fn optional(p: &[u8], at: usize, to: usize, key: usize, lo: usize, hi: usize
     at + 2 + n
 }
 
-fn bad() -> Entries {
+fn bad() -> Entries
+    ensures { λ r. ⌜ r .good ≡ false ⌝ }
+{
     Entries {
         good: false,
         uri: 0,
@@ -56,6 +59,48 @@ fn bad() -> Entries {
         digest: 0,
         size: 0,
     }
+}
+
+// Of a parameter that stands from `at` to `next`, where its value starts, and its length; 0 if there is none.
+fn place_of(at: usize, next: usize) -> usize
+    requires { ⌜ ((at ≡ next → ⊥) → at + 2 ≤ next) ⌝ }
+    ensures { λ r. ⌜ r ≡ placeIn at next ⌝ }
+{
+    if at == next {
+        return 0;
+    }
+    at + 2
+}
+
+fn length_of(at: usize, next: usize) -> usize
+    requires { ⌜ ((at ≡ next → ⊥) → at + 2 ≤ next) ⌝ }
+    ensures { λ r. ⌜ r ≡ lengthIn at next ⌝ }
+{
+    if at == next {
+        return 0;
+    }
+    next - at - 2
+}
+
+// One more than its value of one byte, and of four.
+fn source_of(p: &[u8], at: usize, next: usize) -> usize
+    requires { ⌜ ((at ≡ next → ⊥) → at + 3 ≤ length (now p)) ⌝ }
+    ensures { λ r. ⌜ r ≡ sourceIn (now (p .entry)) at next ⌝ }
+{
+    if at == next {
+        return 0;
+    }
+    wide(p[at + 2]) + 1
+}
+
+fn size_of(p: &[u8], at: usize, next: usize) -> usize
+    requires { ⌜ ((at ≡ next → ⊥) → at + 6 ≤ length (now p)) ⌝ }
+    ensures { λ r. ⌜ r ≡ sizeIn (now (p .entry)) at next ⌝ }
+{
+    if at == next {
+        return 0;
+    }
+    two(p, at + 2) * 65536 + two(p, at + 4) + 1
 }
 
 // The parameters from `from` to `to`, for n components.
@@ -79,16 +124,16 @@ pub fn read_params(p: &[u8], from: usize, to: usize, n: usize) -> Entries
     if d != to {
         return bad();
     }
-    let source = if b == a { 0 } else { wide(p[a + 2]) + 1 };
+    let source = source_of(p, a, b);
     if n < source {
         return bad();
     }
     Entries {
         good: true,
-        uri: if a == from { 0 } else { from + 2 },
-        length: if a == from { 0 } else { a - from - 2 },
+        uri: place_of(from, a),
+        length: length_of(from, a),
         source,
-        digest: if c == b { 0 } else { b + 2 },
-        size: if d == c { 0 } else { four(p, c + 2) + 1 },
+        digest: place_of(b, c),
+        size: size_of(p, c, d),
     }
 }

@@ -1,149 +1,87 @@
+use native.Mathlib.Omega.{arith}
 use borrow.Author.Needs.{needs}
+use Rattle.program.proofs.EntryLaws.{step-length, step-in}
+use Rattle.program.proofs.ParamLaws.{no-uri, uri-step, source-pre, no-source, source-step, digest-pre, no-digest, digest-step, size-pre, size-step, not-all, no-component, all-read}
 use Rattle.program.proofs.entries.read_params.Statement.{statement}
 use Rattle.program.proofs.entries.read_params.Tie as tie
-use Rattle.program.proofs.entries.read_params.Reads as reads
-use Rattle.program.proofs.entries.read_params.Lts as lts
-use Rattle.numbers.proofs.four.Reads as four-reads
-use Rattle.numbers.proofs.wide.Reads as wide-reads
-use Rattle.program.proofs.entries.bad.Reads as bad-reads
-use Rattle.program.proofs.entries.optional.Reads as optional-reads
 
--- src/entries.rt:66:9
-optional-requires : tie.Need-optional-requires
-optional-requires c κs = search needs
+no-first : tie.Need-returns
+no-first c =
+    no-uri _ _ _ _ (c .before .before .before .before .pre) _ (c .before .before .optional .ensures) (c .before .if1 .taken) _ (c .bad .ensures)
 
--- src/entries.rt:68:9
-bad-requires : tie.Need-bad-requires
-bad-requires c κs = search needs
+second-requires : tie.Need-optional-requires-2
+second-requires c κs =
+    source-pre _ 0 _ _ (c .before .before .before .pre) _ (c .before .optional .ensures) (c .if1 .left)
 
--- src/entries.rt:68:9
-returns : tie.Need-returns
-returns c = ?
+no-second : tie.Need-returns-2
+no-second c =
+    no-source _ _ _ _ (c .before .before .before .before .before .before .pre) _ (c .before .before .before .before .optional .ensures) (c .before .before .before .if1 .left) _ (c .before .before .optional2 .ensures) (c .before .if2 .taken) _ (c .bad2 .ensures)
 
--- src/entries.rt:70:9
-optional-requires-2 : tie.Need-optional-requires-2
-optional-requires-2 c κs = ?
+third-requires : tie.Need-optional-requires-3
+third-requires c κs =
+    digest-pre _ 0 _ _ (c .before .before .before .before .before .pre) _ (c .before .before .before .optional .ensures) (c .before .before .if1 .left) _ (c .before .optional2 .ensures) (c .if2 .left)
 
--- src/entries.rt:72:9
-bad-requires-2 : tie.Need-bad-requires-2
-bad-requires-2 c κs = search needs
+no-third : tie.Need-returns-3
+no-third c =
+    no-digest _ _ _ _ (c .before .before .before .before .before .before .before .before .pre) _ (c .before .before .before .before .before .before .optional .ensures) (c .before .before .before .before .before .if1 .left) _ (c .before .before .before .before .optional2 .ensures) (c .before .before .before .if2 .left) _ (c .before .before .optional3 .ensures) (c .before .if3 .taken) _ (c .bad3 .ensures)
 
--- src/entries.rt:72:9
-returns-2 : tie.Need-returns-2
-returns-2 c = ?
+fourth-requires : tie.Need-optional-requires-4
+fourth-requires c κs =
+    size-pre _ 0 _ _ (c .before .before .before .before .before .before .before .pre) _ (c .before .before .before .before .before .optional .ensures) (c .before .before .before .before .if1 .left) _ (c .before .before .before .optional2 .ensures) (c .before .before .if2 .left) _ (c .before .optional3 .ensures) (c .if3 .left)
 
--- src/entries.rt:74:9
-optional-requires-3 : tie.Need-optional-requires-3
-optional-requires-3 c κs = ?
+no-fourth : tie.Need-returns-4
+no-fourth c =
+    not-all _ _ _ _ (c .before .before .before .before .before .before .before .before .before .before .pre) _ (c .before .before .before .before .before .before .before .before .optional .ensures) (c .before .before .before .before .before .before .before .if1 .left) _ (c .before .before .before .before .before .before .optional2 .ensures) (c .before .before .before .before .before .if2 .left) _ (c .before .before .before .before .optional3 .ensures) (c .before .before .before .if3 .left) _ (c .before .before .optional4 .ensures) (c .before .if4 .taken) _ (c .bad4 .ensures)
 
--- src/entries.rt:76:9
-bad-requires-3 : tie.Need-bad-requires-3
-bad-requires-3 c κs = search needs
+source-requires : tie.Need-source-of-requires
+source-requires c κs =
+    step-in _ _ _ _ _ _ _ (source-step _ 0 _ _ (c .before .before .before .before .before .before .before .before .before .pre) _ (c .before .before .before .before .before .before .before .optional .ensures) (c .before .before .before .before .before .before .if1 .left) _ (c .before .before .before .before .before .optional2 .ensures) (c .before .before .before .before .if2 .left)) 3 (omega arith) (omega arith)
 
--- src/entries.rt:76:9
-returns-3 : tie.Need-returns-3
-returns-3 c = ?
+past : tie.Need-returns-5
+past c =
+    no-component _ _ _ _ (c .before .before .before .before .before .before .before .before .before .before .before .before .pre) _ (c .before .before .before .before .before .before .before .before .before .before .optional .ensures) (c .before .before .before .before .before .before .before .before .before .if1 .left) _ (c .before .before .before .before .before .before .before .before .optional2 .ensures) (c .before .before .before .before .before .before .before .if2 .left) _ (c .before .before .before .before .before .before .optional3 .ensures) (c .before .before .before .before .before .if3 .left) _ (c .before .before .before .before .optional4 .ensures) (c .before .before .before .if4 .left) (rw (← c .before .before .source-of .ensures) (c .before .if5 .taken)) _ (c .bad5 .ensures)
 
--- src/entries.rt:78:9
-optional-requires-4 : tie.Need-optional-requires-4
-optional-requires-4 c κs = ?
+uri-requires : tie.Need-place-of-requires
+uri-requires c κs =
+    step-length _ _ _ _ _ _ _ (uri-step _ 0 _ _ (c .before .before .before .before .before .before .before .before .before .before .before .pre) _ (c .before .before .before .before .before .before .before .before .before .optional .ensures) (c .before .before .before .before .before .before .before .before .if1 .left))
 
--- src/entries.rt:80:9
-bad-requires-4 : tie.Need-bad-requires-4
-bad-requires-4 c κs = search needs
+length-requires : tie.Need-length-of-requires
+length-requires c κs =
+    step-length _ _ _ _ _ _ _ (uri-step _ 0 _ _ (c .before .before .before .before .before .before .before .before .before .before .before .before .pre) _ (c .before .before .before .before .before .before .before .before .before .before .optional .ensures) (c .before .before .before .before .before .before .before .before .before .if1 .left))
 
--- src/entries.rt:80:9
-returns-4 : tie.Need-returns-4
-returns-4 c = ?
+digest-requires : tie.Need-place-of-requires-2
+digest-requires c κs =
+    step-length _ _ _ _ _ _ _ (digest-step _ 0 _ _ (c .before .before .before .before .before .before .before .before .before .before .before .before .before .pre) _ (c .before .before .before .before .before .before .before .before .before .before .before .optional .ensures) (c .before .before .before .before .before .before .before .before .before .before .if1 .left) _ (c .before .before .before .before .before .before .before .before .before .optional2 .ensures) (c .before .before .before .before .before .before .before .before .if2 .left) _ (c .before .before .before .before .before .before .before .optional3 .ensures) (c .before .before .before .before .before .before .if3 .left))
 
--- src/entries.rt:82:48
-add-wide : tie.Need-add-wide
-add-wide c = ?
+size-requires : tie.Need-size-of-requires
+size-requires c κs =
+    step-in _ _ _ _ _ _ _ (size-step _ 0 _ _ (c .before .before .before .before .before .before .before .before .before .before .before .before .before .before .pre) _ (c .before .before .before .before .before .before .before .before .before .before .before .before .optional .ensures) (c .before .before .before .before .before .before .before .before .before .before .before .if1 .left) _ (c .before .before .before .before .before .before .before .before .before .before .optional2 .ensures) (c .before .before .before .before .before .before .before .before .before .if2 .left) _ (c .before .before .before .before .before .before .before .before .optional3 .ensures) (c .before .before .before .before .before .before .before .if3 .left) _ (c .before .before .before .before .before .before .optional4 .ensures) (c .before .before .before .before .before .if4 .left)) 6 (omega arith) (omega arith)
 
--- src/entries.rt:82:46
-shared-slice-read-wide : tie.Need-shared-slice-read-wide
-shared-slice-read-wide c = ?
-
--- src/entries.rt:82:41
-wide-requires : tie.Need-wide-requires
-wide-requires c κs = search needs
-
--- src/entries.rt:82:41
-add-source : tie.Need-add-source
-add-source c = search needs
-
--- src/entries.rt:84:9
-bad-requires-5 : tie.Need-bad-requires-5
-bad-requires-5 c κs = search needs
-
--- src/entries.rt:84:9
-returns-5 : tie.Need-returns-5
-returns-5 c = ?
-
--- src/entries.rt:88:40
-add-t47 : tie.Need-add-t47
-add-t47 c = search needs
-
--- src/entries.rt:89:43
-sub-t56 : tie.Need-sub-t56
-sub-t56 c = ?
-
--- src/entries.rt:89:43
-sub-t53 : tie.Need-sub-t53
-sub-t53 c = ?
-
--- src/entries.rt:91:40
-add-t62 : tie.Need-add-t62
-add-t62 c = ?
-
--- src/entries.rt:92:46
-add-four : tie.Need-add-four
-add-four c = ?
-
--- src/entries.rt:92:38
-four-requires : tie.Need-four-requires
-four-requires c κs = ?
-
--- src/entries.rt:92:38
-add-t68 : tie.Need-add-t68
-add-t68 c = ?
-
--- src/entries.rt:62:1
-returns-6 : tie.Need-returns-6
-returns-6 c = ?
-
--- src/entries.rt:62:1
-returns-7 : tie.Need-returns-7
-returns-7 c = ?
+good : tie.Need-returns-6
+good c =
+    all-read _ _ _ _ (c .before .before .before .before .before .before .before .before .before .before .before .before .before .before .before .pre) _ (c .before .before .before .before .before .before .before .before .before .before .before .before .before .optional .ensures) (c .before .before .before .before .before .before .before .before .before .before .before .before .if1 .left) _ (c .before .before .before .before .before .before .before .before .before .before .before .optional2 .ensures) (c .before .before .before .before .before .before .before .before .before .before .if2 .left) _ (c .before .before .before .before .before .before .before .before .before .optional3 .ensures) (c .before .before .before .before .before .before .before .before .if3 .left) _ (c .before .before .before .before .before .before .before .optional4 .ensures) (c .before .before .before .before .before .before .if4 .left) _ _ _ _ _ (c .before .before .before .place-of .ensures) (c .before .before .length-of .ensures) (c .before .before .before .before .before .source-of .ensures) (c .before .place-of2 .ensures) (c .size-of .ensures) (c .before .before .before .before .if5 .left)
 
 pub read-params-spec : {M : Type 1} → statement M
 read-params-spec =
     tie.close
     (tie.spec
-    optional-requires
-    bad-requires
-    returns
-    optional-requires-2
-    bad-requires-2
-    returns-2
-    optional-requires-3
-    bad-requires-3
-    returns-3
-    optional-requires-4
-    bad-requires-4
-    returns-4
-    add-wide
-    shared-slice-read-wide
-    wide-requires
-    add-source
-    bad-requires-5
-    returns-5
-    add-t47
-    sub-t56
-    sub-t53
-    add-t62
-    add-four
-    four-requires
-    add-t68
-    returns-6
-    returns-7)
+    (λ c κs. search needs)
+    (λ c κs. search needs)
+    no-first
+    second-requires
+    (λ c κs. search needs)
+    no-second
+    third-requires
+    (λ c κs. search needs)
+    no-third
+    fourth-requires
+    (λ c κs. search needs)
+    no-fourth
+    source-requires
+    (λ c κs. search needs)
+    past
+    uri-requires
+    length-requires
+    digest-requires
+    size-requires
+    good)
