@@ -1,3 +1,4 @@
+pub mod ArgumentLaws
 pub mod EntryLaws
 pub mod ParamLaws
 pub mod PartLaws

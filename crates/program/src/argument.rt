@@ -39,7 +39,9 @@ pub fn allows(sections: u8, group: Group) -> bool
     ensures { λ r. ⌜ ((c : ℕ) (row : Row) → rowOf c commands ≡ some row → setOf (row .allowed) ≡ sections → r ≡ Rule.groupAllows group (row .allowed)) ⌝ }
 {
     match group {
+        // common (1), 8 and 9
         Group::Install => sections % 8 != 0,
+        // common, 10, 11 and 12: a row that allows common allows every section
         Group::Boot => sections / 8 != 0,
     }
 }

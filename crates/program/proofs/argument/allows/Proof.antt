@@ -1,24 +1,13 @@
 use borrow.Author.Needs.{needs}
+use Rattle.program.proofs.ArgumentLaws.{install-allows, boot-allows}
 use Rattle.program.proofs.argument.allows.Statement.{statement}
 use Rattle.program.proofs.argument.allows.Tie as tie
-use Rattle.program.proofs.argument.allows.Reads as reads
-use Rattle.program.proofs.argument.allows.Lts as lts
 
--- src/argument.rt:42:27
-enum-told : tie.Need-enum-told
-enum-told c = search needs
+install : tie.Need-returns
+install c code row r e = install-allows code row r _ e _ (c .enum-told .given .1)
 
--- src/argument.rt:43:24
-enum-told-2 : tie.Need-enum-told-2
-enum-told-2 c = search needs
-
--- src/argument.rt:38:1
-returns : tie.Need-returns
-returns c = ?
-
--- src/argument.rt:38:1
-returns-2 : tie.Need-returns-2
-returns-2 c = ?
+boot : tie.Need-returns-2
+boot c code row r e = boot-allows code row r _ e _ (c .enum-told2 .given .1)
 
 pub allows-spec : {M : Type 1} → statement M
-allows-spec = tie.close (tie.spec enum-told enum-told-2 returns returns-2)
+allows-spec = tie.close (tie.spec (λ c. search needs) (λ c. search needs) install boot)

@@ -1,23 +1,19 @@
+use native.Mathlib.Omega.{arith}
+use Rattle.program.proofs.ArgumentLaws.{no-target, not-condition, not-forward, forward}
 use Rattle.program.proofs.argument.target_fits.Statement.{statement}
 use Rattle.program.proofs.argument.target_fits.Tie as tie
-use Rattle.program.proofs.argument.target_fits.Reads as reads
-use Rattle.program.proofs.argument.target_fits.Lts as lts
 
--- src/argument.rt:52:9
-returns : tie.Need-returns
-returns c = ?
+none : tie.Need-returns
+none c op e = no-target op _ _ _ _ e (c .if1 .taken)
 
--- src/argument.rt:55:9
-returns-2 : tie.Need-returns-2
-returns-2 c = ?
+command : tie.Need-returns-2
+command c op e = not-condition op _ _ _ _ e (c .before .if1 .left) (omega arith)
 
--- src/argument.rt:58:9
-returns-3 : tie.Need-returns-3
-returns-3 c = ?
+back : tie.Need-returns-3
+back c op e = not-forward op _ _ _ _ e (c .before .before .if1 .left) (omega arith) (omega arith)
 
--- src/argument.rt:48:1
-returns-4 : tie.Need-returns-4
-returns-4 c = ?
+on : tie.Need-returns-4
+on c op e = forward op _ _ _ _ e (c .before .before .if1 .left) (omega arith) (omega arith)
 
 pub target-fits-spec : {M : Type 1} → statement M
-target-fits-spec = tie.close (tie.spec returns returns-2 returns-3 returns-4)
+target-fits-spec = tie.close (tie.spec none command back on)
