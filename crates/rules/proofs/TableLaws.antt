@@ -1,7 +1,7 @@
 -- The tables of commands and parameters: what the proofs of the look-ups lean on, and for callers what a row's set of sections
 -- says of each section. What holds of a whole table is one computed test.
 use Prim.Native.Nat.{ℕ, zero, suc, _+_, _/_, _%_, _≤_, _<_}
-use mathlib.Core.Path.{_≡_, refl, sym}
+use mathlib.Core.Path.{_≡_, refl, sym, subst}
 use mathlib.Core.List.{List, [], _∷_, head-eq-of-cons-eq, tail-eq-of-cons-eq}
 use mathlib.Core.Bool.{Bool, true, false, not, _&&_, _||_, cond}
 use mathlib.Core.Option.{some, none}
@@ -100,6 +100,25 @@ same-true : (a b : Bool) → same a b ≡ true → a ≡ b
 same-true true b e = sym e
 same-true false true e = e
 same-true false false e = refl
+
+-- two tests that agree on each row
+pub rows-agree : (f g : Row → Bool) (c : ℕ) (r : Row) → all (λ x. same (f x) (g x)) commands ≡ true → rowOf c commands ≡ some r → f r ≡ g r
+rows-agree f g c r t e = same-true (f r) (g r) (row-of (λ x. same (f x) (g x)) commands c r t e)
+
+-- what holds of each row and its number holds of the row of a code
+abbrev pub Each : (ℕ → Row → Type 0) → List Row → Type 0
+Each P [] = Unit {0}
+Each P (r ∷ rs) = P (r .number) r × Each P rs
+
+pub each-row : (P : ℕ → Row → Type 0) (rs : List Row) (c : ℕ) (r : Row) → Each P rs → rowOf c rs ≡ some r → P c r
+each-row P [] c r t e = let z : _≡_ {A = ℕ} 0 1 = cc in absurd (omega arith)
+each-row P (x ∷ xs) c r t e = go (eqb c (x .number)) refl (each-row P xs c r (t .1)) e
+  where
+    go : (b : Bool) → eqb c (x .number) ≡ b → (rowOf c xs ≡ some r → P c r) → elim b [ true ↦ some x | false ↦ rowOf c xs ] ≡ some r → P c r
+    go true h next q =
+        let s : x ≡ r = cc in
+        subst (λ (y : Row). P c y) s (subst (λ (k : ℕ). P k x) (sym (eqb-true c (x .number) h)) (t .0))
+    go false h next q = next q
 
 -- a row's set of sections as a number has the bit of each section that the row allows
 abbrev pub sections : List ℕ
