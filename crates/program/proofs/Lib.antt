@@ -1,1 +1,3 @@
 pub mod NameLaws
+pub mod PartLaws
+pub mod RecordsLaws

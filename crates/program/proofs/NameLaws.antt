@@ -1,17 +1,15 @@
 -- The identifiers of a program, one after the other, by their places.
-use Prim.Native.Nat.{ℕ, zero, suc, _+_, _-_, _*_, _≤_, _<_}
+use Prim.Native.Nat.{ℕ, suc, _+_, _-_, _*_, _≤_, _<_}
 use mathlib.Core.Path.{_≡_, refl, sym, ap, subst, _∙_}
 use mathlib.Core.List.{List, [], _∷_, _++_, append-assoc, append-nil}
 use mathlib.Core.Bool.{Bool, true, false, _&&_}
 use native.Mathlib.Omega.{arith}
-use native.Mathlib.Numerals.{add-one}
 use native.Mathlib.Nat.{add-zero}
 use borrow.Author.Count.{below-more}
 use lib.Dec.{leb, eqb}
-use lib.ListN.{length, getD, take, drop, set, length-drop, length-set, length-append, List·getD-append}
-use lib.Seq.{getD-drop, drop-drop, drop-cons, ext-getD, getD-at, getD-set-same, getD-set-other}
+use lib.ListN.{length, getD, drop, set, length-drop, length-set, length-append, List·getD-append}
+use lib.Seq.{getD-drop, drop-drop, ext-getD, getD-at, getD-set-same, getD-set-other}
 use borrow.Author.Tests.{eqb-true, eqb-false, leb-true, le-leb, lt-leb, eq-eqb, ne-eqb}
-use Rattle.rules.specs.declared.answers.Refusal.the-variants.{BadProgram}
 use Rattle.rules.specs.Limits.{limits}
 use Rattle.rules.specs.Bytes.{Bytes, Span, part, span, spanAt, bytesAt}
 use Rattle.rules.specs.Got.{Got, refused, got, _>>=_}
@@ -19,18 +17,13 @@ use Rattle.rules.specs.ProgramTest.{need, bad, marked, idsIn}
 use Rattle.rules.proofs.GotLaws.{and-true}
 use Rattle.slots.specs.Slot.{namesAt}
 use Rattle.slots.proofs.SearchLaws.{name-at, names-count}
+use Rattle.program.proofs.PartLaws.{rest-at, same-3}
 use Rattle.program.specs.Test.{nextIn, NamesAre}
-
--- the place where bytes that are left start
-pub left-at : (p : Bytes) (at : ℕ) → at ≤ length p → length p - length (drop at p) ≡ at
-left-at p at h = omega (arith, length-drop at p)
 
 pub marked-at : (p : Bytes) (at c : ℕ) → at + 3 ≤ length p →
     marked c (drop at p) ≡ (eqb (getD p at 0) 0x53 && (eqb (getD p (at + 1) 0) 0x50 && (eqb (getD p (at + 2) 0) c && true)))
 marked-at p at c h =
-    let e : at + 1 ≡ suc at = omega arith in
-    let f : at + 2 ≡ suc (suc at) = omega arith in
-    rw (e, f, drop-cons p at 0 (omega arith), drop-cons p (suc at) 0 (omega arith), drop-cons p (suc (suc at)) 0 (omega arith))
+    same-3 (drop at p) 0x53 0x50 c (omega (arith, length-drop at p)) ∙ rw (getD-drop at p 0 0, getD-drop at p 1 0, getD-drop at p 2 0, add-zero at)
 
 -- one identifier before the others
 abbrev onto : Bytes → Got (List Bytes × Bytes) → Got (List Bytes × Bytes)
@@ -57,7 +50,7 @@ module _ (p : Bytes) (at : ℕ) where
   unfolding idsIn
   good-one e h =
       let g : one ≡ got (part p (at + 4) size ∷ [], drop (at + 4 + size) p) = ids-turn 0 ∙ rw e in
-      sym (ap (nextIn (length p)) g ∙ left-at p (at + 4 + size) h)
+      sym (ap (nextIn (length p)) g ∙ rest-at p (at + 4 + size) h)
 
   fits : tests ≡ true → at + 4 + size ≤ length p
   fits e = omega (arith, leb-true (4 + size) (length p - at) (and-true (leb 4 (length p - at) && marked 0xfd (drop at p) && leb 1 size && leb size (limits .identifier)) _ e .1))
@@ -176,7 +169,7 @@ module _ (p : Bytes) (at n : ℕ) (places : List ℕ) where
     sofar-end q =
         let z : n - k ≡ 0 = omega arith in
         let g : idsIn n (drop at p) ≡ got (namesAt p places n, drop next p) = f .all ∙ rw (z, q, append-nil) in
-        rw g (sym (left-at p next (f .here)), (refl, rw (← q) (f .within)))
+        rw g (sym (rest-at p next (f .here)), (refl, rw (← q) (f .within)))
 
     module _ (l : k < n) (r : ℕ) (q : r ≡ nextIn (length p) (idsIn 1 (drop next p))) where
       left : n - k ≡ suc (n - (k + 1))

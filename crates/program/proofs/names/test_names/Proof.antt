@@ -1,5 +1,5 @@
 -- The invariant: k identifiers were read, and their places stand in the array, which has 16 numbers.
-use Prim.Native.Nat.{_-_, _≤_, _<_}
+use Prim.Native.Nat.{_-_, _≤_}
 use mathlib.Core.Path.{_≡_}
 use native.Mathlib.Omega.{arith}
 use borrow.Author.Needs.{needs}
