@@ -1,5 +1,5 @@
 -- The identifiers of a program, one after the other, by their places.
-use Prim.Native.Nat.{ℕ, suc, _+_, _-_, _*_, _≤_, _<_}
+use Prim.Native.Nat.{ℕ, zero, suc, _+_, _-_, _*_, _≤_, _<_}
 use mathlib.Core.Path.{_≡_, refl, sym, ap, subst, _∙_}
 use mathlib.Core.List.{List, [], _∷_, _++_, append-assoc, append-nil}
 use mathlib.Core.Bool.{Bool, true, false, _&&_}
@@ -10,11 +10,13 @@ use lib.Dec.{leb, eqb}
 use lib.ListN.{length, getD, drop, set, length-drop, length-set, length-append, List·getD-append}
 use lib.Seq.{getD-drop, drop-drop, ext-getD, getD-at, getD-set-same, getD-set-other}
 use borrow.Author.Tests.{eqb-true, eqb-false, leb-true, le-leb, lt-leb, eq-eqb, ne-eqb}
+use Rattle.rules.specs.declared.answers.Refusal.{Refusal}
+use Rattle.rules.specs.declared.answers.Refusal.the-variants.{BadProgram}
 use Rattle.rules.specs.Limits.{limits}
 use Rattle.rules.specs.Bytes.{Bytes, Span, part, span, spanAt, bytesAt}
 use Rattle.rules.specs.Got.{Got, refused, got, _>>=_}
 use Rattle.rules.specs.ProgramTest.{need, bad, marked, idsIn}
-use Rattle.rules.proofs.GotLaws.{and-true}
+use Rattle.rules.proofs.GotLaws.{and-true, passed, split₂, both}
 use Rattle.slots.specs.Slot.{namesAt}
 use Rattle.slots.proofs.SearchLaws.{name-at, names-count}
 use Rattle.program.proofs.PartLaws.{rest-at, same-3}
@@ -117,6 +119,24 @@ module _ (p : Bytes) (at : ℕ) where
             (omega arith, omega arith, ids-turn k ∙ rw (e, n, g))
         go false e = absurd (d (q ∙ sym (bad-one e)))
 
+-- what they leave starts at a place after them
+pub record Leaves (p : Bytes) (at : ℕ) (q : Bytes) : Type 0 where
+  pub up : at ≤ length p - length q
+  pub fits : length p - length q ≤ length p
+  pub rest : q ≡ drop (length p - length q) p
+
+pub ids-leave : (p : Bytes) (k at : ℕ) (xs : List Bytes) (q : Bytes) → at ≤ length p → idsIn k (drop at p) ≡ got (xs, q) → Leaves p at q
+unfolding idsIn
+ids-leave p zero at xs q h e =
+    let f : drop at p ≡ q = both e .1 in
+    let m : length p - length q ≡ at = ap (λ (x : Bytes). length p - length x) (sym f) ∙ rest-at p at h in
+    record { up = omega arith; fits = omega arith; rest = sym f ∙ ap (λ (x : ℕ). drop x p) (sym m) }
+ids-leave p (suc k) at xs q h e =
+    let (t, e₁) = passed (tests p at) BadProgram 0 _ (xs, q) (sym (ids-turn p at k) ∙ e) in
+    split₂ _ (idsIn k (drop (at + 4 + size p at) p)) _ (xs, q) e₁ λ ys q′ e₂ e₃.
+    let l : Leaves p (at + 4 + size p at) q = ids-leave p k (at + 4 + size p at) ys q (fits p at t) (e₂ ∙ ap (λ (x : Bytes). got (ys, x)) (both e₃ .1)) in
+    record { up = omega (arith, l .up); fits = l .fits; rest = l .rest }
+
 -- identifiers before the others
 abbrev after : List Bytes → Got (List Bytes × Bytes) → Got (List Bytes × Bytes)
 after xs g = g >>= λ a. got (xs ++ a .0, a .1)
@@ -198,4 +218,33 @@ module _ (p : Bytes) (at n : ℕ) (places : List ℕ) where
             here = v;
             within =
                 below-more (λ j. Lies p (spanAt new j)) k (λ j h. subst (Lies p) (sym (kept j h)) (f .within j h)) (omega arith, omega arith);
+          }
+
+-- the identifiers that were accepted, and the place after them
+pub record Named (p : Bytes) (at n from : ℕ) (places : List ℕ) : Type 0 where
+  pub reads : idsIn n (drop at p) ≡ got (namesAt p places n, drop from p)
+  pub here : from ≤ length p
+  pub within : (j : ℕ) → j < n → Lies p (spanAt places j)
+
+module _ (p : Bytes) (at n from : ℕ) (places : List ℕ) (h : at ≤ length p) (f : Answers p at n places from places) where
+  pub none-named : 0 < at → from ≡ 0 → (r : Refusal) × (k : ℕ) × (idsIn n (drop at p) ≡ refused r k)
+  none-named l z = go (idsIn n (drop at p)) refl
+    where
+      go : (x : Got (List Bytes × Bytes)) → idsIn n (drop at p) ≡ x → (r : Refusal) × (k : ℕ) × (idsIn n (drop at p) ≡ refused r k)
+      go (refused r k) e = (r, k, e)
+      go (got a) e = absurd (omega (arith, ap (nextIn (length p)) e, f .0, ids-leave p n at (a .0) (a .1) h e .up))
+
+  pub all-named : (from ≡ 0 → ⊥) → Named p at n from places
+  all-named d = go (idsIn n (drop at p)) refl
+    where
+      go : (x : Got (List Bytes × Bytes)) → idsIn n (drop at p) ≡ x → Named p at n from places
+      go (refused r k) e = absurd (d (f .0 ∙ ap (nextIn (length p)) e))
+      go (got a) e =
+          let l : Leaves p at (a .1) = ids-leave p n at (a .0) (a .1) h e in
+          let q : from ≡ length p - length (a .1) = f .0 ∙ ap (nextIn (length p)) e in
+          let (names, within) = rw e at (f .1) in
+          record {
+            reads = e ∙ rw (names, q) (ap (λ (x : Bytes). got (a .0, x)) (l .rest));
+            here = omega (arith, l .fits);
+            within = within;
           }

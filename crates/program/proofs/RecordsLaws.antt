@@ -3,7 +3,6 @@ use Prim.Native.Nat.{ℕ, suc, _+_, _-_, _≤_, _<_}
 use mathlib.Core.Path.{_≡_, refl, sym, ap, _∙_}
 use mathlib.Core.List.{List, [], _∷_, _++_, append-assoc, append-nil}
 use mathlib.Core.Bool.{Bool, true, false, _&&_, _||_, cond}
-use mathlib.Core.Logic.{_⊎_, inl, inr}
 use native.Mathlib.Omega.{arith}
 use lib.Dec.{ltb, leb, eqb}
 use lib.ListN.{length, getD, take, drop, length-drop}
@@ -17,7 +16,6 @@ use Rattle.rules.specs.Got.{Got, refused, got, found, _>>=_}
 use Rattle.rules.specs.Program.{Rec, does, jump, NONE, targetOf}
 use Rattle.rules.specs.ProgramTest.{opIn, groupAllows, recordIn, recordsIn, nonJumps}
 use Rattle.rules.proofs.GotLaws.{passed, split, both}
-use Rattle.program.specs.declared.records.Records.{Records}
 use Rattle.program.specs.Test.{nextIn, recordsAre}
 use Rattle.program.proofs.PartLaws.{rest-at}
 

@@ -1,15 +1,16 @@
 -- What the program test answers, by the places of a program's bytes.
 use Prim.Native.Nat.{ℕ, _-_, _≤_, _<_}
 use mathlib.Core.Path.{_≡_}
-use mathlib.Core.Bool.{Bool, true, false}
+use mathlib.Core.Bool.{Bool, true, false, _&&_}
 use mathlib.Core.List.{List, []}
-use lib.ListN.{length, drop}
-use Rattle.rules.specs.Bytes.{Bytes, spanAt}
+use lib.Dec.{leb}
+use lib.ListN.{length, getD, drop}
+use Rattle.rules.specs.Bytes.{Bytes, part, num, spanAt}
 use Rattle.rules.specs.Commands as Rules
 use Rattle.rules.specs.Got.{Got, refused, got}
 use Rattle.rules.specs.Limits.{limits}
 use Rattle.rules.specs.Program.{Rec, Program}
-use Rattle.rules.specs.ProgramTest.{recordsIn, nonJumps}
+use Rattle.rules.specs.ProgramTest.{marked, recordsIn, nonJumps}
 use Rattle.slots.specs.declared.params.Params.{Params}
 use Rattle.slots.specs.Params.{meaning, Fit}
 use Rattle.slots.specs.Slot.{namesAt}
@@ -43,6 +44,12 @@ abbrev pub NamesAre : Bytes → ℕ → Got (List Bytes × Bytes) → List ℕ �
 NamesAre p n (refused r q) ids = Unit {0}
 NamesAre p n (got a) ids =
     (namesAt p ids n ≡ a .0) × ((k : ℕ) → k < n → (spanAt ids k .from ≤ spanAt ids k .to) × (spanAt ids k .to ≤ length p))
+
+-- the tests of a program's start
+unfoldable pub startFits : Bytes → Bool
+startFits p =
+    leb (length p) (limits .program) && leb 11 (length p) && marked 0xfe p && leb (getD p 3 0) 1
+    && (leb 1 (getD p 8 0) && leb (getD p 8 0) (limits .components) && leb (num (part p 9 2)) (limits .records))
 
 -- the program x, as its run needs it
 pub record Program-at (p : Bytes) (x : Program) (t : Tested) (ids : List ℕ) : Type 0 where
