@@ -172,20 +172,29 @@ empty : (q : Bytes) → length q ≡ 0 → q ≡ []
 empty [] z = refl
 empty (x ∷ q) z = absurd (omega arith)
 
+-- a start that fits, as the code reads it: the group, n components and m records
+pub record Front (p : Bytes) (g : Group) (n m : ℕ) : Type 0 where
+  pub start : Started p
+  pub group : groupIn (getD p 3 0) ≡ some g
+  pub components : n ≡ getD p 8 0
+  pub records : m ≡ getD p 9 0 * 256 + getD p 10 0
+
 -- the test after the start, as the code makes it
-module _ (p : Bytes) (g : Group) (n m : ℕ) (s : Started p) (e : groupIn (getD p 3 0) ≡ some g) (q : n ≡ getD p 8 0) (t : m ≡ getD p 9 0 * 256 + getD p 10 0) where
+module _ (p : Bytes) (g : Group) (n m : ℕ) (h : Front p g n m) where
   on : programIn p ≡ started p g n m
-  on = let t′ : m ≡ num (part p 9 2) = t ∙ sym (num-2 p 9 (omega (arith, s .room))) in program-on p g s e ∙ rw (q, t′)
+  on =
+      let t : m ≡ num (part p 9 2) = h .records ∙ sym (num-2 p 9 (omega (arith, h .start .room))) in
+      program-on p g (h .start) (h .group) ∙ rw (h .components, t)
 
   module _ (from : ℕ) (a : List ℕ) (f : (from ≡ nextIn (length p) (idsIn n (drop 11 p))) × NamesAre p n (idsIn n (drop 11 p)) a) where
     pub names-refused : (x : Tested) → from ≡ 0 → x .good ≡ false → TestedAs p (programIn p) x a
-    names-refused x z h =
-        let (r, k, u) = none-named p 11 n from a (s .room) f (omega arith) z in
-        reject p x a r k (on ∙ rw u) h
+    names-refused x z b =
+        let (r, k, u) = none-named p 11 n from a (h .start .room) f (omega arith) z in
+        reject p x a r k (on ∙ rw u) b
 
     module _ (d : from ≡ 0 → ⊥) where
       pub read : Named p 11 n from a
-      read = all-named p 11 n from a (s .room) f d
+      read = all-named p 11 n from a (h .start .room) f d
 
       abbrev ids : List Bytes
       ids = namesAt p a n
@@ -201,7 +210,7 @@ module _ (p : Bytes) (g : Group) (n m : ℕ) (s : Started p) (e : groupIn (getD 
         repeats-is b o = sym (repeated-law p a n) ∙ ap again (sym v) ∙ o
 
         pub repeat-refused : (x : Tested) (j : ℕ) → w ≡ At j → x .good ≡ false → TestedAs p (programIn p) x a
-        repeat-refused x j o h = rw (on-names, repeats-is true (ap again o)) h
+        repeat-refused x j o b = rw (on-names, repeats-is true (ap again o)) b
 
         module _ (o : w ≡ Nothing) where
           on-records : programIn p ≡ (records >>= finish p g ids)
@@ -213,15 +222,15 @@ module _ (p : Bytes) (g : Group) (n m : ℕ) (s : Started p) (e : groupIn (getD 
 
             -- with records that are refused, and with others
             either : (x : Tested) → x .good ≡ false → ((y : List Rec × Bytes) → records ≡ got y → r ≡ record { next = length p - length (y .1); commands = nonJumps (y .0) } → finish p g ids y ≡ bad) → Answer x
-            either x h k = go records refl
+            either x b k = go records refl
               where
                 go : (z : Got (List Rec × Bytes)) → records ≡ z → Answer x
-                go (refused i j) l = reject p x a i j (on-records ∙ rw l) h
-                go (got y) l = rw (on-records, l, k y l (u ∙ ap (recordsAre (length p)) l)) h
+                go (refused i j) l = reject p x a i j (on-records ∙ rw l) b
+                go (got y) l = rw (on-records, l, k y l (u ∙ ap (recordsAre (length p)) l)) b
 
             pub records-refused : (x : Tested) → (r .next ≡ length p → ⊥) → x .good ≡ false → Answer x
-            records-refused x c h =
-                either x h λ y l i.
+            records-refused x c b =
+                either x b λ y l i.
                 let nonempty : length (y .1) ≡ 0 → ⊥ = λ z. c (ap (λ (y : Records). y .next) i ∙ omega arith) in
                 go y (leb (nonJumps (y .0)) (limits .commands)) refl (unlike (y .1) nonempty)
               where
@@ -230,35 +239,35 @@ module _ (p : Bytes) (g : Group) (n m : ℕ) (s : Started p) (e : groupIn (getD 
                 go y false f₁ f₂ = rw f₁
 
             pub commands-refused : (x : Tested) → limits .commands < r .commands → x .good ≡ false → Answer x
-            commands-refused x c h =
-                either x h λ y l i.
+            commands-refused x c b =
+                either x b λ y l i.
                 let f₁ : leb (nonJumps (y .0)) (limits .commands) ≡ false =
                 lt-leb (nonJumps (y .0)) (limits .commands) (omega (arith, ap (λ (y : Records). y .commands) i)) in
                 rw f₁
 
             pub program-good : (k : ℕ) → k ≡ ((getD p 4 0 * 256 + getD p 5 0) * 256 + getD p 6 0) * 256 + getD p 7 0 → r .next ≡ length p → r .commands ≤ limits .commands →
                 Answer (record { good = true; group = g; number = k; components = n; records = m; from = from })
-            program-good k b c h = go records refl
+            program-good k b c few = go records refl
               where
                 go : (z : Got (List Rec × Bytes)) → records ≡ z → Answer (record { good = true; group = g; number = k; components = n; records = m; from = from })
-                go (refused i j) l = absurd (omega (arith, s .room, ap (λ (y : Records). y .next) (u ∙ ap (recordsAre (length p)) l)))
+                go (refused i j) l = absurd (omega (arith, h .start .room, ap (λ (y : Records). y .next) (u ∙ ap (recordsAre (length p)) l)))
                 go (got y) l =
                     let i : r ≡ record { next = length p - length (y .1); commands = nonJumps (y .0) } = u ∙ ap (recordsAre (length p)) l in
-                    let none-left : y .1 ≡ [] = empty (y .1) (omega (arith, s .room, ap (λ (y : Records). y .next) i)) in
-                    let few : nonJumps (y .0) ≤ limits .commands = omega (arith, ap (λ (y : Records). y .commands) i) in
-                    let number : k ≡ num (part p 4 4) = b ∙ sym (num-4 p 4 (omega (arith, s .room))) in
+                    let none-left : y .1 ≡ [] = empty (y .1) (omega (arith, h .start .room, ap (λ (y : Records). y .next) i)) in
+                    let fewer : nonJumps (y .0) ≤ limits .commands = omega (arith, ap (λ (y : Records). y .commands) i) in
+                    let number : k ≡ num (part p 4 4) = b ∙ sym (num-4 p 4 (omega (arith, h .start .room))) in
                     let whole : programIn p ≡ got (record { group = g; number = num (part p 4 4); ids = ids; records = y .0 }) =
-                    on-records ∙ rw (l, le-leb (nonJumps (y .0)) (limits .commands) few, none-left) in
+                    on-records ∙ rw (l, le-leb (nonJumps (y .0)) (limits .commands) fewer, none-left) in
                     rw whole
                     (record {
                       good = refl;
                       group = refl;
                       number = number;
-                      some-ids = (omega (arith, s .least), omega (arith, s .most));
+                      some-ids = (omega (arith, h .start .least, h .components), omega (arith, h .start .most, h .components));
                       names = refl;
                       places = read .within;
                       from = read .here;
-                      size = omega (arith, s .records);
+                      size = omega (arith, h .start .records, h .records);
                       reads = l ∙ ap (λ (z : Bytes). got (y .0, z)) none-left;
-                      few = few;
+                      few = fewer;
                     })

@@ -2,7 +2,7 @@ use mathlib.Core.Path.{sym, _∙_}
 use native.Mathlib.Omega.{arith}
 use borrow.Author.Needs.{needs}
 use borrow.Author.Tests.{not-true, not-false}
-use Rattle.program.proofs.ProgramLaws.{Started, start-good, start-refused, names-refused, read, repeat-refused, records-refused, commands-refused, program-good}
+use Rattle.program.proofs.ProgramLaws.{Started, Front, start-good, start-refused, names-refused, read, repeat-refused, records-refused, commands-refused, program-good}
 use Rattle.program.proofs.test.test_program.Statement.{statement}
 use Rattle.program.proofs.test.test_program.Tie as tie
 
@@ -24,39 +24,42 @@ shared-slice-read-wide c = omega (arith, start (c .before .before .before) .room
 two-requires : tie.Need-two-requires
 two-requires c κs = omega (arith, start (c .before .before .before .before) .room)
 
+front : (c : tie.After-two) → Front (c .before .before .before .before .before .before .before .before .args .p .now) (c .before .before .before .group-of .result) (c .before .wide .result) (c .two .result)
+front c = record { start = start (c .before .before .before .before .before); group = c .before .before .before .group-of .ensures; components = c .before .wide .ensures .0; records = c .two .ensures .0 }
+
 test-names-requires : tie.Need-test-names-requires
 test-names-requires c κs = (omega arith, start (c .before .before .before .before .before .before) .room, omega (arith, start (c .before .before .before .before .before .before) .most, c .before .before .wide .ensures .0))
 
 returns-2 : tie.Need-returns-2
 returns-2 c =
-    names-refused _ _ _ _ (start (c .before .before .before .before .before .before .before .before .before)) (c .before .before .before .before .before .before .before .group-of .ensures) (c .before .before .before .before .before .wide .ensures .0) (c .before .before .before .before .two .ensures .0) _ _ (c .before .before .test-names .ensures) _ (c .before .if2 .taken) (c .bad2 .ensures)
+    names-refused _ _ _ _ (front (c .before .before .before .before)) _ _ (c .before .before .test-names .ensures) _ (c .before .if2 .taken) (c .bad2 .ensures)
 
 repeated-one-requires : tie.Need-repeated-one-requires
 repeated-one-requires c κs = (
   omega (arith, start (c .before .before .before .before .before .before .before .before .before) .most, c .before .before .before .before .before .wide .ensures .0),
-  read _ _ _ _ (start (c .before .before .before .before .before .before .before .before .before)) (c .before .before .before .before .before .before .before .group-of .ensures) (c .before .before .before .before .before .wide .ensures .0) (c .before .before .before .before .two .ensures .0) _ _ (c .before .before .test-names .ensures) (c .before .if2 .left) .within,
+  read _ _ _ _ (front (c .before .before .before .before)) _ _ (c .before .before .test-names .ensures) (c .before .if2 .left) .within,
 )
 
 returns-3 : tie.Need-returns-3
 returns-3 c =
-    repeat-refused _ _ _ _ (start (c .before .before .before .before .before .before .before .before .before .before .before .before .before)) (c .before .before .before .before .before .before .before .before .before .before .before .group-of .ensures) (c .before .before .before .before .before .before .before .before .before .wide .ensures .0) (c .before .before .before .before .before .before .before .before .two .ensures .0) _ _ (c .before .before .before .before .before .before .test-names .ensures) (c .before .before .before .before .before .if2 .left)
+    repeat-refused _ _ _ _ (front (c .before .before .before .before .before .before .before .before)) _ _ (c .before .before .before .before .before .before .test-names .ensures) (c .before .before .before .before .before .if2 .left)
     _ (c .before .before .before .repeated-one .ensures) _ _ (c .before .enum-told2 .given .1) (c .bad3 .ensures)
 
 test-records-requires : tie.Need-test-records-requires
 test-records-requires c κs = (
-  read _ _ _ _ (start (c .before .before .before .before .before .before .before .before .before .before .before .before .before .before)) (c .before .before .before .before .before .before .before .before .before .before .before .before .group-of .ensures) (c .before .before .before .before .before .before .before .before .before .before .wide .ensures .0) (c .before .before .before .before .before .before .before .before .before .two .ensures .0) _ _ (c .before .before .before .before .before .before .before .test-names .ensures) (c .before .before .before .before .before .before .if2 .left) .here,
+  read _ _ _ _ (front (c .before .before .before .before .before .before .before .before .before)) _ _ (c .before .before .before .before .before .before .before .test-names .ensures) (c .before .before .before .before .before .before .if2 .left) .here,
   c .before .tables .ensures,
   c .before .before .before .before .before .before .before .before .before .two .ensures .1,
 )
 
 returns-4 : tie.Need-returns-4
 returns-4 c =
-    records-refused _ _ _ _ (start (c .before .before .before .before .before .before .before .before .before .before .before .before .before .before .before .before .before)) (c .before .before .before .before .before .before .before .before .before .before .before .before .before .before .before .group-of .ensures) (c .before .before .before .before .before .before .before .before .before .before .before .before .before .wide .ensures .0) (c .before .before .before .before .before .before .before .before .before .before .before .before .two .ensures .0) _ _ (c .before .before .before .before .before .before .before .before .before .before .test-names .ensures) (c .before .before .before .before .before .before .before .before .before .if2 .left)
+    records-refused _ _ _ _ (front (c .before .before .before .before .before .before .before .before .before .before .before .before)) _ _ (c .before .before .before .before .before .before .before .before .before .before .test-names .ensures) (c .before .before .before .before .before .before .before .before .before .if2 .left)
     _ (c .before .before .before .before .before .before .before .repeated-one .ensures) (c .before .before .before .before .before .enum-told .given .1) _ (c .before .before .test-records .ensures) _ (c .before .if3 .taken) (c .bad4 .ensures)
 
 returns-5 : tie.Need-returns-5
 returns-5 c =
-    commands-refused _ _ _ _ (start (c .before .before .before .before .before .before .before .before .before .before .before .before .before .before .before .before .before .before)) (c .before .before .before .before .before .before .before .before .before .before .before .before .before .before .before .before .group-of .ensures) (c .before .before .before .before .before .before .before .before .before .before .before .before .before .before .wide .ensures .0) (c .before .before .before .before .before .before .before .before .before .before .before .before .before .two .ensures .0) _ _ (c .before .before .before .before .before .before .before .before .before .before .before .test-names .ensures) (c .before .before .before .before .before .before .before .before .before .before .if2 .left)
+    commands-refused _ _ _ _ (front (c .before .before .before .before .before .before .before .before .before .before .before .before .before)) _ _ (c .before .before .before .before .before .before .before .before .before .before .before .test-names .ensures) (c .before .before .before .before .before .before .before .before .before .before .if2 .left)
     _ (c .before .before .before .before .before .before .before .before .repeated-one .ensures) (c .before .before .before .before .before .before .enum-told .given .1) _ (c .before .before .before .test-records .ensures) _ (c .before .if4 .taken) (c .bad5 .ensures)
 
 four-requires : tie.Need-four-requires
@@ -64,7 +67,7 @@ four-requires c κs = omega (arith, start (c .before .before .before .before .be
 
 returns-6 : tie.Need-returns-6
 returns-6 c =
-    program-good _ _ _ _ (start (c .before .before .before .before .before .before .before .before .before .before .before .before .before .before .before .before .before .before)) (c .before .before .before .before .before .before .before .before .before .before .before .before .before .before .before .before .group-of .ensures) (c .before .before .before .before .before .before .before .before .before .before .before .before .before .before .wide .ensures .0) (c .before .before .before .before .before .before .before .before .before .before .before .before .before .two .ensures .0) _ _ (c .before .before .before .before .before .before .before .before .before .before .before .test-names .ensures) (c .before .before .before .before .before .before .before .before .before .before .if2 .left)
+    program-good _ _ _ _ (front (c .before .before .before .before .before .before .before .before .before .before .before .before .before)) _ _ (c .before .before .before .before .before .before .before .before .before .before .before .test-names .ensures) (c .before .before .before .before .before .before .before .before .before .before .if2 .left)
     _ (c .before .before .before .before .before .before .before .before .repeated-one .ensures) (c .before .before .before .before .before .before .enum-told .given .1) _ (c .before .before .before .test-records .ensures) _ (c .four .ensures) (c .before .before .if3 .left) (c .before .if4 .left)
 
 pub test-program-spec : {M : Type 1} → statement M
