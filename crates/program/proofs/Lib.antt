@@ -1,5 +1,9 @@
 pub mod ArgumentLaws
 pub mod EntryLaws
+pub mod NameLaws
 pub mod ParamLaws
 pub mod PartLaws
+pub mod ProgramLaws
 pub mod RecordLaws
+pub mod RecordsLaws
+pub mod RepeatLaws

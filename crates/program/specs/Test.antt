@@ -13,7 +13,7 @@ use Rattle.rules.specs.Commands as Rules
 use Rattle.rules.specs.Got.{Got, refused, got, found, _>>=_}
 use Rattle.rules.specs.Limits.{limits}
 use Rattle.rules.specs.Program.{Rec, does, jump, Program, NONE, targetOf}
-use Rattle.rules.specs.ProgramTest.{need, opIn, groupAllows, recordsIn, nonJumps}
+use Rattle.rules.specs.ProgramTest.{need, marked, opIn, groupAllows, recordsIn, nonJumps}
 use Rattle.slots.specs.declared.params.Params.{Params}
 use Rattle.slots.specs.Params.{meaning, Fit}
 use Rattle.slots.specs.Slot.{namesAt}
@@ -101,6 +101,12 @@ abbrev pub NamesAre : Bytes → ℕ → Got (List Bytes × Bytes) → List ℕ �
 NamesAre p n (refused r q) ids = Unit {0}
 NamesAre p n (got a) ids =
     (namesAt p ids n ≡ a .0) × ((k : ℕ) → k < n → (spanAt ids k .from ≤ spanAt ids k .to) × (spanAt ids k .to ≤ length p))
+
+-- the tests of a program's start
+unfoldable pub startFits : Bytes → Bool
+startFits p =
+    leb (length p) (limits .program) && leb 11 (length p) && marked 0xfe p && leb (getD p 3 0) 1
+    && (leb 1 (getD p 8 0) && leb (getD p 8 0) (limits .components) && leb (num (part p 9 2)) (limits .records))
 
 -- the program x, as its run needs it
 pub record Program-at (p : Bytes) (x : Program) (t : Tested) (ids : List ℕ) : Type 0 where

@@ -9,6 +9,37 @@ use rules::controller::Controller;
 
 const NAME_BYTES: usize = 4;
 
+// The place after the identifier at `at`; 0 if it is not well formed.
+pub fn test_name(p: &[u8], at: usize) -> usize
+    requires { ⌜ at ≤ length (now p) ⌝ }
+    ensures { λ r. ⌜ r ≡ nextIn (length (now (p .entry))) (Rule.idsIn 1 (drop at (now (p .entry)))) ⌝ }
+{
+    let left = p.len() - at;
+    if left < NAME_BYTES {
+        return 0;
+    }
+    if p[at] != 0x53 {
+        return 0;
+    }
+    if p[at + 1] != 0x50 {
+        return 0;
+    }
+    if p[at + 2] != 0xfd {
+        return 0;
+    }
+    let size = wide(p[at + 3]);
+    if size < 1 {
+        return 0;
+    }
+    if Controller::IDENTIFIER_BYTES < size {
+        return 0;
+    }
+    if left - NAME_BYTES < size {
+        return 0;
+    }
+    at + NAME_BYTES + size
+}
+
 // The place after the n identifiers from `at` on, 0 if one is not well formed; and their places.
 pub fn test_names(p: &[u8], at: usize, n: usize, ids: &mut [usize; 16]) -> usize
     requires { ⌜ (0 < at) × (at ≤ length (now p)) × (n ≤ 8) ⌝ }
@@ -18,31 +49,12 @@ pub fn test_names(p: &[u8], at: usize, n: usize, ids: &mut [usize; 16]) -> usize
     let mut next = at;
     let mut k = 0;
     while k < n {
-        let left = p.len() - next;
-        if left < NAME_BYTES {
+        let from = next;
+        next = test_name(p, from);
+        if next == 0 {
             return 0;
         }
-        if p[next] != 0x53 {
-            return 0;
-        }
-        if p[next + 1] != 0x50 {
-            return 0;
-        }
-        if p[next + 2] != 0xfd {
-            return 0;
-        }
-        let size = wide(p[next + 3]);
-        if size < 1 {
-            return 0;
-        }
-        if Controller::IDENTIFIER_BYTES < size {
-            return 0;
-        }
-        if left - NAME_BYTES < size {
-            return 0;
-        }
-        places[2 * k] = next + NAME_BYTES;
-        next = next + NAME_BYTES + size;
+        places[2 * k] = from + NAME_BYTES;
         places[2 * k + 1] = next;
         k += 1;
     }

@@ -1,7 +1,10 @@
 // The program test: refusal 97, or what a run of the program needs.
 ghost use mathlib.Core.Path.{_≡_};
+ghost use mathlib.Core.Bool.{false};
+ghost use mathlib.Core.Option.{some};
+ghost use Prim.Native.Nat.{_≤_};
 ghost use Rattle.rules.specs.ProgramTest as Rule;
-ghost use Rattle.program.specs.Test.{TestedAs};
+ghost use Rattle.program.specs.Test.{startFits, TestedAs};
 use crate::names::test_names;
 use crate::records::test_records;
 use identifiers::Repeat;
@@ -25,7 +28,9 @@ pub struct Tested {
 
 const START_BYTES: usize = 11;
 
-fn bad() -> Tested {
+fn bad() -> Tested
+    ensures { λ r. ⌜ r .good ≡ false ⌝ }
+{
     Tested {
         good: false,
         group: Group::Install,
@@ -36,45 +41,57 @@ fn bad() -> Tested {
     }
 }
 
+// Whether the start is well formed: its mark, the group, and how many components and records it names.
+pub fn start_fits(p: &[u8]) -> bool
+    ensures { λ r. ⌜ r ≡ startFits (now (p .entry)) ⌝ }
+{
+    if Controller::PROGRAM_BYTES < p.len() {
+        return false;
+    }
+    if p.len() < START_BYTES {
+        return false;
+    }
+    if p[0] != 0x53 {
+        return false;
+    }
+    if p[1] != 0x50 {
+        return false;
+    }
+    if p[2] != 0xfe {
+        return false;
+    }
+    if 1 < p[3] {
+        return false;
+    }
+    let components = wide(p[8]);
+    if components < 1 {
+        return false;
+    }
+    if Controller::COMPONENTS < components {
+        return false;
+    }
+    two(p, 9) <= Controller::RECORDS
+}
+
+pub fn group_of(mark: u8) -> Group
+    requires { ⌜ mark ≤ 1 ⌝ }
+    ensures { λ r. ⌜ Rule.groupIn mark ≡ some r ⌝ }
+{
+    if mark == 0 {
+        return Group::Install;
+    }
+    Group::Boot
+}
+
 pub fn test_program(p: &[u8], ids: &mut [usize; 16]) -> Tested
     ensures { λ r. ⌜ TestedAs (now (p .entry)) (Rule.programIn (now (p .entry))) r (now (ids .exit)) ⌝ }
 {
-    let size = p.len();
-    if Controller::PROGRAM_BYTES < size {
+    if !start_fits(p) {
         return bad();
     }
-    if size < START_BYTES {
-        return bad();
-    }
-    if p[0] != 0x53 {
-        return bad();
-    }
-    if p[1] != 0x50 {
-        return bad();
-    }
-    if p[2] != 0xfe {
-        return bad();
-    }
-    let mark = wide(p[3]);
-    if 1 < mark {
-        return bad();
-    }
-    let group = if mark == 0 {
-        Group::Install
-    } else {
-        Group::Boot
-    };
+    let group = group_of(p[3]);
     let components = wide(p[8]);
-    if components < 1 {
-        return bad();
-    }
-    if Controller::COMPONENTS < components {
-        return bad();
-    }
     let records = two(p, 9);
-    if Controller::RECORDS < records {
-        return bad();
-    }
     let from = test_names(p, START_BYTES, components, ids);
     if from == 0 {
         return bad();
@@ -85,7 +102,7 @@ pub fn test_program(p: &[u8], ids: &mut [usize; 16]) -> Tested
     let table = tables();
     let r = test_records(p, &table, from, group, components, records);
     let next = r.next;
-    if next != size {
+    if next != p.len() {
         return bad();
     }
     let commands = r.commands;

@@ -23,7 +23,7 @@ use Rattle.rules.proofs.TreeLaws.{weigh, GoodSeq, Tree, seq-tree}
 eqb-sym : (x y : ℕ) → eqb x y ≡ false → eqb y x ≡ false
 eqb-sym x y e = ne-eqb y x (λ q. eqb-false x y e (sym q))
 
-same-sym : (x y : Bytes) → same x y ≡ same y x
+pub same-sym : (x y : Bytes) → same x y ≡ same y x
 same-sym [] [] = refl
 same-sym [] (y ∷ ys) = refl
 same-sym (x ∷ xs) [] = refl

@@ -1,59 +1,42 @@
+-- The invariant: n records were read, and so many of them are no jumps.
+use Prim.Native.Nat.{_-_, _≤_}
+use native.Mathlib.Omega.{arith}
+use mathlib.Core.Logic.{⊎-elim}
+use borrow.Author.Needs.{needs}
+use Rattle.program.proofs.RecordsLaws.{count-command, count-jump, Sofar, sofar-start, sofar-stop, sofar-room, sofar-next, sofar-end}
 use Rattle.program.proofs.records.test_records.Statement.{statement}
 use Rattle.program.proofs.records.test_records.Tie as tie
-use Rattle.program.proofs.records.test_records.Reads as reads
-use Rattle.program.proofs.records.test_records.Lts as lts
-use Rattle.numbers.proofs.wide.Reads as wide-reads
-use Rattle.program.proofs.record.test_record.Reads as test-record-reads
 
 abbrev Inv-loop : tie.InvT-loop
-Inv-loop p table at group components total next₀ commands₀ n₀ next commands n = ?
+Inv-loop p table at group components total next₀ commands₀ n₀ next commands n = (n ≤ total) × Sofar group components total p at next commands n
 
 abbrev μ-loop : tie.MeasureT-loop
-μ-loop p table at group components total next₀ commands₀ n₀ next commands n = ?
+μ-loop p table at group components total next₀ commands₀ n₀ next commands n = total - n
 
--- src/records.rt:34:5
 loop-holds : tie.Need-loop-holds Inv-loop μ-loop
-loop-holds c = ?
+loop-holds c = (omega arith, sofar-start _ _ _ _ _ (c .before .pre .0))
 
--- src/records.rt:36:9
 test-record-requires : tie.Need-test-record-requires Inv-loop μ-loop
-test-record-requires c κs = ?
+test-record-requires c κs = (c .before .loop .inv .1 .here, c .before .before .before .pre .1)
 
--- src/records.rt:38:13
 returns : tie.Need-returns Inv-loop μ-loop
-returns c = ?
+returns c = sofar-stop _ _ _ _ _ _ _ _ (c .before .before .before .loop .inv .1) (omega arith) _ (c .before .test-record .ensures) (c .if1 .taken)
 
--- src/records.rt:43:19
 add-wide : tie.Need-add-wide Inv-loop μ-loop
-add-wide c = ?
+add-wide c = omega (arith, sofar-room _ _ _ _ _ _ _ _ (c .before .before .before .loop .inv .1) (omega arith) _ (c .before .test-record .ensures) (c .if1 .left))
 
--- src/records.rt:43:17
 shared-slice-read-wide : tie.Need-shared-slice-read-wide Inv-loop μ-loop
-shared-slice-read-wide c = ?
+shared-slice-read-wide c = omega (arith, sofar-room _ _ _ _ _ _ _ _ (c .before .before .before .before .loop .inv .1) (omega arith) _ (c .before .before .test-record .ensures) (c .before .if1 .left))
 
--- src/records.rt:43:12
-wide-requires : tie.Need-wide-requires Inv-loop μ-loop
-wide-requires c κs = ?
-
--- src/records.rt:44:13
-add-commands : tie.Need-add-commands Inv-loop μ-loop
-add-commands c = ?
-
--- src/records.rt:46:9
-add-n : tie.Need-add-n Inv-loop μ-loop
-add-n c = ?
-
--- src/records.rt:34:5
-loop-less : tie.Need-loop-less Inv-loop μ-loop
-loop-less c = ?
-
--- src/records.rt:34:5
 loop-again : tie.Need-loop-again Inv-loop μ-loop
-loop-again c = ?
+loop-again c = (
+  omega arith,
+  sofar-next _ _ _ _ _ _ _ _ (c .before .before .before .before .before .before .loop .inv .1) (omega arith) _ (c .before .before .before .before .test-record .ensures) (c .before .before .before .if1 .left) _
+      (⊎-elim (λ w. count-command _ _ _ _ (c .before .wide .ensures .0) (w .0 .taken) (w .1)) (λ w. count-jump _ _ _ _ (c .before .wide .ensures .0) (w .0 .left) (w .1)) (c .if2 .came)),
+)
 
--- src/records.rt:20:1
 returns-2 : tie.Need-returns-2 Inv-loop μ-loop
-returns-2 c = ?
+returns-2 c = sofar-end _ _ _ _ _ _ _ _ (c .before .loop .inv .1) (omega arith)
 
 pub test-records-spec : {M : Type 1} → statement M
 test-records-spec =
@@ -66,9 +49,9 @@ test-records-spec =
     returns
     add-wide
     shared-slice-read-wide
-    wide-requires
-    add-commands
-    add-n
-    loop-less
+    (λ c κs. search needs)
+    (λ c. search needs)
+    (λ c. search needs)
+    (λ c. search needs)
     loop-again
     returns-2)
