@@ -245,7 +245,7 @@ module _ (p : Bytes) (g : Group) (n m : ℕ) (h : Front p g n m) where
                 lt-leb (nonJumps (y .0)) (limits .commands) (omega (arith, ap (λ (y : Records). y .commands) i)) in
                 rw f₁
 
-            pub program-good : (k : ℕ) → k ≡ ((getD p 4 0 * 256 + getD p 5 0) * 256 + getD p 6 0) * 256 + getD p 7 0 → r .next ≡ length p → r .commands ≤ limits .commands →
+            pub program-good : (k : ℕ) → (k ≡ ((getD p 4 0 * 256 + getD p 5 0) * 256 + getD p 6 0) * 256 + getD p 7 0) × (k < 4294967296) → r .next ≡ length p → r .commands ≤ limits .commands →
                 Answer (record { good = true; group = g; number = k; components = n; records = m; from = from })
             program-good k b c few = go records refl
               where
@@ -255,7 +255,7 @@ module _ (p : Bytes) (g : Group) (n m : ℕ) (h : Front p g n m) where
                     let i : r ≡ record { next = length p - length (y .1); commands = nonJumps (y .0) } = u ∙ ap (recordsAre (length p)) l in
                     let none-left : y .1 ≡ [] = empty (y .1) (omega (arith, h .start .room, ap (λ (y : Records). y .next) i)) in
                     let fewer : nonJumps (y .0) ≤ limits .commands = omega (arith, ap (λ (y : Records). y .commands) i) in
-                    let number : k ≡ num (part p 4 4) = b ∙ sym (num-4 p 4 (omega (arith, h .start .room))) in
+                    let number : k ≡ num (part p 4 4) = b .0 ∙ sym (num-4 p 4 (omega (arith, h .start .room))) in
                     let whole : programIn p ≡ got (record { group = g; number = num (part p 4 4); ids = ids; records = y .0 }) =
                     on-records ∙ rw (l, le-leb (nonJumps (y .0)) (limits .commands) fewer, none-left) in
                     rw whole
@@ -263,6 +263,7 @@ module _ (p : Bytes) (g : Group) (n m : ℕ) (h : Front p g n m) where
                       good = refl;
                       group = refl;
                       number = number;
+                      small = omega (arith, b .1);
                       some-ids = (omega (arith, h .start .least, h .components), omega (arith, h .start .most, h .components));
                       names = refl;
                       places = read .within;

@@ -109,10 +109,11 @@ startFits p =
     && (leb 1 (getD p 8 0) && leb (getD p 8 0) (limits .components) && leb (num (part p 9 2)) (limits .records))
 
 -- the program x, as its run needs it
-pub record Program-at (p : Bytes) (x : Program) (t : Tested) (ids : List ℕ) : Type 0 where
+pub record ProgramAt (p : Bytes) (x : Program) (t : Tested) (ids : List ℕ) : Type 0 where
   pub good : t .good ≡ true
   pub group : t .group ≡ x .group
   pub number : t .number ≡ x .number
+  pub small : t .number ≤ limits .number
   pub some-ids : (1 ≤ t .components) × (t .components ≤ limits .components)
   pub names : namesAt p ids (t .components) ≡ x .ids
   pub places : (k : ℕ) → k < t .components → (spanAt ids k .from ≤ spanAt ids k .to) × (spanAt ids k .to ≤ length p)
@@ -123,4 +124,4 @@ pub record Program-at (p : Bytes) (x : Program) (t : Tested) (ids : List ℕ) : 
 
 abbrev pub TestedAs : Bytes → Got Program → Tested → List ℕ → Type 0
 TestedAs p (refused r q) t ids = t .good ≡ false
-TestedAs p (got x) t ids = Program-at p x t ids
+TestedAs p (got x) t ids = ProgramAt p x t ids
