@@ -1,5 +1,5 @@
 -- What a run has in lent memory, as the rules' environment and state.
-use Prim.Native.Nat.{ℕ, _-_, _≤_, _<_}
+use Prim.Native.Nat.{ℕ, _-_, _%_, _≤_, _<_}
 use mathlib.Core.Path.{_≡_}
 use mathlib.Core.List.{List, []}
 use mathlib.Core.Bool.{cond}
@@ -9,10 +9,10 @@ use Rattle.rules.specs.Answers.{endOf, resultNumber}
 use Rattle.rules.specs.Bytes.{Bytes}
 use Rattle.rules.specs.Limits.{limits}
 use Rattle.rules.specs.Commands as Rules
-use Rattle.rules.specs.Slots.{slotOf}
+use Rattle.rules.specs.Slots.{answerBytes, slotOf}
 use Rattle.rules.specs.Step.{Env, State, state, Out, out, slotNo, paramsOf}
 use Rattle.slots.specs.Slot.{Holds}
-use Rattle.slots.specs.Params.{paramsIn}
+use Rattle.slots.specs.Params.{paramsIn, FitAll}
 use Rattle.commands.specs.declared.perform.Done.{Done}
 
 -- n is the number of an end: the result in its event too, but for 2
@@ -38,6 +38,14 @@ pub record Host (env : Env) (vendor class answers : Bytes) (found : List ℕ) (s
 -- each number of found is that of a slot
 abbrev pub AllHold : List ℕ → Bytes → Type 0
 AllHold found slots = (i : ℕ) → i < 8 → Holds slots (getD found i 0)
+
+-- what a run is lent, for the components and the device of env: nothing that a command does changes it
+pub record Lent (env : Env) (s vendor class : Bytes) (found : List ℕ) (answers slots : Bytes) (words : List ℕ) (trace : Bytes) : Type 0 where
+  pub host : Host env vendor class answers found slots
+  pub hold : AllHold found slots
+  pub fit : FitAll s (length (env .ids)) words
+  pub answered : length answers % answerBytes ≡ 0
+  pub room : limits .trace ≤ length trace
 
 -- in st, component i has the slot of number k of `slots`, and the parameters p
 pub record At (env : Env) (i : ℕ) (st : State) (slots : Bytes) (k : ℕ) (p : Rules.Params) : Type 0 where

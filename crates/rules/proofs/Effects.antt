@@ -268,6 +268,9 @@ module _ (env : Env) where
       go Started a = onward n m st Started (o .state) _ a (stays m (o .state) Started)
       go (Failed k) a = onward n m st (Failed k) (o .state) _ a (stays m (o .state) (Failed k))
 
+  pub step-reaches : (op : Op) (i place : ℕ) (st : State) → Reaches 1 st (step env op i place st)
+  step-reaches op i place st = record { did = record { op = op; at = i; place = place } ∷ []; goes = refl; few = omega arith }
+
   mutual
     unfolding runSeq count
 
@@ -278,8 +281,7 @@ module _ (env : Env) where
         (λ st′. seq-reaches xs own (indexAfter x i) (coerceAfter x c) st′) (λ st′. stays (count xs) st′ _)
 
     pub cmd-reaches : (x : Cmd) (i : ℕ) (st : State) → Reaches (countCmd x) st (runCmd env x i st)
-    cmd-reaches (one p op b) i st =
-        record { did = record { op = op; at = component op i; place = p } ∷ []; goes = refl; few = omega arith }
+    cmd-reaches (one p op b) i st = step-reaches op (component op i) p st
     cmd-reaches (sub s) i st = let r = seq-reaches s true i false st in record { did = r .did; goes = r .goes; few = omega (arith, r .few) }
     cmd-reaches (try a) i st = let r = alts-reaches a i st in record { did = r .did; goes = r .goes; few = omega (arith, r .few) }
 
@@ -308,7 +310,7 @@ module _ (env : Env) where
   exec-reaches (does op i p t ∷ rs) n zero st =
       more (1 + nonJumps rs) _ st _ (omega arith)
       (next-law 1 (nonJumps rs) st (step env op i p st) _ _
-      (record { did = record { op = op; at = i; place = p } ∷ []; goes = refl; few = omega arith })
+      (step-reaches op i p st)
       (λ st′. exec-reaches rs (suc n) 0 st′) (λ st′. failed (eqb t NONE) st′ (exec-reaches rs (suc n) (t - suc n) st′)))
     where
       failed : (b : Bool) (st′ : State) → Reaches (nonJumps rs) st′ (exec env rs (suc n) (t - suc n) st′) →

@@ -1,0 +1,128 @@
+-- What a command that check has accepted tells of its argument.
+use Prim.Native.Nat.{ℕ, _+_, _-_, _≤_, _<_}
+use mathlib.Core.Path.{_≡_, refl, sym, ap, subst, _∙_}
+use mathlib.Core.List.{List, [], _∷_}
+use mathlib.Core.Bool.{Bool, true, false}
+use mathlib.Core.Option.{Option, some, none}
+use native.Mathlib.Omega.{arith}
+use lib.Dec.{ltb, eqb}
+use lib.ListN.{length}
+use borrow.Author.Tests.{ltb-true, eqb-true}
+use Rattle.rules.specs.declared.answers.Refusal.{Refusal}
+use Rattle.rules.specs.declared.answers.Refusal.the-variants.{NotAllowed, NoSuchComponent, TooManyCommands, UnknownCommand}
+use Rattle.rules.specs.Limits.{limits}
+use Rattle.rules.specs.Bytes.{Bytes, part}
+use Rattle.rules.specs.Got.{got, found}
+use Rattle.rules.specs.Cbor.{BYTES, MAP, NIL, item}
+use Rattle.rules.specs.Commands.{Op, Params, sixteen, nil, below, parameters, Row, commands, rowOf, isAllowed}
+use Rattle.rules.specs.Manifest.{Seq, Cmd, one}
+use Rattle.rules.specs.Check.{Read, nothing, number, entries, argument, command, sequenceAt}
+use Rattle.rules.proofs.GotLaws.{passed, both, split, split₂}
+use Rattle.runner.specs.Arguments.{One}
+
+pub found-is : {A : Type 0} (o : Option A) (r : Refusal) (p : ℕ) (a : A) → found o r p ≡ got a → o ≡ some a
+found-is none r p a e = let z : _≡_ {A = ℕ} 0 1 = cc in absurd (omega arith)
+found-is (some b) r p a e = let f : b ≡ a = cc in ap some f
+
+infixr 5 _&_
+pub _&_ : {A B : Type 0} → A → B → A × B
+a & b = (a, b)
+
+-- what holds of each row and its number holds of the row of a code
+abbrev pub Each : (ℕ → Row → Type 0) → List Row → Type 0
+Each P [] = Unit {0}
+Each P (r ∷ rs) = P (r .number) r × Each P rs
+
+pub row-of : (P : ℕ → Row → Type 0) (rs : List Row) (c : ℕ) (r : Row) → Each P rs → rowOf c rs ≡ some r → P c r
+row-of P [] c r t e = let z : _≡_ {A = ℕ} 0 1 = cc in absurd (omega arith)
+row-of P (x ∷ xs) c r t e = go (eqb c (x .number)) refl (row-of P xs c r (t .1)) e
+  where
+    go : (b : Bool) → eqb c (x .number) ≡ b → (rowOf c xs ≡ some r → P c r) → elim b [ true ↦ some x | false ↦ rowOf c xs ] ≡ some r → P c r
+    go true h next q =
+        let same : x ≡ r = cc in
+        subst (λ (y : Row). P c y) same (subst (λ (k : ℕ). P k x) (sym (eqb-true c (x .number) h)) (t .0))
+    go false h next q = next q
+
+pub form-of : (c : ℕ) (r x : Row) → rowOf c commands ≡ some r → rowOf c commands ≡ some x → r .form ≡ x .form
+form-of c r x p q = let same : r ≡ x = cc in rw same
+
+module _ (s : Bytes) where
+  -- a command's row, and its argument
+  pub record Coded (deeper : ℕ → Read Seq) (n m e at : ℕ) (cmd : Cmd) (to c p : ℕ) : Type 0 where
+    pub row : Row
+    pub listed : rowOf c commands ≡ some row
+    pub room : m < limits .commands
+    pub reads : argument s deeper n (m + 1) at (row .form) e p ≡ got (cmd, to)
+
+  module _ (deeper : ℕ → Read Seq) (n section m e at : ℕ) (cmd : Cmd) (to : ℕ) (q₀ : command s deeper n section m e at ≡ got (cmd, to)) where
+    pub command-coded : (c p : ℕ) → number s e at ≡ got (c, p) → Coded deeper n m e at cmd to c p
+    unfolding command
+    command-coded c p qn =
+        split₂ _ (number s e at) _ (cmd, to) q₀ λ c′ p′ q q₁.
+        split _ (found (rowOf c′ commands) UnknownCommand at) _ (cmd, to) q₁ λ row qr q₂.
+        let (al, q₃) = passed (isAllowed section (row .allowed)) NotAllowed at _ (cmd, to) q₂ in
+        let (room, q₄) = passed (ltb m (limits .commands)) TooManyCommands at _ (cmd, to) q₃ in
+        let (ec, ep) = both (sym q ∙ qn) in
+        rw (← ec, ← ep)
+        (record { row = row; listed = found-is (rowOf c′ commands) UnknownCommand at row qr; room = ltb-true _ _ room; reads = q₄ })
+
+  -- only the rows of 15 and 30 hold sequences
+  module _ (deeper : ℕ → Read Seq) (n m place e at : ℕ) (cmd : Cmd) (to : ℕ) where
+    abbrev IsOne : Type 0
+    IsOne = (op : Op) × (coerce : Option Bool) × (cmd ≡ one place op coerce)
+
+    sixteen-one : (op : Bytes → Op) → argument s deeper n m place (sixteen op) e at ≡ got (cmd, to) → IsOne
+    unfolding argument
+    sixteen-one op q₀ = split _ (item BYTES 16 16 s e at) _ (cmd, to) q₀ λ h qh q₁. (op (part s (h .next) 16), none, sym (both q₁ .0))
+
+    nil-one : (op : Op) → argument s deeper n m place (nil op) e at ≡ got (cmd, to) → IsOne
+    unfolding argument
+    nil-one op q₀ = split _ (item NIL 0 0 s e at) _ (cmd, to) q₀ λ h qh q₁. (op, none, sym (both q₁ .0))
+
+    below-one : (op : ℕ → Op) → argument s deeper n m place (below op) e at ≡ got (cmd, to) → IsOne
+    unfolding argument
+    below-one op q₀ =
+        split₂ _ (number s e at) _ (cmd, to) q₀ λ k next qk q₁.
+        let (t, q₂) = passed (ltb k n) NoSuchComponent at _ (cmd, to) q₁ in
+        (op k, none, sym (both q₂ .0))
+
+    parameters-one : (op : Params → Op) → argument s deeper n m place (parameters op) e at ≡ got (cmd, to) → IsOne
+    unfolding argument
+    parameters-one op q₀ =
+        split _ (item MAP 1 (limits .parameters) s e at) _ (cmd, to) q₀ λ h qh q₁.
+        split₂ _ (entries s n (h .num) 0 nothing e (h .next)) _ (cmd, to) q₁ λ g next qg q₂.
+        (op (g .params), g .coerce, sym (both q₂ .0))
+
+    one-row : (c : ℕ) (r : Row) → rowOf c commands ≡ some r → (c ≡ 30 → ⊥) → (c ≡ 15 → ⊥) → argument s deeper n m place (r .form) e at ≡ got (cmd, to) → IsOne
+    one-row c r =
+        row-of (λ c r. (c ≡ 30 → ⊥) → (c ≡ 15 → ⊥) → argument s deeper n m place (r .form) e at ≡ got (cmd, to) → IsOne) commands c r
+        ((λ a b. sixteen-one _) & (λ a b. sixteen-one _) & (λ a b. nil-one _) & (λ a b. below-one _) & (λ a b. nil-one _)
+        & (λ a b q. absurd (b refl)) & (λ a b. parameters-one _) & (λ a b. parameters-one _) & (λ a b. nil-one _) & (λ a b. nil-one _)
+        & (λ a b. nil-one _) & (λ a b q. absurd (a refl)) & (λ a b. nil-one _) & tt)
+
+  module _ (n section depth m e at : ℕ) (cmd : Cmd) (to : ℕ) (f : e ≤ length s)
+      (q₀ : command s (sequenceAt s n section depth) n section m e at ≡ got (cmd, to)) where
+    pub command-one : (c p : ℕ) → number s e at ≡ got (c, p) → (c ≡ 30 → ⊥) → (c ≡ 15 → ⊥) →
+        (x : One s c p) × (x .n ≡ n) × (cmd ≡ one at (x .op) (x .coerce)) × (x .to ≡ to) × (m < limits .commands)
+    command-one c p qn a b =
+        let x = command-coded (sequenceAt s n section depth) n section m e at cmd to q₀ c p qn in
+        let (op, coerce, is) = one-row (sequenceAt s n section depth) n (m + 1) at e p cmd to c (x .row) (x .listed) a b (x .reads) in (
+          record {
+            deeper = sequenceAt s n section depth;
+            n = n;
+            m = m + 1;
+            place = at;
+            e = e;
+            fits = f;
+            row = x .row;
+            listed = x .listed;
+            op = op;
+            coerce = coerce;
+            to = to;
+            reads = x .reads ∙ ap (λ (y : Cmd). got (y, to)) is;
+          },
+          refl,
+          is,
+          refl,
+          x .room,
+        )

@@ -1,0 +1,9 @@
+pub mod HeadLaws
+pub mod ArgumentLaws
+pub mod EntryLaws
+pub mod OneLaws
+pub mod LeafLaws
+pub mod Keeping
+pub mod SequenceRuns
+pub mod CommandRuns
+pub mod TryRuns

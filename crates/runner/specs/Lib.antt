@@ -1,0 +1,3 @@
+pub mod Heads
+pub mod Arguments
+pub mod Cycle

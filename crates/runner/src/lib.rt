@@ -1,0 +1,4 @@
+// The run of an envelope.
+pub mod arguments;
+pub mod cycle;
+pub mod heads;
