@@ -1,6 +1,6 @@
 // One step of a program's run: the next record that writes an event.
 ghost use mathlib.Core.Path.{_≡_};
-ghost use Rattle.program.specs.Step.{StepJob, Stepped, GivenJob, GivenAs, ExecJob, Executed};
+ghost use Rattle.program.specs.Step.{ArgumentAt, GivenAs, valueOf, ExecJob, Executed, StepJob, Stepped, startAt, Ran};
 use crate::entries::read_params;
 use crate::record::RECORD_BYTES;
 use crate::walk::advance;
@@ -20,10 +20,20 @@ pub struct Walk {
     pub stop: usize,
 }
 
+// What a command of that code has beside its parameters: 12 the new index, any other the place of its argument.
+fn value(code: usize, i: usize, from: usize) -> usize
+    ensures { λ r. ⌜ r ≡ valueOf code i from ⌝ }
+{
+    if code == 12 {
+        return i;
+    }
+    from
+}
+
 // The parameters that a command of that code gives, from `from` to `to`.
-fn given(p: &[u8], code: usize, from: usize, to: usize, components: usize) -> Params
-    requires { ⌜ GivenJob (now p) code from to components ⌝ }
-    ensures { λ r. ⌜ ((j : GivenJob (now (p .entry)) code from to components) → GivenAs (now (p .entry)) code from to components j r) ⌝ }
+fn given(p: &[u8], components: usize, code: usize, from: usize, to: usize) -> Params
+    requires { ⌜ ArgumentAt (now p) components code from to ⌝ }
+    ensures { λ r. ⌜ ((x : ArgumentAt (now (p .entry)) components code from to) → GivenAs (now (p .entry)) components code from to x r) ⌝ }
 {
     match code {
         19 | 20 => {
@@ -67,12 +77,11 @@ fn execute(
     let i = wide(p[at + 3]);
     let from = at + RECORD_BYTES;
     let to = from + two(p, at + 8);
-    let value = if code == 12 { i } else { from };
     let d = perform(
         p,
         code,
-        value,
-        given(p, code, from, to, components),
+        value(code, i, from),
+        given(p, components, code, from, to),
         i,
         two(p, at + 4),
         vendor,
@@ -87,7 +96,8 @@ fn execute(
     );
     let next = walk.n + 1;
     let target = two(p, at + 6);
-    if d.stop == 1 {
+    let stop = d.stop;
+    if stop == 1 {
         if target != 0xffff {
             return Walk {
                 at: advance(p, to, next, target),
@@ -103,7 +113,7 @@ fn execute(
         n: next,
         events: d.events,
         used: d.used,
-        stop: d.stop,
+        stop,
     }
 }
 
@@ -125,14 +135,15 @@ pub fn step(
     ensures { λ r. ⌜ ((j : StepJob (now (p .entry)) components total walk (now (vendor .entry)) (now (class .entry)) (now (found .entry)) (now (answers .entry)) (now (slots .entry)) (now (words .entry)) (now (trace .entry))) → Stepped (now (p .entry)) components total walk (now (vendor .entry)) (now (class .entry)) (now (found .entry)) (now (answers .entry)) (now (slots .entry)) (now (words .entry)) (now (trace .entry)) j r (now (slots .exit)) (now (words .exit)) (now (trace .exit))) ⌝ }
 {
     let stand = land(p, walk.at, walk.n, total);
+    let n = stand.n;
     let now = Walk {
         at: stand.at,
-        n: stand.n,
+        n,
         events: walk.events,
         used: walk.used,
         stop: 0,
     };
-    if stand.n == total {
+    if n == total {
         return now;
     }
     execute(p, components, now, vendor, class, found, answers, slots, words, trace)
@@ -151,7 +162,10 @@ pub fn run_records(
     slots: &mut [u8],
     words: &mut [usize; 40],
     trace: &mut [u8],
-) -> Walk {
+) -> Walk
+    requires { ⌜ StepJob (now p) components total (startAt from) (now vendor) (now class) (now found) (now answers) (now slots) (now words) (now trace) ⌝ }
+    ensures { λ r. ⌜ ((j : StepJob (now (p .entry)) components total (startAt from) (now (vendor .entry)) (now (class .entry)) (now (found .entry)) (now (answers .entry)) (now (slots .entry)) (now (words .entry)) (now (trace .entry))) → Ran (now (p .entry)) components total from (now (vendor .entry)) (now (class .entry)) (now (found .entry)) (now (answers .entry)) (now (slots .entry)) (now (words .entry)) (now (trace .entry)) j r (now (slots .exit)) (now (words .exit)) (now (trace .exit))) ⌝ }
+{
     let mut walk = Walk {
         at: from,
         n: 0,

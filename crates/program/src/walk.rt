@@ -1,6 +1,5 @@
 // The way through a program's records, which only goes forward.
 ghost use mathlib.Core.Path.{_≡_};
-ghost use Prim.Native.Nat.{_+_, _≤_, _<_};
 ghost use Rattle.program.specs.Walk.{AdvanceJob, Advanced, LandJob, Landed};
 use crate::record::JUMP;
 use crate::record::RECORD_BYTES;
@@ -16,7 +15,7 @@ pub struct Stand {
 // Where record t is, from record n at `at`.
 pub fn advance(p: &[u8], at: usize, n: usize, t: usize) -> usize
     requires { ⌜ AdvanceJob (now p) at n t ⌝ }
-    ensures { λ r. ⌜ ((j : AdvanceJob (now (p .entry)) at n t) → Advanced (now (p .entry)) at n t j r) ⌝ }
+    ensures { λ r. ⌜ ((j : AdvanceJob (now (p .entry)) at n t) → Advanced (now (p .entry)) (j .group) (j .components) (j .total) n at (j .place) t r) ⌝ }
 {
     let mut next = at;
     let mut k = n;
@@ -30,18 +29,17 @@ pub fn advance(p: &[u8], at: usize, n: usize, t: usize) -> usize
 // The first record from number n at `at` on that is no jump, through the jumps before it; or the end.
 pub fn land(p: &[u8], at: usize, n: usize, total: usize) -> Stand
     requires { ⌜ LandJob (now p) at n total ⌝ }
-    ensures { λ r. ⌜ ((j : LandJob (now (p .entry)) at n total) → Landed (now (p .entry)) at n total j r) ⌝ }
+    ensures { λ r. ⌜ ((j : LandJob (now (p .entry)) at n total) → Landed (now (p .entry)) (j .group) (j .components) total n at (j .place) r) ⌝ }
 {
-    let mut now = Stand { at, n };
-    while now.n < total {
-        if wide(p[now.at + 2]) != JUMP {
-            return now;
+    let mut next = at;
+    let mut k = n;
+    while k < total {
+        if wide(p[next + 2]) != JUMP {
+            return Stand { at: next, n: k };
         }
-        let target = two(p, now.at + 6);
-        now = Stand {
-            at: advance(p, now.at + RECORD_BYTES, now.n + 1, target),
-            n: target,
-        };
+        let target = two(p, next + 6);
+        next = advance(p, next + RECORD_BYTES, k + 1, target);
+        k = target;
     }
-    now
+    Stand { at: next, n: k }
 }

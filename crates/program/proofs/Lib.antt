@@ -1,0 +1,3 @@
+pub mod FirstRecord
+pub mod PartLaws
+pub mod WalkLaws
