@@ -34,3 +34,24 @@ fewer k [] = rw drop-nil (omega arith)
 fewer zero (r ∷ rs) = omega arith
 fewer (suc k) (does op i p t ∷ rs) = omega (arith, fewer k rs)
 fewer (suc k) (jump t ∷ rs) = fewer k rs
+
+module _ (p : Bytes) (g : Group) (comps total n at : ℕ) (x : RecordsAt p g comps total n at) where
+  pub advance-start : Advanced p g comps total n at x n at
+  advance-start = let z : n - n ≡ 0 = omega arith in record { place = x; records = rw z }
+
+  module _ (k next : ℕ) (a : Advanced p g comps total n at x k next) where
+    pub advance-done : (t : ℕ) → k ≡ t → Advanced p g comps total n at x t next
+    advance-done t e = rw (← e) a
+
+  module _ (k next : ℕ) (a : Advanced p g comps total n at x k next) (l : k < total) where
+    abbrev here : First p g comps total k next (a .place)
+    here = first-of p g comps total k next (a .place) l
+
+    pub advance-room : next + 10 + numberAt p (next + 8) ≤ length p
+    advance-room = here .room
+
+    pub advance-next : n ≤ k → Advanced p g comps total n at x (k + 1) (next + 10 + numberAt p (next + 8))
+    advance-next h =
+        let e : k + 1 - n ≡ k - n + 1 = omega arith in
+        let q : drop (k - n) (x .records) ≡ here .first ∷ here .others .records = sym (a .records) ∙ here .records in
+        record { place = here .others; records = rw (e, ← drop-drop 1 (k - n) (x .records), q) }
