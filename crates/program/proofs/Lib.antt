@@ -1,3 +1,4 @@
 pub mod FirstRecord
+pub mod GivenLaws
 pub mod PartLaws
 pub mod WalkLaws
