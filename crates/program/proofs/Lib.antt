@@ -7,3 +7,6 @@ pub mod ProgramLaws
 pub mod RecordLaws
 pub mod RecordsLaws
 pub mod RepeatLaws
+pub mod FirstRecord
+pub mod GivenLaws
+pub mod WalkLaws

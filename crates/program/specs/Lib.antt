@@ -1,1 +1,3 @@
 pub mod Test
+pub mod Walk
+pub mod Step

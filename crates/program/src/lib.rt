@@ -5,3 +5,5 @@ pub mod names;
 pub mod record;
 pub mod records;
 pub mod test;
+pub mod step;
+pub mod walk;
