@@ -1,6 +1,6 @@
 -- What a record of a command may hold, by its row of the command table.
 use Prim.Native.Nat.{ℕ, _-_, _/_, _%_, _≤_, _<_}
-use mathlib.Core.Path.{_≡_, refl, sym, ap, _∙_}
+use mathlib.Core.Path.{_≡_, refl, sym, _∙_}
 use mathlib.Core.List.{[], _∷_}
 use mathlib.Core.Bool.{Bool, true, false, not, _&&_, _||_}
 use mathlib.Core.Option.{some}
@@ -21,7 +21,7 @@ use Rattle.rules.specs.ProgramTest.{paramsIn, opIn, groupAllows}
 use Rattle.rules.proofs.TableLaws.{rows-agree}
 use Rattle.program.specs.declared.entries.Entries.{Entries}
 use Rattle.program.specs.Test.{accepted, ParamsAre}
-use Rattle.program.proofs.PartLaws.{part-none, length-to}
+use Rattle.program.proofs.PartLaws.{length-to}
 
 module _ (c : ℕ) (row : Row) (r : rowOf c commands ≡ some row) (sections : ℕ) (e : setOf (row .allowed) ≡ sections) where
   pub install-allows : (g : Group) → g ≡ Install → not (eqb (sections % 8) 0) ≡ groupAllows g (row .allowed)

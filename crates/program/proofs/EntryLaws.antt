@@ -1,19 +1,18 @@
 -- A parameter that may stand at a place, by the tests that its reading makes.
 use Prim.Native.Nat.{ℕ, suc, _+_, _-_, _*_, _≤_, _<_}
-use mathlib.Core.Path.{_≡_, refl, sym, ap, _∙_}
+use mathlib.Core.Path.{_≡_, refl, sym, _∙_}
 use mathlib.Core.List.{[], _∷_}
-use mathlib.Core.Bool.{Bool, true, false, _&&_, cond}
+use mathlib.Core.Bool.{Bool, true, false}
 use mathlib.Core.Option.{Option, some, none}
 use mathlib.Core.Logic.{_⊎_, inl, inr}
 use native.Mathlib.Omega.{arith}
 use lib.Dec.{eqb, leb}
-use lib.ListN.{length, getD, take, drop}
+use lib.ListN.{length, getD}
 use borrow.Author.Tests.{eq-eqb, ne-eqb, le-leb, lt-leb, eqb-true, eqb-false, leb-true, leb-false}
 use Rattle.rules.specs.Bytes.{Bytes, part}
-use Rattle.rules.specs.Got.{Got, refused, got, _>>=_}
+use Rattle.rules.specs.Got.{Got, got}
 use Rattle.rules.specs.ProgramTest.{bad, optional}
 use Rattle.rules.proofs.BytesLaws.{num-1, num-4}
-use Rattle.rules.proofs.GotLaws.{and-true}
 use Rattle.program.specs.Test.{nextIn, valueIn, sourceIn, sizeIn}
 use Rattle.program.proofs.PartLaws.{part-none, part-cons, take-part, drop-part, length-to}
 

@@ -1,13 +1,13 @@
 -- The parameters of a command, by the places where the reading of each ended.
 use Prim.Native.Nat.{ℕ, suc, _+_, _-_, _≤_, _<_}
-use mathlib.Core.Path.{_≡_, refl, sym, ap, _∙_}
+use mathlib.Core.Path.{_≡_, refl, _∙_}
 use mathlib.Core.List.{[], _∷_}
 use mathlib.Core.Bool.{Bool, true, false, _&&_, cond}
 use mathlib.Core.Option.{Option, some, none, Option·map}
 use native.Mathlib.Omega.{arith}
-use lib.Dec.{eqb, ltb, leb}
-use lib.ListN.{length, getD}
-use borrow.Author.Tests.{eq-eqb, ne-eqb, lt-ltb, le-ltb, eqb-true, eqb-false}
+use lib.Dec.{eqb, leb}
+use lib.ListN.{length}
+use borrow.Author.Tests.{ne-eqb, lt-ltb, le-ltb, eqb-true, eqb-false}
 use Rattle.rules.specs.Limits.{limits}
 use Rattle.rules.specs.Bytes.{Bytes, part, num, same}
 use Rattle.rules.specs.Commands as Rules
@@ -16,7 +16,7 @@ use Rattle.rules.specs.ProgramTest.{bad, need, optional, isBelow, paramsIn}
 use Rattle.slots.specs.Params.{meaning}
 use Rattle.slots.specs.Params as Words
 use Rattle.program.specs.declared.entries.Entries.{Entries}
-use Rattle.program.specs.Test.{nextIn, valueIn, placeIn, lengthIn, sourceIn, sizeIn, wordsOf, ParamsAre}
+use Rattle.program.specs.Test.{nextIn, valueIn, placeIn, lengthIn, sourceIn, sizeIn, ParamsAre}
 use Rattle.program.proofs.PartLaws.{part-none, part-cons}
 use Rattle.program.proofs.EntryLaws.{reading, Step, was-bad, was-step}
 
@@ -40,35 +40,38 @@ by-bytes k lo hi f (x ∷ n ∷ q) = go (eqb x k) (leb lo n && leb n hi && leb n
     go true false e h = rw (e, optional, h)
     go false t e h = rw (e, optional)
 
-module _ (p : Bytes) (n from a b c d to : ℕ) where
+-- the parameters that stand one after the other from `from` to d
+abbrev given : Bytes → ℕ → ℕ → ℕ → ℕ → ℕ → Rules.Params
+given p from a b c d =
+    record { uri = valueIn p from a; source = Option·map num (valueIn p a b); digest = valueIn p b c; size = Option·map num (valueIn p c d) }
+
+module _ (p : Bytes) (n from to : ℕ) where
   abbrev answer : Got Rules.Params
   answer = paramsIn n (part p from (to - from))
-
-  abbrev given : Rules.Params
-  given = record { uri = valueIn p from a; source = Option·map num (valueIn p a b); digest = valueIn p b c; size = Option·map num (valueIn p c d) }
 
   params-1 : reading p from to 6 1 (limits .uri) ≡ bad → answer ≡ bad
   unfolding paramsIn
   params-1 q = rw q
 
-  module _ (x : Step p from to 6 1 (limits .uri) a) where
+  module _ (a : ℕ) (x : Step p from to 6 1 (limits .uri) a) where
     params-2 : reading p a to 10 1 1 ≡ bad → answer ≡ bad
     unfolding paramsIn
     params-2 q = rw (x .reads, by-bytes 10 1 1 num, q)
 
-    module _ (y : Step p a to 10 1 1 b) where
+    module _ (b : ℕ) (y : Step p a to 10 1 1 b) where
       params-3 : reading p b to 11 32 32 ≡ bad → answer ≡ bad
       unfolding paramsIn
       params-3 q = rw (x .reads, by-bytes 10 1 1 num, y .reads, q)
 
-      module _ (z : Step p b to 11 32 32 c) where
+      module _ (c : ℕ) (z : Step p b to 11 32 32 c) where
         params-4 : reading p c to 12 4 4 ≡ bad → answer ≡ bad
         unfolding paramsIn
         params-4 q = rw (x .reads, by-bytes 10 1 1 num, y .reads, z .reads, by-bytes 12 4 4 num, q)
 
-        params-5 : Step p c to 12 4 4 d → answer ≡ (need (same (part p d (to - d)) []) >>= λ _. need (isBelow (given .source) n) >>= λ _. got given)
+        params-5 : (d : ℕ) → Step p c to 12 4 4 d →
+            answer ≡ (need (same (part p d (to - d)) []) >>= λ _. need (isBelow (Option·map num (valueIn p a b)) n) >>= λ _. got (given p from a b c d))
         unfolding paramsIn
-        params-5 w = rw (x .reads, by-bytes 10 1 1 num, y .reads, z .reads, by-bytes 12 4 4 num, w .reads)
+        params-5 d w = rw (x .reads, by-bytes 10 1 1 num, y .reads, z .reads, by-bytes 12 4 4 num, w .reads)
 
 -- the numbers of a parameter mean its value
 module _ (p : Bytes) (at r : ℕ) where
@@ -129,8 +132,8 @@ not-empty p d to h l =
     rw (e, part-cons p d (to - d - 1) (omega arith))
 
 module _ (p : Bytes) (n from to : ℕ) (pre : (0 < from) × (from ≤ to) × (to ≤ length p)) (a : ℕ) (qa : a ≡ nextIn to (reading p from to 6 1 (limits .uri))) where
-  pub no-uri : a ≡ 0 → (e : Entries) → e .good ≡ false → ParamsAre p n (paramsIn n (part p from (to - from))) e
-  no-uri z e g = refuses p n _ e (params-1 p n from a 0 0 0 to (was-bad p from to 6 1 (limits .uri) (pre .1) (pre .2) a (pre .0) qa z)) g
+  pub no-uri : a ≡ 0 → (e : Entries) → e .good ≡ false → ParamsAre p n (answer p n from to) e
+  no-uri z e g = refuses p n _ e (params-1 p n from to (was-bad p from to 6 1 (limits .uri) (pre .1) (pre .2) a (pre .0) qa z)) g
 
   module _ (ha : a ≡ 0 → ⊥) where
     pub uri-step : Step p from to 6 1 (limits .uri) a
@@ -140,9 +143,9 @@ module _ (p : Bytes) (n from to : ℕ) (pre : (0 < from) × (from ≤ to) × (to
     source-pre = (omega (arith, ha), uri-step .fits, pre .2)
 
     module _ (b : ℕ) (qb : b ≡ nextIn to (reading p a to 10 1 1)) where
-      pub no-source : b ≡ 0 → (e : Entries) → e .good ≡ false → ParamsAre p n (paramsIn n (part p from (to - from))) e
+      pub no-source : b ≡ 0 → (e : Entries) → e .good ≡ false → ParamsAre p n (answer p n from to) e
       no-source z e g =
-          refuses p n _ e (params-2 p n from a b 0 0 to uri-step (was-bad p a to 10 1 1 (source-pre .1) (source-pre .2) b (source-pre .0) qb z)) g
+          refuses p n _ e (params-2 p n from to a uri-step (was-bad p a to 10 1 1 (source-pre .1) (source-pre .2) b (source-pre .0) qb z)) g
 
       module _ (hb : b ≡ 0 → ⊥) where
         pub source-step : Step p a to 10 1 1 b
@@ -152,9 +155,9 @@ module _ (p : Bytes) (n from to : ℕ) (pre : (0 < from) × (from ≤ to) × (to
         digest-pre = (omega (arith, hb), source-step .fits, pre .2)
 
         module _ (c : ℕ) (qc : c ≡ nextIn to (reading p b to 11 32 32)) where
-          pub no-digest : c ≡ 0 → (e : Entries) → e .good ≡ false → ParamsAre p n (paramsIn n (part p from (to - from))) e
+          pub no-digest : c ≡ 0 → (e : Entries) → e .good ≡ false → ParamsAre p n (answer p n from to) e
           no-digest z e g =
-              refuses p n _ e (params-3 p n from a b c 0 to uri-step source-step (was-bad p b to 11 32 32 (digest-pre .1) (digest-pre .2) c (digest-pre .0) qc z)) g
+              refuses p n _ e (params-3 p n from to a uri-step b source-step (was-bad p b to 11 32 32 (digest-pre .1) (digest-pre .2) c (digest-pre .0) qc z)) g
 
           module _ (hc : c ≡ 0 → ⊥) where
             pub digest-step : Step p b to 11 32 32 c
@@ -164,38 +167,38 @@ module _ (p : Bytes) (n from to : ℕ) (pre : (0 < from) × (from ≤ to) × (to
             size-pre = (omega (arith, hc), digest-step .fits, pre .2)
 
             module _ (d : ℕ) (qd : d ≡ nextIn to (reading p c to 12 4 4)) where
-              no-size : d ≡ 0 → paramsIn n (part p from (to - from)) ≡ bad
+              no-size : d ≡ 0 → answer p n from to ≡ bad
               no-size z =
-                  params-4 p n from a b c d to uri-step source-step digest-step (was-bad p c to 12 4 4 (size-pre .1) (size-pre .2) d (size-pre .0) qd z)
+                  params-4 p n from to a uri-step b source-step c digest-step (was-bad p c to 12 4 4 (size-pre .1) (size-pre .2) d (size-pre .0) qd z)
 
               some-step : (d ≡ 0 → ⊥) → Step p c to 12 4 4 d
               some-step hd = was-step p c to 12 4 4 (size-pre .1) (size-pre .2) d (size-pre .0) qd hd
 
               -- a fourth that is not well formed, or bytes after it
-              pub not-all : (d ≡ to → ⊥) → (e : Entries) → e .good ≡ false → ParamsAre p n (paramsIn n (part p from (to - from))) e
+              pub not-all : (d ≡ to → ⊥) → (e : Entries) → e .good ≡ false → ParamsAre p n (answer p n from to) e
               not-all h e g = refuses p n _ e (go (eqb d 0) refl) g
                 where
-                  go : (t : Bool) → eqb d 0 ≡ t → paramsIn n (part p from (to - from)) ≡ bad
+                  go : (t : Bool) → eqb d 0 ≡ t → answer p n from to ≡ bad
                   go true z = no-size (eqb-true d 0 z)
                   go false z =
                       let w : Step p c to 12 4 4 d = some-step (eqb-false d 0 z) in
-                      params-5 p n from a b c d to uri-step source-step digest-step w
+                      params-5 p n from to a uri-step b source-step c digest-step d w
                       ∙ rw (not-empty p d to (omega (arith, h, w .fits)) (pre .2))
 
               module _ (hd : d ≡ to) where
                 pub size-step : Step p c to 12 4 4 d
                 size-step = some-step (λ z. omega arith)
 
-                whole : paramsIn n (part p from (to - from)) ≡ (need (isBelow (Option·map num (valueIn p a b)) n) >>= λ _. got (given p n from a b c d to))
-                whole = params-5 p n from a b c d to uri-step source-step digest-step size-step ∙ rw (part-none p d (to - d) (omega arith))
+                whole : answer p n from to ≡ (need (isBelow (Option·map num (valueIn p a b)) n) >>= λ _. got (given p from a b c d))
+                whole = params-5 p n from to a uri-step b source-step c digest-step d size-step ∙ rw (part-none p d (to - d) (omega arith))
 
-                pub no-component : n < sourceIn p a b → (e : Entries) → e .good ≡ false → ParamsAre p n (paramsIn n (part p from (to - from))) e
+                pub no-component : n < sourceIn p a b → (e : Entries) → e .good ≡ false → ParamsAre p n (answer p n from to) e
                 no-component h e g =
-                    let q : paramsIn n (part p from (to - from)) ≡ bad = rw (whole, not-below p a b 1 (source-step .wide) n h) in
+                    let q : answer p n from to ≡ bad = rw (whole, not-below p a b 1 (source-step .wide) n h) in
                     refuses p n _ e q g
 
                 pub all-read : (u l s v z : ℕ) → u ≡ placeIn from a → l ≡ lengthIn from a → s ≡ sourceIn p a b → v ≡ placeIn b c → z ≡ sizeIn p c d → s ≤ n →
-                    ParamsAre p n (paramsIn n (part p from (to - from))) (record { good = true; uri = u; length = l; source = s; digest = v; size = z })
+                    ParamsAre p n (answer p n from to) (record { good = true; uri = u; length = l; source = s; digest = v; size = z })
                 unfolding meaning
                 all-read u l s v z eu el es ev ez h =
                     rw (whole, eu, el, es, ev, ez, below p a b 1 (source-step .wide) n (rw (← es) h)) (

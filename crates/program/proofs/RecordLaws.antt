@@ -14,17 +14,16 @@ use borrow.Author.Tests.{eq-eqb, ne-eqb, lt-ltb, le-ltb, le-leb, lt-leb, eqb-tru
 use Rattle.rules.specs.declared.answers.Group.{Group}
 use Rattle.rules.specs.declared.answers.Refusal.the-variants.{BadProgram}
 use Rattle.rules.specs.declared.tables.Command.{Command}
-use Rattle.rules.specs.declared.tables.Listed.{Listed}
 use Rattle.rules.specs.declared.tables.Listed.the-variants as L
 use Rattle.rules.specs.Bytes.{Bytes, part, num, same}
 use Rattle.rules.specs.Commands.{Op, Params, code, Form, sixteen, nil, below, alternatives, parameters, sequence, Row, rowOf, commands}
 use Rattle.rules.specs.Tables.{kindOf, setOf, asCommand, listed}
 use Rattle.rules.specs.Got.{Got, refused, got, found, _>>=_}
 use Rattle.rules.specs.Program.{Rec, does, jump, NONE, targetOf}
-use Rattle.rules.specs.ProgramTest.{bad, need, paramsIn, opIn, groupAllows, recordIn}
+use Rattle.rules.specs.ProgramTest.{need, paramsIn, opIn, groupAllows, recordIn}
 use Rattle.rules.proofs.BytesLaws.{num-2}
 use Rattle.rules.proofs.GotLaws.{and-true, passed, split, both}
-use Rattle.rules.proofs.TableLaws.{Each, each-row}
+use Rattle.rules.proofs.TableLaws.{each-row}
 use Rattle.program.specs.Test.{accepted, nextIn, jumpFits, commandAt, recordAt}
 use Rattle.program.proofs.PartLaws.{part-drop, rest-at, same-2}
 
