@@ -99,19 +99,19 @@ module _ (g : Group) (comps total n : ℕ) where
         record {
           jumps = λ k. let z : _≡_ {A = Bool} true false = sym (eq-eqb _ _ k) ∙ c in absurd (let y : _≡_ {A = ℕ} 0 1 = cc in omega arith);
           does = λ k.
-          record {
-            row = row;
-            listed = found-is _ BadProgram 0 row qr;
-            inside = ltb-true _ _ b;
-            op = op;
-            reads = qo;
-            is = sym er;
-            aims = λ m.
-            let w = or-left (eqb target NONE) (eqb (targetOf op target) target && forward) a (λ e. m (eqb-true _ _ e)) in
-            let (_, w′) = and-true (eqb (targetOf op target) target) forward w in
-            let (u, v) = and-true (ltb n target) (leb target total) w′ in
-            (ltb-true _ _ u, leb-true _ _ v);
-          };
+              record {
+                row = row;
+                listed = found-is _ BadProgram 0 row qr;
+                inside = ltb-true _ _ b;
+                op = op;
+                reads = qo;
+                is = sym er;
+                aims = λ m.
+                    let w = or-left (eqb target NONE) (eqb (targetOf op target) target && forward) a (λ e. m (eqb-true _ _ e)) in
+                    let (_, w′) = and-true (eqb (targetOf op target) target) forward w in
+                    let (u, v) = and-true (ltb n target) (leb target total) w′ in
+                    (ltb-true _ _ u, leb-true _ _ v);
+              };
         },
       ))
 

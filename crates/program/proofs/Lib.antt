@@ -10,3 +10,4 @@ pub mod RepeatLaws
 pub mod FirstRecord
 pub mod GivenLaws
 pub mod WalkLaws
+pub mod OutcomeLaws

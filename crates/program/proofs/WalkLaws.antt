@@ -100,6 +100,6 @@ module _ (p : Bytes) (g : Group) (comps total n at : ℕ) (x : RecordsAt p g com
             up = omega (arith, a .up);
             few = omega (arith, a .few, fewer (target - (k + 1)) (jumper .others .records));
             goes = λ env st.
-            a .goes env st ∙ ap (λ (rs : List Rec). exec env rs k 0 st) e ∙ exec-jump env target k (jumper .others .records) st w
-            ∙ ap (λ (rs : List Rec). exec env rs target 0 st) (sym (b .records));
+                a .goes env st ∙ ap (λ (rs : List Rec). exec env rs k 0 st) e ∙ exec-jump env target k (jumper .others .records) st w
+                ∙ ap (λ (rs : List Rec). exec env rs target 0 st) (sym (b .records));
           }

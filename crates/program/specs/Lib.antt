@@ -1,3 +1,4 @@
 pub mod Test
 pub mod Walk
 pub mod Step
+pub mod Known

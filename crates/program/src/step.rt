@@ -146,7 +146,18 @@ pub fn step(
     if n == total {
         return now;
     }
-    execute(p, components, now, vendor, class, found, answers, slots, words, trace)
+    execute(
+        p,
+        components,
+        now,
+        vendor,
+        class,
+        found,
+        answers,
+        slots,
+        words,
+        trace,
+    )
 }
 
 // Steps until one stops the run or the records are over.
@@ -174,7 +185,19 @@ pub fn run_records(
         stop: 0,
     };
     while walk.n < total {
-        walk = step(p, components, total, walk, vendor, class, found, answers, slots, words, trace);
+        walk = step(
+            p,
+            components,
+            total,
+            walk,
+            vendor,
+            class,
+            found,
+            answers,
+            slots,
+            words,
+            trace,
+        );
         let stop = walk.stop;
         if stop != 0 {
             return walk;

@@ -80,7 +80,7 @@ record97 g comps total n p =
 records97 : (g : Group) (comps total k n : ℕ) (p : Bytes) → Only97 (recordsIn g comps total k n p)
 unfolding recordsIn
 records97 g comps total zero n p = tt
-records97 g comps total (suc k) n p = 
+records97 g comps total (suc k) n p =
     then97 (recordIn g comps total n p) _ (record97 g comps total n p) λ a.
     then97 (recordsIn g comps total k (n + 1) (a .1)) _ (records97 g comps total k (n + 1) (a .1)) λ b. tt
 

@@ -56,9 +56,11 @@ advances c κs =
 less : tie.Need-loop-less Inv-loop μ-loop
 less c =
     let j = c .before .before .before .before .before .before .before .before .pre in
-    omega
-    (arith, reach-far _ _ _ _ _ _ _ _ _ (c .before .before .before .before .before .before .loop .inv .1 j) (c .before .before .before .before .before .loop-test .taken)
-    _ _ (c .before .before .before .wide .ensures .0) (c .before .before .if1 .left) (c .before .two .ensures .0))
+    omega (
+      arith,
+      reach-far _ _ _ _ _ _ _ _ _ (c .before .before .before .before .before .before .loop .inv .1 j) (c .before .before .before .before .before .loop-test .taken)
+          _ _ (c .before .before .before .wide .ensures .0) (c .before .before .if1 .left) (c .before .two .ensures .0),
+    )
 
 again : tie.Need-loop-again Inv-loop μ-loop
 again c =
