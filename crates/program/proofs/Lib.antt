@@ -1,4 +1,5 @@
 pub mod FirstRecord
 pub mod GivenLaws
+pub mod OnwardLaws
 pub mod PartLaws
 pub mod WalkLaws
