@@ -1,3 +1,4 @@
+pub mod ExecuteLaws
 pub mod FirstRecord
 pub mod GivenLaws
 pub mod OnwardLaws

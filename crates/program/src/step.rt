@@ -104,6 +104,7 @@ fn execute(
     let i = wide(p[at + 3]);
     let from = at + RECORD_BYTES;
     let to = from + two(p, at + 8);
+    let target = two(p, at + 6);
     let d = perform(
         p,
         code,
@@ -121,7 +122,7 @@ fn execute(
         walk.events,
         walk.used,
     );
-    onward(p, to, walk.n + 1, two(p, at + 6), d)
+    onward(p, to, walk.n + 1, target, d)
 }
 
 // The next record that writes an event, through the jumps before it; nothing is done where the jumps lead to the end.
