@@ -3,4 +3,5 @@ pub mod FirstRecord
 pub mod GivenLaws
 pub mod OnwardLaws
 pub mod PartLaws
+pub mod StepLaws
 pub mod WalkLaws
