@@ -1,22 +1,26 @@
 -- One step of a program's run, and the whole run.
 use Prim.Native.Nat.{ℕ, _+_, _-_, _≤_, _<_}
 use mathlib.Core.Path.{_≡_}
-use mathlib.Core.Bool.{cond}
+use mathlib.Core.Bool.{true, false, cond}
 use mathlib.Core.List.{List}
 use mathlib.Core.Option.{some}
 use lib.Dec.{eqb}
 use lib.ListN.{length, getD}
+use Rattle.rules.specs.declared.answers.End.the-variants.{ConditionFailed}
 use Rattle.rules.specs.declared.answers.Group.{Group}
 use Rattle.rules.specs.Answers.{endOf}
 use Rattle.rules.specs.Bytes.{Bytes, part}
 use Rattle.rules.specs.Commands.{Op, Row, rowOf, commands}
 use Rattle.rules.specs.Got.{got}
 use Rattle.rules.specs.Limits.{limits}
+use Rattle.rules.specs.Program.{Rec, NONE}
 use Rattle.rules.specs.ProgramRun.{exec}
 use Rattle.rules.specs.ProgramTest.{opIn, nonJumps}
+use Rattle.rules.specs.Run.{next}
 use Rattle.rules.specs.Step.{Env, State, Out, out}
 use Rattle.slots.specs.declared.params.Params.{Params}
 use Rattle.slots.specs.Params.{Fit}
+use Rattle.commands.specs.declared.perform.Done.{Done}
 use Rattle.commands.specs.Machine.{stateAt, Lent}
 use Rattle.commands.specs.Op.{opOf}
 use Rattle.program.specs.declared.step.Walk.{Walk}
@@ -40,6 +44,32 @@ valueOf code i from = cond (eqb code 12) i from
 pub record GivenAs (p : Bytes) (components code from to : ℕ) (x : ArgumentAt p components code from to) (r : Params) : Type 0 where
   pub op : opOf p code (valueOf code (x .i) from) r ≡ x .op
   pub fit : Fit p components r
+
+-- a condition with the target t failed before the records from number n on
+unfoldable pub failing : Env → List Rec → ℕ → ℕ → State → Out
+failing env rs n t st = elim (eqb t NONE) [ true ↦ out ConditionFailed st | false ↦ exec env rs n (t - n) st ]
+
+-- after a command that gave o
+abbrev pub afterwards : Env → List Rec → ℕ → ℕ → Out → Out
+afterwards env rs n t o = next o (λ st. exec env rs n 0 st) (λ st. failing env rs n t st)
+
+-- record n at `at`, and a target, which is no record or a later one
+pub record OnwardJob (p : Bytes) (at n target : ℕ) : Type 0 where
+  pub group : Group
+  pub components : ℕ
+  pub total : ℕ
+  pub place : RecordsAt p group components total n at
+  pub aims : (target ≡ NONE → ⊥) → (n ≤ target) × (target ≤ total)
+
+-- the run goes on at r, or ended
+pub record Onward (p : Bytes) (group : Group) (components total n at : ℕ) (x : RecordsAt p group components total n at) (target : ℕ) (done : Done) (r : Walk) : Type 0 where
+  pub place : RecordsAt p group components total (r .n) (r .at)
+  pub up : n ≤ r .n
+  pub few : nonJumps (place .records) ≤ nonJumps (x .records)
+  pub events : r .events ≡ done .events
+  pub used : r .used ≡ done .used
+  pub goes : r .stop ≡ 0 → (env : Env) (st : State) → afterwards env (x .records) n target (out (endOf (done .stop)) st) ≡ exec env (place .records) (r .n) 0 st
+  pub stops : 0 < r .stop → (env : Env) (st : State) → afterwards env (x .records) n target (out (endOf (done .stop)) st) ≡ out (endOf (r .stop)) st
 
 -- the state that a run has reached
 abbrev pub stateOf : Bytes → ℕ → List ℕ → Bytes → Bytes → Walk → State

@@ -1,10 +1,11 @@
 // One step of a program's run: the next record that writes an event.
 ghost use mathlib.Core.Path.{_≡_};
-ghost use Rattle.program.specs.Step.{ArgumentAt, GivenAs, valueOf, ExecJob, Executed, StepJob, Stepped, startAt, Ran};
+ghost use Rattle.program.specs.Step.{ArgumentAt, GivenAs, valueOf, OnwardJob, Onward, ExecJob, Executed, StepJob, Stepped, startAt, Ran};
 use crate::entries::read_params;
 use crate::record::RECORD_BYTES;
 use crate::walk::advance;
 use crate::walk::land;
+use commands::perform::Done;
 use commands::perform::perform;
 use numbers::two;
 use numbers::wide;
@@ -56,7 +57,33 @@ fn given(p: &[u8], components: usize, code: usize, from: usize, to: usize) -> Pa
     }
 }
 
-// The record at walk.at, which is a command: it is done, and the walk goes on after it or, where its condition failed, at its target.
+// Where a run goes on after a command whose next record is record n at `at`: there or, where its condition failed, at its target.
+fn onward(p: &[u8], at: usize, n: usize, target: usize, done: Done) -> Walk
+    requires { ⌜ OnwardJob (now p) at n target ⌝ }
+    ensures { λ r. ⌜ ((j : OnwardJob (now (p .entry)) at n target) → Onward (now (p .entry)) (j .group) (j .components) (j .total) n at (j .place) target done r) ⌝ }
+{
+    let stop = done.stop;
+    if stop == 1 {
+        if target != 0xffff {
+            return Walk {
+                at: advance(p, at, n, target),
+                n: target,
+                events: done.events,
+                used: done.used,
+                stop: 0,
+            };
+        }
+    }
+    Walk {
+        at,
+        n,
+        events: done.events,
+        used: done.used,
+        stop,
+    }
+}
+
+// The record at walk.at, which is a command, is done.
 fn execute(
     p: &[u8],
     components: usize,
@@ -77,6 +104,7 @@ fn execute(
     let i = wide(p[at + 3]);
     let from = at + RECORD_BYTES;
     let to = from + two(p, at + 8);
+    let target = two(p, at + 6);
     let d = perform(
         p,
         code,
@@ -94,27 +122,7 @@ fn execute(
         walk.events,
         walk.used,
     );
-    let next = walk.n + 1;
-    let target = two(p, at + 6);
-    let stop = d.stop;
-    if stop == 1 {
-        if target != 0xffff {
-            return Walk {
-                at: advance(p, to, next, target),
-                n: target,
-                events: d.events,
-                used: d.used,
-                stop: 0,
-            };
-        }
-    }
-    Walk {
-        at: to,
-        n: next,
-        events: d.events,
-        used: d.used,
-        stop,
-    }
+    onward(p, to, walk.n + 1, target, d)
 }
 
 // The next record that writes an event, through the jumps before it; nothing is done where the jumps lead to the end.

@@ -1,56 +1,50 @@
+use Prim.Native.Nat.{_-_}
+use mathlib.Core.Path.{_≡_, refl}
+use native.Mathlib.Omega.{arith}
+use borrow.Author.Needs.{needs}
+use lib.ListN.{length}
+use Rattle.program.specs.Step.{StepJob, startAt}
+use Rattle.program.proofs.RunRecords.{LoopAt, loop-starts, loop-job, loop-done, loop-stops, loop-goes-on, loop-further}
 use Rattle.program.proofs.step.run_records.Statement.{statement}
 use Rattle.program.proofs.step.run_records.Tie as tie
-use Rattle.program.proofs.step.run_records.Reads as reads
-use Rattle.program.proofs.step.run_records.Lts as lts
-use Rattle.program.proofs.step.step.Reads as step-reads
 
 abbrev Inv-loop : tie.InvT-loop
 Inv-loop p components total from vendor class found answers slots₀ words₀ trace₀ walk₀ slots words trace walk =
-    ?
+    (length slots ≡ length slots₀) × (length trace ≡ length trace₀) × ((j : StepJob p components total (startAt from) vendor class found answers slots₀ words₀ trace₀) →
+    LoopAt p components total from vendor class found answers slots₀ words₀ trace₀ j slots words trace walk)
 
 abbrev μ-loop : tie.MeasureT-loop
 μ-loop p components total from vendor class found answers slots₀ words₀ trace₀ walk₀ slots words trace walk =
-    ?
+    total - walk .n
 
--- src/step.rt:187:5
-loop-holds : tie.Need-loop-holds Inv-loop μ-loop
-loop-holds c = ?
+holds : tie.Need-loop-holds Inv-loop μ-loop
+holds c = (refl, refl, λ j. loop-starts _ _ _ _ _ _ _ _ _ _ _ j)
 
--- src/step.rt:188:9
-step-requires : tie.Need-step-requires Inv-loop μ-loop
-step-requires c κs = ?
+steps : tie.Need-step-requires Inv-loop μ-loop
+steps c κs = let j = c .before .before .before .before .before .before .before .before .before .before .pre in loop-job _ _ _ _ _ _ _ _ _ _ _ j _ _ _ _ (c .before .before .before .before .before .loop .inv .2 j)
 
--- src/step.rt:203:13
-same-length : tie.Need-same-length Inv-loop μ-loop
-same-length c = ?
+stops : tie.Need-returns Inv-loop μ-loop
+stops c = λ j.
+    let l = c .before .before .before .before .before .before .before .before .before .before .before .loop .inv .2 j in
+    loop-stops _ _ _ _ _ _ _ _ _ _ _ j _ _ _ _ l (c .before .before .before .before .before .before .before .before .before .if1 .taken) _ _ _ _ (c .before .before .before .before .before .step .ensures (loop-job _ _ _ _ _ _ _ _ _ _ _ j _ _ _ _ l)) (c .if2 .taken)
 
--- src/step.rt:203:13
-same-length-2 : tie.Need-same-length-2 Inv-loop μ-loop
-same-length-2 c = ?
+less : tie.Need-loop-less Inv-loop μ-loop
+less c =
+    let j = c .before .before .before .before .before .before .before .before .before .before .before .before .before .before .before .before .pre in
+    let l = c .before .before .before .before .before .before .before .before .before .before .before .loop .inv .2 j in
+    omega (arith, loop-further _ _ _ _ _ _ _ _ _ _ _ j _ _ _ _ l (c .before .before .before .before .before .before .before .before .before .if1 .taken) _ _ _ _ (c .before .before .before .before .before .step .ensures (loop-job _ _ _ _ _ _ _ _ _ _ _ j _ _ _ _ l)))
 
--- src/step.rt:203:13
-returns : tie.Need-returns Inv-loop μ-loop
-returns c = ?
+again : tie.Need-loop-again Inv-loop μ-loop
+again c = (
+  search needs,
+  search needs,
+  λ j.
+  let l = c .before .before .before .before .before .before .before .before .before .before .before .loop .inv .2 j in
+  loop-goes-on _ _ _ _ _ _ _ _ _ _ _ j _ _ _ _ l (c .before .before .before .before .before .before .before .before .before .if1 .taken) _ _ _ _ (c .before .before .before .before .before .step .ensures (loop-job _ _ _ _ _ _ _ _ _ _ _ j _ _ _ _ l)) (c .if2 .left),
+)
 
--- src/step.rt:187:5
-loop-less : tie.Need-loop-less Inv-loop μ-loop
-loop-less c = ?
-
--- src/step.rt:187:5
-loop-again : tie.Need-loop-again Inv-loop μ-loop
-loop-again c = ?
-
--- src/step.rt:164:1
-same-length-3 : tie.Need-same-length-3 Inv-loop μ-loop
-same-length-3 c = ?
-
--- src/step.rt:164:1
-same-length-4 : tie.Need-same-length-4 Inv-loop μ-loop
-same-length-4 c = ?
-
--- src/step.rt:164:1
-returns-2 : tie.Need-returns-2 Inv-loop μ-loop
-returns-2 c = ?
+done : tie.Need-returns-2 Inv-loop μ-loop
+done c = λ j. loop-done _ _ _ _ _ _ _ _ _ _ _ j _ _ _ _ (c .before .before .loop .inv .2 j) (omega (arith, c .if1 .left))
 
 pub run-records-spec : {M : Type 1} → statement M
 run-records-spec =
@@ -58,13 +52,13 @@ run-records-spec =
     (tie.spec
     Inv-loop
     μ-loop
-    loop-holds
-    step-requires
-    same-length
-    same-length-2
-    returns
-    loop-less
-    loop-again
-    same-length-3
-    same-length-4
-    returns-2)
+    holds
+    steps
+    (λ c. search needs)
+    (λ c. search needs)
+    stops
+    less
+    again
+    (λ c. search needs)
+    (λ c. search needs)
+    done)

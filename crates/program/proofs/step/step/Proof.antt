@@ -1,35 +1,29 @@
 use borrow.Author.Needs.{needs}
+use Rattle.program.proofs.StepLaws.{land-job, step-over, execute-job, step-done}
 use Rattle.program.proofs.step.step.Statement.{statement}
 use Rattle.program.proofs.step.step.Tie as tie
-use Rattle.program.proofs.step.step.Reads as reads
-use Rattle.program.proofs.step.step.Lts as lts
-use Rattle.program.proofs.step.execute.Reads as execute-reads
-use Rattle.program.proofs.walk.land.Reads as land-reads
 
--- src/step.rt:137:9
-land-requires : tie.Need-land-requires
-land-requires c κs = search needs
+over : tie.Need-returns
+over c = λ j. step-over _ _ _ _ _ _ _ _ _ _ _ j _ (c .before .land .ensures (land-job _ _ _ _ _ _ _ _ _ _ _ j)) (c .if1 .taken)
 
--- src/step.rt:147:9
-returns : tie.Need-returns
-returns c = ?
+executes : tie.Need-execute-requires
+executes c κs =
+    let j = c .before .before .before .before .before .before .before .before .before .pre in
+    execute-job _ _ _ _ _ _ _ _ _ _ _ j _ (c .before .before .before .before .land .ensures (land-job _ _ _ _ _ _ _ _ _ _ _ j)) (c .before .before .before .if1 .left)
 
--- src/step.rt:149:5
-execute-requires : tie.Need-execute-requires
-execute-requires c κs = ?
-
--- src/step.rt:121:1
-same-length : tie.Need-same-length
-same-length c = search needs
-
--- src/step.rt:121:1
-same-length-2 : tie.Need-same-length-2
-same-length-2 c = search needs
-
--- src/step.rt:121:1
-returns-2 : tie.Need-returns-2
-returns-2 c = ?
+done : tie.Need-returns-2
+done c = λ j.
+    let l = c .before .before .before .before .before .before .before .before .before .land .ensures (land-job _ _ _ _ _ _ _ _ _ _ _ j) in
+    let e = c .before .before .before .before .before .before .before .before .if1 .left in
+    step-done _ _ _ _ _ _ _ _ _ _ _ j _ l e _ _ _ _ (c .before .before .before .before .execute .ensures (execute-job _ _ _ _ _ _ _ _ _ _ _ j _ l e))
 
 pub step-spec : {M : Type 1} → statement M
 step-spec =
-    tie.close (tie.spec land-requires returns execute-requires same-length same-length-2 returns-2)
+    tie.close
+    (tie.spec
+    (λ c κs. land-job _ _ _ _ _ _ _ _ _ _ _ (c .before .before .before .before .pre))
+    over
+    executes
+    (λ c. search needs)
+    (λ c. search needs)
+    done)
