@@ -71,7 +71,6 @@ module _ (p : Bytes) (components : ℕ) (walk : Walk) (vendor class : Bytes) (fo
           reads = rw (ei, z) (command .reads);
         }
 
-
     pub execute-inside : i < length (j .env .ids)
     execute-inside = omega (arith, command .inside, j .ready .among)
 

@@ -81,7 +81,7 @@ module _ (p : Bytes) (at n target : ℕ) (j : OnwardJob p at n target) where
           events = refl;
           used = refl;
           goes = λ _ env st.
-          after-failed env (j .place .records) n target (done .stop) st z k (j .aims k .0) ∙ ap (λ (rs : List Rec). exec env rs target 0 st) (sym (a .records));
+              after-failed env (j .place .records) n target (done .stop) st z k (j .aims k .0) ∙ ap (λ (rs : List Rec). exec env rs target 0 st) (sym (a .records));
           stops = λ l. absurd (omega arith);
         }
 

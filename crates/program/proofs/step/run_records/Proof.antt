@@ -39,8 +39,8 @@ again c = (
   search needs,
   search needs,
   λ j.
-  let l = c .before .before .before .before .before .before .before .before .before .before .before .loop .inv .2 j in
-  loop-goes-on _ _ _ _ _ _ _ _ _ _ _ j _ _ _ _ l (c .before .before .before .before .before .before .before .before .before .if1 .taken) _ _ _ _ (c .before .before .before .before .before .step .ensures (loop-job _ _ _ _ _ _ _ _ _ _ _ j _ _ _ _ l)) (c .if2 .left),
+      let l = c .before .before .before .before .before .before .before .before .before .before .before .loop .inv .2 j in
+      loop-goes-on _ _ _ _ _ _ _ _ _ _ _ j _ _ _ _ l (c .before .before .before .before .before .before .before .before .before .if1 .taken) _ _ _ _ (c .before .before .before .before .before .step .ensures (loop-job _ _ _ _ _ _ _ _ _ _ _ j _ _ _ _ l)) (c .if2 .left),
 )
 
 done : tie.Need-returns-2 Inv-loop μ-loop
