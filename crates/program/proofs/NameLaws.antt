@@ -19,8 +19,9 @@ use Rattle.rules.specs.ProgramTest.{need, bad, marked, idsIn}
 use Rattle.rules.proofs.GotLaws.{and-true, passed, split₂, both}
 use Rattle.slots.specs.Slot.{namesAt}
 use Rattle.slots.proofs.SearchLaws.{name-at, names-count}
-use Rattle.program.proofs.PartLaws.{rest-at, same-3}
-use Rattle.program.specs.Test.{nextIn, NamesAre}
+use Rattle.records.proofs.PartLaws.{rest-at, same-3}
+use Rattle.records.specs.Records.{nextIn}
+use Rattle.program.specs.Test.{NamesAre}
 
 pub marked-at : (p : Bytes) (at c : ℕ) → at + 3 ≤ length p →
     marked c (drop at p) ≡ (eqb (getD p at 0) 0x53 && (eqb (getD p (at + 1) 0) 0x50 && (eqb (getD p (at + 2) 0) c && true)))

@@ -22,11 +22,12 @@ use Rattle.slots.specs.Slot.{namesAt}
 use Rattle.identifiers.specs.declared.Repeat.{Repeat}
 use Rattle.identifiers.specs.declared.Repeat.the-variants.{At, Nothing}
 use Rattle.identifiers.specs.Identifiers.{repeated}
-use Rattle.program.specs.declared.records.Records.{Records}
+use Rattle.records.specs.declared.records.Records.{Records}
 use Rattle.program.specs.declared.test.Tested.{Tested}
-use Rattle.program.specs.Test.{nextIn, recordsAre, NamesAre, startFits, TestedAs}
+use Rattle.records.specs.Records.{nextIn, recordsAre}
+use Rattle.program.specs.Test.{NamesAre, startFits, TestedAs}
 use Rattle.program.proofs.NameLaws.{Named, none-named, all-named}
-use Rattle.program.proofs.PartLaws.{same-3}
+use Rattle.records.proofs.PartLaws.{same-3}
 use Rattle.program.proofs.RepeatLaws.{again, repeated-law}
 
 module _ (m : ℕ) where

@@ -1,4 +1,1 @@
 pub mod Test
-pub mod Walk
-pub mod Step
-pub mod Known

@@ -1,0 +1,8 @@
+pub mod FirstRecord
+pub mod GivenLaws
+pub mod WalkLaws
+pub mod OnwardLaws
+pub mod ExecuteLaws
+pub mod StepLaws
+pub mod RunRecords
+pub mod OutcomeLaws
