@@ -7,6 +7,7 @@ use commands::perform::Done;
 use commands::perform::perform;
 use numbers::two;
 use numbers::wide;
+use records::argument::NONE;
 use records::entries::read_params;
 use records::record::RECORD_BYTES;
 use slots::params::Params;
@@ -64,7 +65,7 @@ fn onward(p: &[u8], at: usize, n: usize, target: usize, done: Done) -> Walk
 {
     let stop = done.stop;
     if stop == 1 {
-        if target != 0xffff {
+        if target != NONE {
             return Walk {
                 at: advance(p, at, n, target),
                 n: target,

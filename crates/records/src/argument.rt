@@ -16,6 +16,9 @@ use crate::entries::read_params;
 use rules::answers::Group;
 use rules::tables::Argument;
 
+// No target.
+pub const NONE: usize = 0xffff;
+
 // Whether the bytes from `from` to `to` are an argument of that kind, for n components.
 pub fn argument_fits(p: &[u8], argument: Argument, from: usize, to: usize, n: usize) -> bool
     requires { ⌜ (0 < from) × (from ≤ to) × (to ≤ length (now p)) ⌝ }
@@ -50,7 +53,7 @@ pub fn allows(sections: u8, group: Group) -> bool
 pub fn target_fits(code: usize, target: usize, n: usize, total: usize) -> bool
     ensures { λ r. ⌜ ((op : Op) → Rules.code op ≡ code → r ≡ (eqb target NONE || eqb (targetOf op target) target && (ltb n target && leb target total))) ⌝ }
 {
-    if target == 0xffff {
+    if target == NONE {
         return true;
     }
     if 3 < code {
