@@ -1,5 +1,5 @@
 -- What a command's record gives to a run, and what the command leaves.
-use Prim.Native.Nat.{ℕ, _+_, _-_, _*_, _%_, _≤_, _<_}
+use Prim.Native.Nat.{ℕ, _+_, _-_, _*_, _≤_, _<_}
 use mathlib.Core.Path.{_≡_, refl, sym, ap, _∙_}
 use mathlib.Core.List.{List, _∷_}
 use native.Mathlib.Omega.{arith}
@@ -7,21 +7,20 @@ use lib.ListN.{length, getD}
 use borrow.Author.Tests.{ne-eqb}
 use Rattle.rules.specs.Answers.{endOf}
 use Rattle.rules.specs.Bytes.{Bytes, part}
-use Rattle.rules.specs.Commands.{Op}
-use Rattle.rules.specs.Program.{Rec, does, NONE}
+use Rattle.rules.specs.Program.{Rec, does}
 use Rattle.rules.specs.ProgramRun.{exec}
 use Rattle.rules.specs.ProgramTest.{nonJumps}
-use Rattle.rules.specs.Step.{Env, State, Out, out, step}
+use Rattle.rules.specs.Step.{State, Out, out, step}
 use Rattle.slots.specs.declared.params.Params.{Params}
 use Rattle.slots.specs.Params.{FitAll}
 use Rattle.commands.specs.declared.perform.Done.{Done}
-use Rattle.commands.specs.Machine.{stateAt, outAt, AllHold}
+use Rattle.commands.specs.Machine.{stateAt, outAt}
 use Rattle.commands.specs.Op.{opOf, IsCode}
 use Rattle.commands.proofs.LentLaws.{moves-step, lent-after}
 use Rattle.player.specs.declared.step.Walk.{Walk}
-use Rattle.player.specs.Walk.{RecordsAt}
 use Rattle.player.specs.Step.{ArgumentAt, valueOf, GivenAs, afterwards, OnwardJob, Onward, stateOf, ExecJob, Executed}
-use Rattle.player.proofs.FirstRecord.{Commands, numberAt, First, first-of}
+use Rattle.player.proofs.FirstRecord.{numberAt, First, first-of}
+use Rattle.records.proofs.ReadRecord.{Commands}
 use Rattle.player.proofs.GivenLaws.{argument-code, argument-sixteen}
 use Rattle.player.proofs.OnwardLaws.{exec-does}
 

@@ -1,21 +1,20 @@
 -- The argument of a command's record: what a run makes of it is what the program test has read.
 use Prim.Native.Nat.{ℕ, _+_, _-_, _≤_, _<_}
-use mathlib.Core.Path.{_≡_, refl, sym, ap, subst, _∙_}
-use mathlib.Core.List.{List, [], _∷_}
-use mathlib.Core.Bool.{Bool, true, false}
-use mathlib.Core.Option.{some}
+use mathlib.Core.Path.{_≡_, sym, ap, _∙_}
+use mathlib.Core.List.{[]}
 use native.Mathlib.Omega.{arith}
 use lib.Dec.{eqb}
 use lib.ListN.{length}
 use borrow.Author.Tests.{eqb-true}
 use Rattle.rules.specs.declared.answers.Refusal.the-variants.{BadProgram}
 use Rattle.rules.specs.Bytes.{Bytes, part, same}
-use Rattle.rules.specs.Commands.{Op, vendor, class, imageMatch, setIndex, abort, setParams, overrideParams, fetch, copy, run, swap, Params, Form, sixteen, nil, below, alternatives, parameters, sequence, Row, rowOf, commands, code}
+use Rattle.rules.specs.Commands.{Op, vendor, class, imageMatch, setIndex, abort, setParams, overrideParams, fetch, copy, run, swap, Params, Form, sixteen, nil, below, alternatives, parameters, sequence, commands, code}
 use Rattle.rules.specs.Got.{Got, got}
 use Rattle.rules.specs.ProgramTest.{paramsIn, opIn}
+use Rattle.rules.proofs.TableLaws.{each-row}
 use Rattle.rules.proofs.GotLaws.{passed, split}
 use Rattle.slots.specs.declared.params.Params as Words
-use Rattle.slots.specs.Params.{meaning, Fit}
+use Rattle.slots.specs.Params.{meaning}
 use Rattle.commands.specs.Op.{opOf}
 use Rattle.records.specs.declared.entries.Entries.{Entries}
 use Rattle.records.specs.Records.{wordsOf, ParamsAre}
@@ -25,21 +24,6 @@ use Rattle.records.proofs.PartLaws.{length-to}
 infixr 5 _&_
 _&_ : {A B : Type 0} → A → B → A × B
 a & b = (a, b)
-
--- what holds of each row and its number holds of the row of a code
-abbrev Each : (ℕ → Row → Type 0) → List Row → Type 0
-Each P [] = Unit {0}
-Each P (r ∷ rs) = P (r .number) r × Each P rs
-
-each-row : (P : ℕ → Row → Type 0) (rs : List Row) (c : ℕ) (r : Row) → Each P rs → rowOf c rs ≡ some r → P c r
-each-row P [] c r t e = let z : _≡_ {A = ℕ} 0 1 = cc in absurd (omega arith)
-each-row P (x ∷ xs) c r t e = go (eqb c (x .number)) refl (each-row P xs c r (t .1)) e
-  where
-    go : (b : Bool) → eqb c (x .number) ≡ b → (rowOf c xs ≡ some r → P c r) → elim b [ true ↦ some x | false ↦ rowOf c xs ] ≡ some r → P c r
-    go true h next q =
-        let same : x ≡ r = cc in
-        subst (λ (y : Row). P c y) same (subst (λ (k : ℕ). P k x) (sym (eqb-true c (x .number) h)) (t .0))
-    go false h next q = next q
 
 value-is : {A : Type 0} (a b : A) → _≡_ {A = Got A} (got a) (got b) → b ≡ a
 value-is a b e = let f : a ≡ b = cc in sym f

@@ -1,5 +1,5 @@
 -- What a run does after a command.
-use Prim.Native.Nat.{ℕ, suc, _+_, _-_, _≤_, _<_}
+use Prim.Native.Nat.{ℕ, _+_, _-_, _≤_, _<_}
 use mathlib.Core.Path.{_≡_, refl, sym, ap, _∙_}
 use mathlib.Core.List.{List, _∷_}
 use mathlib.Core.Bool.{Bool, true, false, cond}
@@ -9,7 +9,6 @@ use lib.Dec.{eqb}
 use lib.ListN.{drop}
 use borrow.Author.Tests.{eq-eqb, ne-eqb, eqb-true, eqb-false}
 use Rattle.rules.specs.declared.answers.End.the-variants.{ConditionFailed, Started, Failed}
-use Rattle.rules.specs.declared.answers.Group.{Group}
 use Rattle.rules.specs.Answers.{endOf, failureOf}
 use Rattle.rules.specs.Bytes.{Bytes}
 use Rattle.rules.specs.Commands.{Op}
@@ -17,9 +16,9 @@ use Rattle.rules.specs.Program.{Rec, does, NONE}
 use Rattle.rules.specs.ProgramRun.{exec}
 use Rattle.rules.specs.ProgramTest.{nonJumps}
 use Rattle.rules.specs.Run.{on}
-use Rattle.rules.specs.Step.{Env, State, Out, out, step}
+use Rattle.rules.specs.Step.{Env, State, out, step}
 use Rattle.commands.specs.declared.perform.Done.{Done}
-use Rattle.player.specs.Walk.{RecordsAt, AdvanceJob, Advanced}
+use Rattle.player.specs.Walk.{AdvanceJob, Advanced}
 use Rattle.player.specs.Step.{failing, afterwards, OnwardJob, Onward}
 use Rattle.player.proofs.WalkLaws.{exec-past, fewer}
 

@@ -10,7 +10,7 @@ use Rattle.rules.specs.declared.answers.Refusal.the-variants.{BadProgram}
 use Rattle.rules.specs.Answers.{refusalOf, endOf}
 use Rattle.rules.specs.Limits.{limits}
 use Rattle.rules.specs.Bytes.{Bytes, spanAt}
-use Rattle.rules.specs.Got.{Got, refused, got, _>>=_}
+use Rattle.rules.specs.Got.{Got, refused, got}
 use Rattle.rules.specs.Program.{Program}
 use Rattle.rules.specs.ProgramTest.{programIn}
 use Rattle.rules.specs.ProgramRun.{exec, runProgram}
@@ -23,11 +23,10 @@ use Rattle.frame.specs.Answer.{stopOf, endingOf, Settles}
 use Rattle.frame.proofs.FrameLaws.{refused-run, ran-run, trace-room, lent-start, state-start, settles-refused, settles-ran}
 use Rattle.player.specs.declared.step.Walk.{Walk}
 use Rattle.program.specs.declared.test.Tested.{Tested}
-use Rattle.program.specs.Test.{ProgramAt, TestedAs}
+use Rattle.program.specs.Test.{TestedAs}
 use Rattle.player.specs.Known.{Known}
 use Rattle.player.specs.Step.{StepJob, stateOf, startAt, Ran}
-use Rattle.rules.specs.Step.{Env, State, Out, out}
-use Rattle.rules.specs.declared.answers.Group.{Group}
+use Rattle.rules.specs.Step.{out}
 use Rattle.rules.proofs.Effects.{program-effects}
 use Rattle.rules.proofs.ProgramFaults.{Only97, program97}
 use Rattle.slots.proofs.SearchLaws.{names-count}

@@ -1,14 +1,13 @@
 -- Steps one after the other: the run of the whole is the run of what is left.
-use Prim.Native.Nat.{ℕ, _+_, _≤_, _<_}
+use Prim.Native.Nat.{ℕ, _≤_, _<_}
 use mathlib.Core.Path.{_≡_, refl, sym, ap, _∙_}
 use mathlib.Core.List.{List, []}
 use native.Mathlib.Omega.{arith}
 use Rattle.rules.specs.declared.answers.Group.{Group}
-use Rattle.rules.specs.Answers.{endOf}
 use Rattle.rules.specs.Bytes.{Bytes}
 use Rattle.rules.specs.Program.{Rec}
 use Rattle.rules.specs.ProgramRun.{exec}
-use Rattle.rules.specs.Step.{Env, Out, out}
+use Rattle.rules.specs.Step.{Env, Out}
 use Rattle.commands.specs.Machine.{stateAt}
 use Rattle.player.specs.declared.step.Walk.{Walk}
 use Rattle.player.specs.Step.{stateOf, Ready, rest, StepJob, Stepped, startAt, Ran}

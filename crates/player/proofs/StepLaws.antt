@@ -1,13 +1,13 @@
 -- A step: through jumps to a command, or to the end.
-use Prim.Native.Nat.{ℕ, _+_, _≤_, _<_}
-use mathlib.Core.Path.{_≡_, refl, sym, _∙_}
+use Prim.Native.Nat.{ℕ, _<_}
+use mathlib.Core.Path.{_≡_, _∙_}
 use mathlib.Core.List.{List}
 use native.Mathlib.Omega.{arith}
 use Rattle.rules.specs.Bytes.{Bytes}
 use Rattle.player.specs.declared.step.Walk.{Walk}
 use Rattle.player.specs.declared.walk.Stand.{Stand}
 use Rattle.player.specs.Walk.{LandJob, Landed}
-use Rattle.player.specs.Step.{stateOf, Ready, ExecJob, Executed, StepJob, Stepped}
+use Rattle.player.specs.Step.{Ready, ExecJob, Executed, StepJob, Stepped}
 
 module _ (p : Bytes) (components total : ℕ) (walk : Walk) (vendor class : Bytes) (found : List ℕ) (answers slots : Bytes) (words : List ℕ) (trace : Bytes)
     (j : StepJob p components total walk vendor class found answers slots words trace) where

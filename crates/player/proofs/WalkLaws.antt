@@ -13,8 +13,9 @@ use Rattle.rules.specs.Program.{Rec, does, jump}
 use Rattle.rules.specs.ProgramRun.{exec}
 use Rattle.rules.specs.ProgramTest.{nonJumps}
 use Rattle.rules.specs.Step.{Env, State}
-use Rattle.player.specs.Walk.{RecordsAt, AdvanceJob, Advanced, LandJob, Reached}
-use Rattle.player.proofs.FirstRecord.{Jumps, numberAt, First, first-of}
+use Rattle.player.specs.Walk.{RecordsAt, AdvanceJob, Advanced, Reached}
+use Rattle.player.proofs.FirstRecord.{numberAt, First, first-of}
+use Rattle.records.proofs.ReadRecord.{Jumps}
 
 module _ (env : Env) where
   pub exec-past : (rs : List Rec) (n k : ℕ) (st : State) → exec env rs n k st ≡ exec env (drop k rs) (n + k) 0 st

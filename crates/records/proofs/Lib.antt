@@ -3,4 +3,5 @@ pub mod EntryLaws
 pub mod ParamLaws
 pub mod ArgumentLaws
 pub mod RecordLaws
+pub mod ReadRecord
 pub mod RecordsLaws

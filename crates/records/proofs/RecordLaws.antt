@@ -4,13 +4,12 @@ use mathlib.Core.Path.{_≡_, refl, sym, ap, _∙_}
 use mathlib.Core.List.{[], _∷_}
 use mathlib.Core.Bool.{Bool, true, false, not, _&&_, _||_}
 use mathlib.Core.Option.{Option, some, none}
-use mathlib.Core.Logic.{_⊎_, inl, inr}
 use native.Mathlib.Omega.{arith}
 use native.Mathlib.Nat.{add-zero}
 use lib.Dec.{eqb, ltb, leb}
 use lib.ListN.{length, getD, take, drop, length-drop}
 use lib.Seq.{getD-drop, drop-drop}
-use borrow.Author.Tests.{eq-eqb, ne-eqb, lt-ltb, le-ltb, le-leb, lt-leb, eqb-true, eqb-false, ltb-true, leb-true, leb-false, not-true, not-false}
+use borrow.Author.Tests.{eq-eqb, ne-eqb, lt-ltb, le-ltb, le-leb, lt-leb, leb-true, leb-false, not-true, not-false}
 use Rattle.rules.specs.declared.answers.Group.{Group}
 use Rattle.rules.specs.declared.answers.Refusal.the-variants.{BadProgram}
 use Rattle.rules.specs.declared.tables.Command.{Command}
@@ -19,10 +18,10 @@ use Rattle.rules.specs.Bytes.{Bytes, part, num, same}
 use Rattle.rules.specs.Commands.{Op, Params, code, Form, sixteen, nil, below, alternatives, parameters, sequence, Row, rowOf, commands}
 use Rattle.rules.specs.Tables.{kindOf, setOf, asCommand, listed}
 use Rattle.rules.specs.Got.{Got, refused, got, found, _>>=_}
-use Rattle.rules.specs.Program.{Rec, does, jump, NONE, targetOf}
+use Rattle.rules.specs.Program.{does, NONE, targetOf}
 use Rattle.rules.specs.ProgramTest.{need, paramsIn, opIn, groupAllows, recordIn}
 use Rattle.rules.proofs.BytesLaws.{num-2}
-use Rattle.rules.proofs.GotLaws.{and-true, passed, split, both}
+use Rattle.rules.proofs.GotLaws.{passed, split}
 use Rattle.rules.proofs.TableLaws.{each-row}
 use Rattle.records.specs.Records.{accepted, nextIn, jumpFits, commandAt, recordAt}
 use Rattle.records.proofs.PartLaws.{part-drop, rest-at, same-2}
@@ -304,124 +303,3 @@ module _ (g : Group) (comps total n : ℕ) (p : Bytes) (at : ℕ) where
             unfolding recordAt
             record-no-command h =
                 none-at (rw (le-leb _ _ l, eq-eqb _ _ a, eq-eqb _ _ b, ← q, le-leb _ _ f, ne-eqb _ _ j, ← q) (not-accepted (commandAt g comps total n p at (at + 10 + x)) _ (sym e ∙ h)))
-
--- what a record that was read tells, for a run that reads it again by its place
-pub record JumpAt (total n : ℕ) (p : Bytes) (at : ℕ) (r : Rec) : Type 0 where
-  pub is : r ≡ jump (num (part p (at + 6) 2))
-  pub forward : (n < num (part p (at + 6) 2)) × (num (part p (at + 6) 2) ≤ total)
-
-pub record CommandAt (g : Group) (comps total n : ℕ) (p : Bytes) (at : ℕ) (r : Rec) : Type 0 where
-  pub op : Op
-  pub row : Row
-  pub is : r ≡ does op (getD p (at + 3) 0) (num (part p (at + 4) 2)) (num (part p (at + 6) 2))
-  pub listed : rowOf (getD p (at + 2) 0) commands ≡ some row
-  pub allowed : groupAllows g (row .allowed) ≡ true
-  pub component : getD p (at + 3) 0 < comps
-  pub reads : opIn comps (getD p (at + 3) 0) (row .form) (part p (at + 10) (num (part p (at + 8) 2))) ≡ got op
-  pub code-is : code op ≡ getD p (at + 2) 0
-  pub target : (num (part p (at + 6) 2) ≡ NONE) ⊎ ((n < num (part p (at + 6) 2)) × (num (part p (at + 6) 2) ≤ total))
-
-pub record RecordRead (g : Group) (comps total n : ℕ) (p : Bytes) (at : ℕ) (r : Rec) (rest : Bytes) : Type 0 where
-  pub fits : at + 10 + num (part p (at + 8) 2) ≤ length p
-  pub next : rest ≡ drop (at + 10 + num (part p (at + 8) 2)) p
-  pub as-jump : getD p (at + 2) 0 ≡ 0xff → JumpAt total n p at r
-  pub as-command : (getD p (at + 2) 0 ≡ 0xff → ⊥) → CommandAt g comps total n p at r
-
-found-is : (o : Option Row) (r : Row) → found o BadProgram 0 ≡ got r → o ≡ some r
-found-is none r e = let z : _≡_ {A = ℕ} 0 1 = cc in absurd (omega arith)
-found-is (some x) r e = let f : x ≡ r = cc in ap some f
-
-targets : (op : Op) (t n total : ℕ) → (eqb t NONE || eqb (targetOf op t) t && (ltb n t && leb t total)) ≡ true → (t ≡ NONE) ⊎ ((n < t) × (t ≤ total))
-targets op t n total e = go (eqb t NONE) refl e
-  where
-    go : (b : Bool) → eqb t NONE ≡ b → (b || eqb (targetOf op t) t && (ltb n t && leb t total)) ≡ true → (t ≡ NONE) ⊎ ((n < t) × (t ≤ total))
-    go true h q = inl (eqb-true t NONE h)
-    go false h q =
-        let (x, y) = and-true (eqb (targetOf op t) t) (ltb n t && leb t total) q in
-        let (u, v) = and-true (ltb n t) (leb t total) y in
-        inr (ltb-true n t u, leb-true t total v)
-
-module _ (g : Group) (comps total n : ℕ) (p : Bytes) (at : ℕ) (r : Rec) (rest : Bytes) where
-  command-read : (op : Op) → commandAt g comps total n p at (at + 10 + num (part p (at + 8) 2)) ≡ got op →
-      r ≡ does op (getD p (at + 3) 0) (num (part p (at + 4) 2)) (num (part p (at + 6) 2)) → CommandAt g comps total n p at r
-  unfolding commandAt
-  command-read op q₀ is =
-      let i : ℕ = getD p (at + 3) 0 in
-      let t : ℕ = num (part p (at + 6) 2) in
-      let e : at + 10 + num (part p (at + 8) 2) - (at + 10) ≡ num (part p (at + 8) 2) = omega arith in
-      split _ (found (rowOf (getD p (at + 2) 0) commands) BadProgram 0) _ op q₀ λ row qr q₁.
-      let (a, q₂) = passed (groupAllows g (row .allowed)) BadProgram 0 _ op q₁ in
-      let (b, q₃) = passed (ltb i comps) BadProgram 0 _ op q₂ in
-      split _ (opIn comps i (row .form) (part p (at + 10) (at + 10 + num (part p (at + 8) 2) - (at + 10)))) _ op q₃ λ op′ qo q₄.
-      let (c, q₅) = passed (eqb t NONE || eqb (targetOf op′ t) t && (ltb n t && leb t total)) BadProgram 0 _ op q₄ in
-      let s : op′ ≡ op = cc in
-      let l : rowOf (getD p (at + 2) 0) commands ≡ some row = found-is (rowOf (getD p (at + 2) 0) commands) row qr in
-      let m = rw (s, e) at qo in
-      record {
-        op = op;
-        row = row;
-        is = is;
-        listed = l;
-        allowed = a;
-        component = ltb-true i comps b;
-        reads = m;
-        code-is = op-code comps i _ op (getD p (at + 2) 0) row l m;
-        target = targets op′ t n total c;
-      }
-
-  module _ (q : recordIn g comps total n (drop at p) ≡ got (r, rest)) where
-    abbrev Next : Type 0
-    Next = (at + 10 + num (part p (at + 8) 2) ≤ length p) × (rest ≡ drop (at + 10 + num (part p (at + 8) 2)) p)
-
-    jump-read : getD p (at + 2) 0 ≡ 0xff → Next × JumpAt total n p at r
-    unfolding recordAt
-    jump-read j =
-        let t : ℕ = num (part p (at + 6) 2) in
-        let q₀ = rw (record-at g comps total n p at) at q in
-        let (_, q₁) = passed (leb (at + 10) (length p)) BadProgram 0 _ (r, rest) q₀ in
-        let (_, q₂) = passed (eqb (getD p at 0) 0x53) BadProgram 0 _ (r, rest) q₁ in
-        let (_, q₃) = passed (eqb (getD p (at + 1) 0) 0x50) BadProgram 0 _ (r, rest) q₂ in
-        let (f, q₄) = passed (leb (at + 10 + num (part p (at + 8) 2)) (length p)) BadProgram 0 _ (r, rest) q₃ in
-        let q₅ = rw (eq-eqb _ _ j) at q₄ in
-        let (k, q₆) = passed (jumpFits p at (num (part p (at + 8) 2)) total n) BadProgram 0 _ (r, rest) q₅ in
-        let (is, next) = both q₆ in
-        let (_, k₁) = and-true (eqb (getD p (at + 3) 0) 0 && eqb (num (part p (at + 4) 2)) 0 && eqb (num (part p (at + 8) 2)) 0) (ltb n t && leb t total) k in
-        let (u, v) = and-true (ltb n t) (leb t total) k₁ in
-        ((leb-true _ _ f, sym next), record { is = sym is; forward = (ltb-true n t u, leb-true t total v) })
-
-    does-read : (getD p (at + 2) 0 ≡ 0xff → ⊥) → Next × CommandAt g comps total n p at r
-    unfolding recordAt
-    does-read j =
-        let q₀ = rw (record-at g comps total n p at) at q in
-        let (_, q₁) = passed (leb (at + 10) (length p)) BadProgram 0 _ (r, rest) q₀ in
-        let (_, q₂) = passed (eqb (getD p at 0) 0x53) BadProgram 0 _ (r, rest) q₁ in
-        let (_, q₃) = passed (eqb (getD p (at + 1) 0) 0x50) BadProgram 0 _ (r, rest) q₂ in
-        let (f, q₄) = passed (leb (at + 10 + num (part p (at + 8) 2)) (length p)) BadProgram 0 _ (r, rest) q₃ in
-        let q₅ = rw (ne-eqb _ _ j) at q₄ in
-        split _ (commandAt g comps total n p at (at + 10 + num (part p (at + 8) 2))) _ (r, rest) q₅ λ op qo q₆.
-        let (is, next) = both q₆ in
-        ((leb-true _ _ f, sym next), command-read op qo (sym is))
-
-    pub record-read : RecordRead g comps total n p at r rest
-    record-read = go (eqb (getD p (at + 2) 0) 0xff) refl
-      where
-        go : (b : Bool) → eqb (getD p (at + 2) 0) 0xff ≡ b → RecordRead g comps total n p at r rest
-        go true e =
-            let (x, y) = jump-read (eqb-true _ _ e) in
-            record { fits = x .0; next = x .1; as-jump = λ j. y; as-command = λ j. absurd (j (eqb-true _ _ e)) }
-        go false e =
-            let (x, y) = does-read (eqb-false _ _ e) in
-            record { fits = x .0; next = x .1; as-jump = λ j. absurd (eqb-false _ _ e j); as-command = λ j. y }
-
--- what an answer of the code that is not 0 tells
-pub record-went : (g : Group) (comps total n : ℕ) (p : Bytes) (at next : ℕ) → next ≡ nextIn (length p) (recordIn g comps total n (drop at p)) → (next ≡ 0 → ⊥) →
-    (r : Rec) × (recordIn g comps total n (drop at p) ≡ got (r, drop next p)) × (next ≡ at + 10 + num (part p (at + 8) 2)) × (next ≤ length p)
-record-went g comps total n p at next e h = go (recordIn g comps total n (drop at p)) refl e
-  where
-    go : (x : Got (Rec × Bytes)) → recordIn g comps total n (drop at p) ≡ x → next ≡ nextIn (length p) x →
-        (r : Rec) × (recordIn g comps total n (drop at p) ≡ got (r, drop next p)) × (next ≡ at + 10 + num (part p (at + 8) 2)) × (next ≤ length p)
-    go (refused k q) f w = absurd (h w)
-    go (got a) f w =
-        let y = record-read g comps total n p at (a .0) (a .1) f in
-        let s : next ≡ at + 10 + num (part p (at + 8) 2) = w ∙ (rw (y .next) (rest-at p (at + 10 + num (part p (at + 8) 2)) (y .fits))) in
-        (a .0, f ∙ ap (λ (z : Bytes). got (a .0, z)) (y .next) ∙ (rw s), s, omega (arith, y .fits))

@@ -2,27 +2,21 @@
 use Prim.Native.Nat.{ℕ, suc, _+_, _-_, _≤_, _<_}
 use mathlib.Core.Path.{_≡_, refl, sym, ap, _∙_}
 use mathlib.Core.List.{List, [], _∷_, _++_, append-assoc, append-nil}
-use mathlib.Core.Bool.{Bool, true, false, _&&_, _||_, cond}
+use mathlib.Core.Bool.{Bool, true, false, cond}
 use native.Mathlib.Omega.{arith}
-use lib.Dec.{ltb, leb, eqb}
-use lib.ListN.{length, getD, take, drop, length-drop}
+use lib.Dec.{eqb}
+use lib.ListN.{length, getD, drop, length-drop}
 use lib.Seq.{getD-drop, drop-drop}
-use borrow.Author.Tests.{leb-true, eq-eqb, ne-eqb}
+use borrow.Author.Tests.{eq-eqb, ne-eqb, eqb-true, eqb-false}
 use Rattle.rules.specs.declared.answers.Group.{Group}
-use Rattle.rules.specs.declared.answers.Refusal.the-variants.{BadProgram}
-use Rattle.rules.specs.Bytes.{Bytes, part, num, same}
-use Rattle.rules.specs.Commands.{rowOf, commands}
-use Rattle.rules.specs.Got.{Got, refused, got, found, _>>=_}
-use Rattle.rules.specs.Program.{Rec, does, jump, NONE, targetOf}
-use Rattle.rules.specs.ProgramTest.{opIn, groupAllows, recordIn, recordsIn, nonJumps}
-use Rattle.rules.proofs.GotLaws.{passed, split, both}
+use Rattle.rules.specs.Bytes.{Bytes, part, num}
+use Rattle.rules.specs.Commands.{commands}
+use Rattle.rules.specs.Got.{Got, refused, got, _>>=_}
+use Rattle.rules.specs.Program.{Rec, does, jump}
+use Rattle.rules.specs.ProgramTest.{recordIn, recordsIn, nonJumps}
 use Rattle.records.specs.Records.{nextIn, recordsAre}
 use Rattle.records.proofs.PartLaws.{rest-at}
-
-pick : {A : Type 0} (C : Type 0) (b : Bool) (x y : Got A) (v : A) → (elim b as (λ _. Got A) [ true ↦ x | false ↦ y ]) ≡ got v →
-    (b ≡ true → x ≡ got v → C) → (b ≡ false → y ≡ got v → C) → C
-pick C true x y v e f g = f refl e
-pick C false x y v e f g = g refl e
+use Rattle.records.proofs.ReadRecord.{Kind, record-read}
 
 -- 1 for a record that is no jump, by its code
 abbrev pub weight : ℕ → ℕ
@@ -44,32 +38,12 @@ module _ (code x m k : ℕ) (q : x ≡ code) where
   count-jump z e = rw (← q, eq-eqb x 0xff z) (omega arith)
 
 module _ (g : Group) (comps total n : ℕ) where
-  abbrev Read : Bytes → Rec → Bytes → Type 0
-  Read p r q = (10 + num (part p 8 2) ≤ length p) × (q ≡ drop (num (part p 8 2)) (drop 10 p)) × (nonJumps (r ∷ []) ≡ weight (getD p 2 0))
-
-  record-read : (p : Bytes) (r : Rec) (q : Bytes) → recordIn g comps total n p ≡ got (r, q) → Read p r q
-  unfolding recordIn
-  record-read p r q q₀ =
-      let i : ℕ = getD p 3 0 in
-      let place : ℕ = num (part p 4 2) in
-      let target : ℕ = num (part p 6 2) in
-      let len : ℕ = num (part p 8 2) in
-      let forward : Bool = ltb n target && leb target total in
-      let (_, q₁) = passed (leb 10 (length p) && same (take 2 p) (0x53 ∷ 0x50 ∷ [])) BadProgram 0 _ (r, q) q₀ in
-      let (f, q₂) = passed (leb (10 + len) (length p)) BadProgram 0 _ (r, q) q₁ in
-      pick (Read p r q) (eqb (getD p 2 0) 0xff) _ _ (r, q) q₂
-      (λ c q₃.
-      let (_, q₄) = passed (eqb i 0 && eqb place 0 && eqb len 0 && forward) BadProgram 0 _ (r, q) q₃ in
-      let (er, eq) = both q₄ in
-      (leb-true _ _ f, sym eq, rw (← er, c)))
-      (λ c q₃.
-      split _ (found (rowOf (getD p 2 0) commands) BadProgram 0) _ (r, q) q₃ λ row _ q₄.
-      let (_, q₅) = passed (groupAllows g (row .allowed)) BadProgram 0 _ (r, q) q₄ in
-      let (_, q₆) = passed (ltb i comps) BadProgram 0 _ (r, q) q₅ in
-      split _ (opIn comps i (row .form) (part p 10 len)) _ (r, q) q₆ λ op _ q₇.
-      let (_, q₈) = passed (eqb target NONE || eqb (targetOf op target) target && forward) BadProgram 0 _ (r, q) q₇ in
-      let (er, eq) = both q₈ in
-      (leb-true _ _ f, sym eq, rw (← er, c)))
+  counted : (r : Rec) (code i place target size : ℕ) (argument : Bytes) → Kind g comps total n r code i place target size argument → nonJumps (r ∷ []) ≡ weight code
+  counted r code i place target size argument k = go (eqb code 0xff) refl
+    where
+      go : (b : Bool) → eqb code 0xff ≡ b → nonJumps (r ∷ []) ≡ cond b 0 1
+      go true e = ap (λ (x : Rec). nonJumps (x ∷ [])) (k .jumps (eqb-true _ _ e) .is)
+      go false e = ap (λ (x : Rec). nonJumps (x ∷ [])) (k .does (eqb-false _ _ e) .is)
 
   -- the record at a place, and the place after it
   pub record Stands (p : Bytes) (at next : ℕ) (r : Rec) (q : Bytes) : Type 0 where
@@ -80,12 +54,12 @@ module _ (g : Group) (comps total n : ℕ) where
 
   stands : (p : Bytes) (at : ℕ) (r : Rec) (q : Bytes) → recordIn g comps total n (drop at p) ≡ got (r, q) → Stands p at (length p - length q) r q
   stands p at r q e =
-      let (f, k, w) = record-read (drop at p) r q e in
+      let (f, k, w) = record-read g comps total n (drop at p) r q e in
       let len : ℕ = num (part (drop at p) 8 2) in
       let l : at + 10 + len ≤ length p = omega (arith, length-drop at p) in
       let k′ : q ≡ drop (at + 10 + len) p = k ∙ rw (drop-drop 10 at p, drop-drop len (at + 10) p) in
       let m : length p - length q ≡ at + 10 + len = ap (λ (x : Bytes). length p - length x) k′ ∙ rest-at p (at + 10 + len) l in
-      record { up = omega arith; fits = omega arith; rest = k′ ∙ ap (λ (x : ℕ). drop x p) (sym m); kind = w ∙ ap weight (getD-drop at p 2 0) }
+      record { up = omega arith; fits = omega arith; rest = k′ ∙ ap (λ (x : ℕ). drop x p) (sym m); kind = counted r _ _ _ _ _ _ w ∙ ap weight (getD-drop at p 2 0) }
 
 -- records before the others
 abbrev after : List Rec → Got (List Rec × Bytes) → Got (List Rec × Bytes)

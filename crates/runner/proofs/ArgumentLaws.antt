@@ -1,13 +1,12 @@
 -- What a command that check has accepted tells of its argument.
 use Prim.Native.Nat.{ℕ, _+_, _-_, _≤_, _<_}
-use mathlib.Core.Path.{_≡_, refl, sym, ap, subst, _∙_}
-use mathlib.Core.List.{List, [], _∷_}
-use mathlib.Core.Bool.{Bool, true, false}
+use mathlib.Core.Path.{_≡_, refl, sym, ap, _∙_}
+use mathlib.Core.Bool.{Bool}
 use mathlib.Core.Option.{Option, some, none}
 use native.Mathlib.Omega.{arith}
-use lib.Dec.{ltb, eqb}
+use lib.Dec.{ltb}
 use lib.ListN.{length}
-use borrow.Author.Tests.{ltb-true, eqb-true}
+use borrow.Author.Tests.{ltb-true}
 use Rattle.rules.specs.declared.answers.Refusal.{Refusal}
 use Rattle.rules.specs.declared.answers.Refusal.the-variants.{NotAllowed, NoSuchComponent, TooManyCommands, UnknownCommand}
 use Rattle.rules.specs.Limits.{limits}
@@ -17,6 +16,7 @@ use Rattle.rules.specs.Cbor.{BYTES, MAP, NIL, item}
 use Rattle.rules.specs.Commands.{Op, Params, sixteen, nil, below, parameters, Row, commands, rowOf, isAllowed}
 use Rattle.rules.specs.Manifest.{Seq, Cmd, one}
 use Rattle.rules.specs.Check.{Read, nothing, number, entries, argument, command, sequenceAt}
+use Rattle.rules.proofs.TableLaws.{each-row}
 use Rattle.rules.proofs.GotLaws.{passed, both, split, split₂}
 use Rattle.runner.specs.Arguments.{One}
 
@@ -27,21 +27,6 @@ found-is (some b) r p a e = let f : b ≡ a = cc in ap some f
 infixr 5 _&_
 pub _&_ : {A B : Type 0} → A → B → A × B
 a & b = (a, b)
-
--- what holds of each row and its number holds of the row of a code
-abbrev pub Each : (ℕ → Row → Type 0) → List Row → Type 0
-Each P [] = Unit {0}
-Each P (r ∷ rs) = P (r .number) r × Each P rs
-
-pub row-of : (P : ℕ → Row → Type 0) (rs : List Row) (c : ℕ) (r : Row) → Each P rs → rowOf c rs ≡ some r → P c r
-row-of P [] c r t e = let z : _≡_ {A = ℕ} 0 1 = cc in absurd (omega arith)
-row-of P (x ∷ xs) c r t e = go (eqb c (x .number)) refl (row-of P xs c r (t .1)) e
-  where
-    go : (b : Bool) → eqb c (x .number) ≡ b → (rowOf c xs ≡ some r → P c r) → elim b [ true ↦ some x | false ↦ rowOf c xs ] ≡ some r → P c r
-    go true h next q =
-        let same : x ≡ r = cc in
-        subst (λ (y : Row). P c y) same (subst (λ (k : ℕ). P k x) (sym (eqb-true c (x .number) h)) (t .0))
-    go false h next q = next q
 
 pub form-of : (c : ℕ) (r x : Row) → rowOf c commands ≡ some r → rowOf c commands ≡ some x → r .form ≡ x .form
 form-of c r x p q = let same : r ≡ x = cc in rw same
@@ -95,7 +80,7 @@ module _ (s : Bytes) where
 
     one-row : (c : ℕ) (r : Row) → rowOf c commands ≡ some r → (c ≡ 30 → ⊥) → (c ≡ 15 → ⊥) → argument s deeper n m place (r .form) e at ≡ got (cmd, to) → IsOne
     one-row c r =
-        row-of (λ c r. (c ≡ 30 → ⊥) → (c ≡ 15 → ⊥) → argument s deeper n m place (r .form) e at ≡ got (cmd, to) → IsOne) commands c r
+        each-row (λ c r. (c ≡ 30 → ⊥) → (c ≡ 15 → ⊥) → argument s deeper n m place (r .form) e at ≡ got (cmd, to) → IsOne) commands c r
         ((λ a b. sixteen-one _) & (λ a b. sixteen-one _) & (λ a b. nil-one _) & (λ a b. below-one _) & (λ a b. nil-one _)
         & (λ a b q. absurd (b refl)) & (λ a b. parameters-one _) & (λ a b. parameters-one _) & (λ a b. nil-one _) & (λ a b. nil-one _)
         & (λ a b. nil-one _) & (λ a b q. absurd (a refl)) & (λ a b. nil-one _) & tt)

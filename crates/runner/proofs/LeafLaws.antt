@@ -18,7 +18,7 @@ use Rattle.commands.specs.declared.perform.Done.{Done}
 use Rattle.slots.specs.Params.{FitAll}
 use Rattle.commands.specs.Op.{opOf, IsCode}
 use Rattle.commands.specs.Machine.{stateAt, outAt}
-use Rattle.runner.specs.Arguments.{paramsOf, isTrue, coerceOf, Read-as}
+use Rattle.runner.specs.Arguments.{paramsOf, isTrue, coerceOf, ReadAs}
 use Rattle.runner.specs.Cycle.{LeafJob, CommandRan}
 use Rattle.runner.proofs.OneLaws.{one-plain}
 
@@ -34,7 +34,7 @@ coerce-after x y = go (eqb x 0)
     go false = refl
 
 module _ (s : Bytes) (code at : ℕ) (run : Run) (vendor class : Bytes) (found : List ℕ) (answers slots : Bytes) (words : List ℕ) (trace : Bytes)
-    (j : LeafJob s code at run vendor class found answers slots words trace) (a : Args) (r : Read-as s code at (j .argument) a)
+    (j : LeafJob s code at run vendor class found answers slots words trace) (a : Args) (r : ReadAs s code at (j .argument) a)
     (i : ℕ) (e : i ≡ cond (eqb code 12) (a .value) (run .index)) where
   pub leaf-component : i ≡ Rules.component (j .argument .op) (run .index)
   leaf-component = e ∙ sym (r .component (run .index))

@@ -24,8 +24,9 @@ use Rattle.slots.specs.declared.params.Params as Words
 use Rattle.slots.specs.Params.{meaning, Fit}
 use Rattle.commands.specs.Op.{opOf}
 use Rattle.runner.specs.Heads.{Headed}
-use Rattle.runner.specs.Arguments.{paramsOf, givenOf, bareAt, Entries, One, Read-as}
-use Rattle.runner.proofs.ArgumentLaws.{_&_, row-of, form-of}
+use Rattle.runner.specs.Arguments.{paramsOf, givenOf, bareAt, Entries, One, ReadAs}
+use Rattle.rules.proofs.TableLaws.{each-row}
+use Rattle.runner.proofs.ArgumentLaws.{_&_, form-of}
 use Rattle.runner.proofs.EntryLaws.{Opens, fit-bare}
 use Rattle.runner.proofs.HeadLaws.{flag-at, item-whole, item-headed, number-headed}
 
@@ -38,7 +39,7 @@ one-of-two c k l u = go (eqb c k) refl
 
 row-above : (c : ℕ) (r : Row) → rowOf c commands ≡ some r → 0 < c
 row-above c r =
-    row-of (λ c r. 0 < c) commands c r
+    each-row (λ c r. 0 < c) commands c r
     (omega arith & omega arith & omega arith & omega arith & omega arith & omega arith & omega arith & omega arith & omega arith & omega arith
     & omega arith & omega arith & omega arith & tt)
 
@@ -145,7 +146,7 @@ module _ (s : Bytes) (deeper : ℕ → Read Seq) (n m place e at : ℕ) (op : Op
 
   plain : (c : ℕ) (r : Row) → rowOf c commands ≡ some r → Reads (r .form) → Plain c
   plain c r =
-      row-of (λ c r. Reads (r .form) → Plain c) commands c r
+      each-row (λ c r. Reads (r .form) → Plain c) commands c r
       ((λ q. let y = sixteen-read _ q in (rw (y .op-is), λ n i. rw (y .op-is)))
       & (λ q. let y = sixteen-read _ q in (rw (y .op-is), λ n i. rw (y .op-is)))
       & (λ q. plain-nil _ _ refl (λ i. refl) q)
@@ -171,7 +172,7 @@ module _ (s : Bytes) (deeper : ℕ → Read Seq) (n m place e at : ℕ) (op : Op
   rest : (c : ℕ) (r : Row) → rowOf c commands ≡ some r → (1 ≤ c → 3 ≤ c) → (c ≡ 12 → ⊥) → (19 ≤ c → 21 ≤ c) → Reads (r .form) → Rest c
   unfolding opOf
   rest c r =
-      row-of (λ c r. (1 ≤ c → 3 ≤ c) → (c ≡ 12 → ⊥) → (19 ≤ c → 21 ≤ c) → Reads (r .form) → Rest c) commands c r
+      each-row (λ c r. (1 ≤ c → 3 ≤ c) → (c ≡ 12 → ⊥) → (19 ≤ c → 21 ≤ c) → Reads (r .form) → Rest c) commands c r
       ((λ i j k q. absurd (omega (arith, i (omega arith))))
       & (λ i j k q. absurd (omega (arith, i (omega arith))))
       & (λ i j k q. rest-nil imageMatch 3 (λ v p. refl) q)
@@ -297,7 +298,7 @@ module _ (s : Bytes) (c at : ℕ) (x : One s c at) where
       go false e = omega (arith, one-plain .1 (eqb-false _ _ e) i)
 
   module _ (value next : ℕ) (o : Opens s at value next) where
-    pub read-sixteen : (c ≡ 1) ⊎ (c ≡ 2) → Read-as s c at x (bareAt next (next + 16))
+    pub read-sixteen : (c ≡ 1) ⊎ (c ≡ 2) → ReadAs s c at x (bareAt next (next + 16))
     read-sixteen k =
         let y = one-sixteen k in
         let (ev, en) = o (y .headed) in
@@ -312,7 +313,7 @@ module _ (s : Bytes) (c at : ℕ) (x : One s c at) where
           component = component-at _ new;
         }
 
-    pub read-index : c ≡ 12 → Read-as s c at x (bareAt value next)
+    pub read-index : c ≡ 12 → ReadAs s c at x (bareAt value next)
     read-index k =
         let y = one-index k in
         let (ev, en) = o (y .headed) in
@@ -340,7 +341,7 @@ module _ (s : Bytes) (c at : ℕ) (x : One s c at) where
         }
 
     pub read-map : (k : (c ≡ 19) ⊎ (c ≡ 20)) (a : Args) →
-        (givenOf s a ≡ map-entries k .given) × (a .next ≡ x .to) × Fit s (x .n) (paramsOf a) → Read-as s c at x a
+        (givenOf s a ≡ map-entries k .given) × (a .next ≡ x .to) × Fit s (x .n) (paramsOf a) → ReadAs s c at x a
     read-map k a (g, n, f) =
         let y = one-map k in
         let new : New (a .value) = λ j. absurd (⊎-elim (λ i. omega arith) (λ i. omega arith) k) in
@@ -354,7 +355,7 @@ module _ (s : Bytes) (c at : ℕ) (x : One s c at) where
           component = component-at _ new;
         }
 
-  pub read-rest : (1 ≤ c → 3 ≤ c) → (c ≡ 12 → ⊥) → (19 ≤ c → 21 ≤ c) → Read-as s c at x (bareAt 0 (at + 1))
+  pub read-rest : (1 ≤ c → 3 ≤ c) → (c ≡ 12 → ⊥) → (19 ≤ c → 21 ≤ c) → ReadAs s c at x (bareAt 0 (at + 1))
   read-rest i j k =
       let (op-is, coerce-is, to-is, fits) = one-rest i j k in
       let new : New 0 = λ q. absurd (j q) in

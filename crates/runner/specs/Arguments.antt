@@ -79,7 +79,7 @@ pub record One (s : Bytes) (c at : ℕ) : Type 0 where
   pub reads : argument s deeper n m place (row .form) e at ≡ got (one place op coerce, to)
 
 -- it was read
-pub record Read-as (s : Bytes) (c at : ℕ) (x : One s c at) (a : Args) : Type 0 where
+pub record ReadAs (s : Bytes) (c at : ℕ) (x : One s c at) (a : Args) : Type 0 where
   pub op : opOf s c (a .value) (paramsOf a) ≡ x .op
   pub coerce : coerceOf (a .coerce) ≡ x .coerce
   pub next : a .next ≡ x .to
