@@ -1,0 +1,59 @@
+-- The records of a sequence, written to lent room.
+use Prim.Native.Nat.{ℕ, _+_, _*_, _≤_, _<_}
+use mathlib.Core.Path.{_≡_}
+use mathlib.Core.Bool.{Bool, false}
+use mathlib.Core.List.{List, [], _∷_, map}
+use lib.ListN.{length}
+use Rattle.rules.specs.Bytes.{Bytes, put, flat}
+use Rattle.rules.specs.Manifest.{Seq, Cmd}
+use Rattle.rules.specs.Program.{Rec, jump, argBytes, size, sizeCmd, flatSeq, flatCmd, recBytes}
+use Rattle.rules.specs.Run.{indexAfter, coerceAfter}
+use Rattle.runner.specs.Arguments.{isTrue, One}
+use Rattle.runner.specs.Cycle.{CommandAt, SequenceAt}
+use Rattle.translator.specs.Size.{weigh, weighCmd}
+use Rattle.translator.specs.declared.write.Pen.{Pen}
+
+unfoldable pub written : List Rec → Bytes
+written rs = flat (map recBytes rs)
+
+-- the sequence at the pen's place as check read it, and room for its records
+pub record SequenceJob (s : Bytes) (depth : ℕ) (pen : Pen) (room : Bytes) : Type 0 where
+  pub n : ℕ
+  pub place : SequenceAt s n depth 0 (pen .next)
+  pub inside : pen .index < n
+  pub components : n ≤ 8
+  pub enough : pen .to + 10 * size (place .seq) + weigh (place .seq) ≤ length room
+
+pub record CommandJob (s : Bytes) (depth : ℕ) (pen : Pen) (room : Bytes) : Type 0 where
+  pub n : ℕ
+  pub place : CommandAt s n depth 0 (pen .next)
+  pub inside : pen .index < n
+  pub components : n ≤ 8
+  pub enough : pen .to + 10 * sizeCmd (place .cmd) + weighCmd (place .cmd) ≤ length room
+
+-- the records rs were written at the pen
+pub record Wrote (rs : List Rec) (pen : Pen) (room : Bytes) (r : Pen) (room′ : Bytes) : Type 0 where
+  pub filled : room′ ≡ put room (pen .to) (written rs)
+  pub to : r .to ≡ pen .to + length (written rs)
+  pub n : r .n ≡ pen .n + length rs
+
+pub record CommandWrote (cmd : Cmd) (to components target : ℕ) (pen : Pen) (room : Bytes) (r : Pen) (room′ : Bytes) : Type 0 where
+  pub wrote : Wrote (flatCmd cmd (pen .index) target (pen .n)) pen room r room′
+  pub next : r .next ≡ to
+  pub index : r .index ≡ indexAfter cmd (pen .index)
+  pub inside : r .index < components
+  pub coerce : isTrue (r .coerce) ≡ coerceAfter cmd (isTrue (pen .coerce))
+
+-- a jump was written at the pen
+pub record JumpWrote (target : ℕ) (pen : Pen) (room : Bytes) (r : Pen) (room′ : Bytes) : Type 0 where
+  pub wrote : Wrote (jump target ∷ []) pen room r room′
+  pub next : r .next ≡ pen .next
+  pub index : r .index ≡ pen .index
+  pub coerce : r .coerce ≡ pen .coerce
+
+-- a command that holds no sequence, by its code and argument, and room for its record
+pub record LeafJob (s : Bytes) (code at : ℕ) (pen : Pen) (room : Bytes) : Type 0 where
+  pub argument : One s code at
+  pub inside : pen .index < argument .n
+  pub components : argument .n ≤ 8
+  pub enough : pen .to + 10 + length (argBytes (argument .op)) ≤ length room

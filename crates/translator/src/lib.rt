@@ -1,0 +1,4 @@
+// The flat program of an envelope and a group.
+pub mod record;
+pub mod sizes;
+pub mod write;

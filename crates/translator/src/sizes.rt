@@ -1,0 +1,113 @@
+// How many records a sequence has, and how many bytes their arguments have.
+ghost use mathlib.Core.Path.{_≡_};
+ghost use lib.ListN.{length};
+ghost use Rattle.rules.specs.Program.{argBytes};
+ghost use Rattle.commands.specs.Op.{opOf};
+ghost use Rattle.runner.specs.Arguments.{paramsOf};
+ghost use Rattle.translator.specs.Size.{SequenceHere, CommandHere, SequenceSized, CommandSized};
+use runner::arguments::Args;
+use runner::arguments::read_one;
+use runner::heads::open;
+
+// Records, the bytes of their arguments, and the place after what was read.
+pub struct Size {
+    pub next: usize,
+    pub records: usize,
+    pub arguments: usize,
+}
+
+// The bytes of the parameters that are set: key, length and value.
+fn parameters_size(a: Args) -> usize {
+    let mut n = 0;
+    if a.uri != 0 {
+        n = n + 2 + a.length;
+    }
+    if a.source != 0 {
+        n = n + 3;
+    }
+    if a.digest != 0 {
+        n = n + 34;
+    }
+    if a.size != 0 {
+        n = n + 6;
+    }
+    n
+}
+
+// How many bytes the argument of a command has in its record.
+pub fn argument_size(code: usize, a: Args) -> usize {
+    match code {
+        1 | 2 => 16,
+        19 | 20 => parameters_size(a),
+        _ => 0,
+    }
+}
+
+// The sequence at `at`; it and those in it may be `depth` deep.
+pub fn size_sequence(s: &[u8], depth: usize, at: usize) -> Size
+    requires { ⌜ SequenceHere (now s) depth at ⌝ }
+    ensures { λ r. ⌜ ((j : SequenceHere (now (s .entry)) depth at) → SequenceSized (j .place .seq) r) ⌝ }
+{
+    let h = open(s, at);
+    let mut now = Size {
+        next: h.next,
+        records: 0,
+        arguments: 0,
+    };
+    let mut left = h.value / 2;
+    while 0 < left {
+        let c = size_command(s, depth - 1, now.next);
+        now = Size {
+            next: c.next,
+            records: now.records + c.records,
+            arguments: now.arguments + c.arguments,
+        };
+        left -= 1;
+    }
+    now
+}
+
+// The command at `at`; the sequences that it holds may be `depth` deep.
+pub fn size_command(s: &[u8], depth: usize, at: usize) -> Size
+    requires { ⌜ CommandHere (now s) depth at ⌝ }
+    ensures { λ r. ⌜ ((j : CommandHere (now (s .entry)) depth at) → CommandSized (j .place .cmd) (j .place .to) r) ⌝ }
+{
+    let c = open(s, at);
+    let code = c.value;
+    if code == 30 {
+        let b = open(s, c.next);
+        let r = size_sequence(s, depth, b.next);
+        return Size {
+            next: b.next + b.value,
+            records: r.records,
+            arguments: r.arguments,
+        };
+    }
+    if code == 15 {
+        let h = open(s, c.next);
+        let mut left = h.value;
+        // each alternative but the last has a jump after it
+        let mut now = Size {
+            next: h.next,
+            records: left - 1,
+            arguments: 0,
+        };
+        while 0 < left {
+            let b = open(s, now.next);
+            let r = size_sequence(s, depth, b.next);
+            now = Size {
+                next: b.next + b.value,
+                records: now.records + r.records,
+                arguments: now.arguments + r.arguments,
+            };
+            left -= 1;
+        }
+        return now;
+    }
+    let a = read_one(s, code, c.next);
+    Size {
+        next: a.next,
+        records: 1,
+        arguments: argument_size(code, a),
+    }
+}
