@@ -39,7 +39,7 @@ pub record Host (env : Env) (vendor class answers : Bytes) (found : List ℕ) (s
 abbrev pub AllHold : List ℕ → Bytes → Type 0
 AllHold found slots = (i : ℕ) → i < 8 → Holds slots (getD found i 0)
 
--- what a run is lent, for the components and the device of env: nothing that a command does changes it
+-- what a run is lent, for the components and the device of env; every command keeps this
 pub record Lent (env : Env) (s vendor class : Bytes) (found : List ℕ) (answers slots : Bytes) (words : List ℕ) (trace : Bytes) : Type 0 where
   pub host : Host env vendor class answers found slots
   pub hold : AllHold found slots

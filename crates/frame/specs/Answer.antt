@@ -17,7 +17,7 @@ abbrev pub inputOf : Bool → Controller → Bytes → Bytes → Bytes → Input
 inputOf verdict device slots answers trace =
     record { verdict = verdict; device = device; slots = slots; answers = answers; trace = trace }
 
--- 'a refusal changes nothing that was lent'
+-- 'A refusal returns its number and place, and nothing lent is altered'
 abbrev pub outcomeOf : Controller → Got Ran → Outcome
 outcomeOf device (refused r p) = record { answer = Answer.Refused r p; number = device .number }
 outcomeOf device (got r) =

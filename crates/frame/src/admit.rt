@@ -12,7 +12,7 @@ use slots::image::IMAGE_BYTES;
 use slots::search::find_slots;
 use slots::whole::good_slots;
 
-// 81: an install waits while an event is open.
+// 81: no install while an event is open.
 fn may_start(group: Group, device: Controller) -> bool
     ensures { λ r. ⌜ r ≡ Rule.mayStart group device ⌝ }
 {

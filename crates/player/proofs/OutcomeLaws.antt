@@ -75,6 +75,7 @@ module _ (p : Bytes) (t : Tested) (ids : List ℕ) (a : Known p t ids) where
                   size = a .stands .size;
                   few = omega (arith, a .stands .few);
                 };
+            going = refl;
           }
 
       pub job : StepJob p (t .components) (t .records) (startAt (t .from)) (x .device .vendor) (x .device .class) found (x .answers) (x .slots) (replicate 40 0) (x .trace)

@@ -31,7 +31,7 @@ module _ (p : Bytes) (components total from : ℕ) (vendor class : Bytes) (found
 
   module _ (slots : Bytes) (words : List ℕ) (trace : Bytes) (walk : Walk) (l : LoopAt slots words trace walk) where
     abbrev pub loop-job : StepJob p components total walk vendor class found answers slots words trace
-    loop-job = record { env = j .env; group = j .group; ready = l .ready }
+    loop-job = record { env = j .env; group = j .group; ready = l .ready; going = l .calm }
 
     pub loop-done : total ≤ walk .n → Ran p components total from vendor class found answers slots₀ words₀ trace₀ j walk slots words trace
     unfolding exec

@@ -114,6 +114,7 @@ pub record StepJob (p : Bytes) (components total : ℕ) (walk : Walk) (vendor cl
   pub env : Env
   pub group : Group
   pub ready : Ready env group p components total walk vendor class found answers slots words trace
+  pub going : walk .stop ≡ 0
 
 -- one event was written, or the end was reached without
 pub record Stepped (p : Bytes) (components total : ℕ) (walk : Walk) (vendor class : Bytes) (found : List ℕ) (answers slots : Bytes) (words : List ℕ) (trace : Bytes)

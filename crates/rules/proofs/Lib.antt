@@ -15,6 +15,7 @@ pub mod Demand3
 pub mod SlotLaws
 pub mod Effects
 pub mod ProgramFaults
+pub mod RefusalOrder
 pub mod TableLaws
 pub mod BytesLaws
 pub mod CborLaws

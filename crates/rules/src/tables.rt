@@ -1,4 +1,4 @@
-// The tables of commands and parameters, as data. Nothing else lists codes or keys.
+// The tables of commands and parameters, as data: check, the program test and translation take codes and keys from here.
 ghost use mathlib.Core.Path.{_≡_};
 ghost use mathlib.Core.List.{[], map};
 ghost use Rattle.rules.specs.Commands.{commands, rowOf, params, paramOf};

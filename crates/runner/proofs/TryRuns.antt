@@ -36,6 +36,9 @@ entered run at now = record { next = at; index = run .index; coerce = run .coerc
 abbrev pub left : Run → ℕ → Run → Run
 left run at now = record { next = at; index = run .index; coerce = run .coerce; events = now .events; used = now .used; stop = now .stop }
 
+abbrev pub failed : Run → ℕ → Run → Run
+failed run at now = record { next = at; index = run .index; coerce = run .coerce; events = now .events; used = now .used; stop = 1 }
+
 -- k alternatives at `at` as check read them
 pub record AltsAt (s : Bytes) (n depth events k at to : ℕ) : Type 0 where
   pub section : ℕ
@@ -124,7 +127,7 @@ pub record AltsLoop (s vendor class : Bytes) (found : List ℕ) (answers : Bytes
   pub kept : Kept env s vendor class found answers slots words trace (run .index)
   pub place : AltsAt s (length (env .ids)) depth (now .events) k p to
   pub goes : whole ≡ tryAll env (place .seqs) (run .index) (stateOf s (length (env .ids)) words slots trace now)
-  pub final : k ≡ 0 → (now .stop ≡ 1) × (0 < now .events)
+  pub final : k ≡ 0 → 0 < now .events
 
 -- what a command that held sequences leaves
 holds-sequences : (s : Bytes) (env : Env) (cmd : Cmd) (to : ℕ) (run : Run) (slots : Bytes) (words : List ℕ) (trace : Bytes) (at : ℕ) (r : Run) (slots′ : Bytes) (words′ : List ℕ) (trace′ : Bytes) →
@@ -247,14 +250,14 @@ module _ (s : Bytes) (depth : ℕ) (run : Run) (vendor class : Bytes) (found : L
 module _ (s vendor class : Bytes) (found : List ℕ) (answers : Bytes) (depth : ℕ) (env : Env) (cmd : Cmd) (to : ℕ) (run : Run) (slots₀ : Bytes) (words₀ : List ℕ) (trace₀ : Bytes) (slots : Bytes) (words : List ℕ) (trace : Bytes) (p k : ℕ) (now : Run)
     (l : AltsLoop s vendor class found answers depth env cmd to run (runCmd env cmd (run .index) (stateOf s (length (env .ids)) words₀ slots₀ trace₀ run)) slots words trace p k now) where
   -- none succeeded
-  pub tries-failed : k ≡ 0 → CommandRan s env cmd to run slots₀ words₀ trace₀ (left run p now) slots words trace
+  pub tries-failed : k ≡ 0 → CommandRan s env cmd to run slots₀ words₀ trace₀ (failed run p now) slots words trace
   unfolding tryAll
   tries-failed z =
       let (none, at) = no-choice s (length (env .ids)) depth (now .events) k p to (l .place) z in
       let st : State = stateOf s (length (env .ids)) words slots trace now in
-      holds-sequences s env cmd to run slots₀ words₀ trace₀ p now slots words trace
-      (rw (l .final z .0) (sym (l .goes ∙ ap (λ (a : List Seq). tryAll env a (run .index) st) none)))
-      (l .kept .lent .fit) (λ x. l .final z .1) (λ x. at) (l .kept .inside) (λ i. rw (l .is)) (λ c. rw (l .is))
+      holds-sequences s env cmd to run slots₀ words₀ trace₀ p (failed run p now) slots words trace
+      (sym (l .goes ∙ ap (λ (a : List Seq). tryAll env a (run .index) st) none))
+      (l .kept .lent .fit) (λ x. l .final z) (λ x. at) (l .kept .inside) (λ i. rw (l .is)) (λ c. rw (l .is))
 
   module _ (h : 0 < k) where
     abbrev pub its-choice : Choice s (length (env .ids)) depth (now .events) k p to (l .place)
@@ -328,5 +331,5 @@ module _ (s vendor class : Bytes) (found : List ℕ) (answers : Bytes) (depth : 
               goes =
                   l .goes ∙ ap (λ (a : List Seq). tryAll env a (run .index) st) (t .seqs)
                   ∙ try-on env (t .first) (t .rest .seqs) (run .index) st (stateOf s (length (env .ids)) words′ slots′ trace′ r) (r .stop) z (sym (ran .goes));
-              final = λ x. (z, ran .late (omega (arith, z)));
+              final = λ x. ran .late (omega (arith, z));
             }

@@ -113,6 +113,20 @@ fn leave(caller: Run, at: usize, now: Run) -> Run
     }
 }
 
+// The run after a try each of which no alternative succeeded.
+fn all_failed(outer: Run, at: usize, now: Run) -> Run
+    ensures { λ r. ⌜ r ≡ record { next = at; index = outer .index; coerce = outer .coerce; events = now .events; used = now .used; stop = 1 } ⌝ }
+{
+    Run {
+        next: at,
+        index: outer.index,
+        coerce: outer.coerce,
+        events: now.events,
+        used: now.used,
+        stop: 1,
+    }
+}
+
 // The sequence at run.next. `own`: code 30 runs it, so that its coerce makes a failed condition a success.
 pub fn run_sequence(
     s: &[u8],
@@ -242,7 +256,7 @@ pub fn run_command(
                 return leave(run, skip(s, left, p), now);
             }
         }
-        return leave(run, p, now);
+        return all_failed(run, p, now);
     }
     leaf(
         s,

@@ -31,7 +31,7 @@ pub fn image(slots: &[u8], k: usize) -> [u8; 37]
     take(slots, SLOT_BYTES * k + IMAGE)
 }
 
-// The image in the slot of number k.
+// Puts the image into the slot of number k.
 pub fn put_image(slots: &mut [u8], k: usize, image: [u8; 37])
     requires { ⌜ Holds (now slots) k ⌝ }
     ensures { λ _. ⌜ now (slots .exit) ≡ putImage (now (slots .entry)) k image ⌝ }

@@ -4,14 +4,15 @@ ghost use mathlib.Core.Bool.{true};
 ghost use Prim.Native.Nat.{ℕ, _+_, _-_, _*_, _≤_, _<_};
 ghost use lib.ListN.{length, getD};
 ghost use Rattle.rules.specs.Bytes.{part, same, allIn, spanAt};
-ghost use Rattle.rules.specs.Slots.{slotAt, slotOf, slotNames};
+ghost use Rattle.rules.specs.Limits.{limits};
+ghost use Rattle.rules.specs.Slots.{slotBytes, slotAt, slotOf, slotNames};
 ghost use Rattle.slots.specs.Slot.{Holds, Short, namesAt, Found};
 use crate::bytes::same_parts;
 use crate::slot::SLOT_BYTES;
 
 // Whether the slot of number k has the identifier of n bytes at `at`.
 pub fn named(s: &[u8], at: usize, n: usize, slots: &[u8], k: usize) -> bool
-    requires { ⌜ (at + n ≤ length (now s)) × Holds (now slots) k × (getD (now slots) (74 * k) 0 ≤ 32) ⌝ }
+    requires { ⌜ (at + n ≤ length (now s)) × Holds (now slots) k × (getD (now slots) (slotBytes * k) 0 ≤ limits .identifier) ⌝ }
     ensures { λ r. ⌜ r ≡ same (part (now (s .entry)) at n) (slotAt (now (slots .entry)) k .id) ⌝ }
 {
     let length = slots[SLOT_BYTES * k] as usize;

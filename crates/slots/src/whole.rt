@@ -4,7 +4,7 @@ ghost use mathlib.Core.Bool.{true};
 ghost use Prim.Native.Nat.{_+_, _*_, _≤_, _<_};
 ghost use lib.ListN.{length};
 ghost use Rattle.rules.specs.Bytes.{member, repeats};
-ghost use Rattle.rules.specs.Slots.{slotAt, allGood, goodSlots};
+ghost use Rattle.rules.specs.Slots.{slotBytes, slotAt, allGood, goodSlots};
 ghost use Rattle.slots.specs.Slot.{Short, slotsFrom, namesFrom};
 use crate::search::named;
 use crate::slot::SLOT_BYTES;
@@ -13,7 +13,7 @@ use rules::controller::Controller;
 
 // Whether each of the n slots is good.
 pub fn all_good(slots: &[u8], n: usize) -> bool
-    requires { ⌜ 74 * n ≤ length (now slots) ⌝ }
+    requires { ⌜ slotBytes * n ≤ length (now slots) ⌝ }
     ensures { λ r. ⌜ r ≡ allGood (slotsFrom (now (slots .entry)) 0 n) ⌝ }
 {
     let mut k = 0;
@@ -28,7 +28,7 @@ pub fn all_good(slots: &[u8], n: usize) -> bool
 
 // Whether one of the slots after number i has its identifier.
 pub fn named_again(slots: &[u8], i: usize, n: usize) -> bool
-    requires { ⌜ (i < n) × (74 * n ≤ length (now slots)) × Short (now slots) ⌝ }
+    requires { ⌜ (i < n) × (slotBytes * n ≤ length (now slots)) × Short (now slots) ⌝ }
     ensures { λ r. ⌜ r ≡ member (slotAt (now (slots .entry)) i .id) (namesFrom (now (slots .entry)) (i + 1) n) ⌝ }
 {
     let at = SLOT_BYTES * i;
@@ -44,7 +44,7 @@ pub fn named_again(slots: &[u8], i: usize, n: usize) -> bool
 }
 
 pub fn one_twice(slots: &[u8], n: usize) -> bool
-    requires { ⌜ (74 * n ≤ length (now slots)) × Short (now slots) ⌝ }
+    requires { ⌜ (slotBytes * n ≤ length (now slots)) × Short (now slots) ⌝ }
     ensures { λ r. ⌜ r ≡ repeats (namesFrom (now (slots .entry)) 0 n) ⌝ }
 {
     let mut i = 0;

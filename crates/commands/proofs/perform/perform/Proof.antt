@@ -22,7 +22,7 @@ returns c =
     let start = c .before .before .before .before .before .before .before .before .before .before .before .before .before .before in
     let d = c .before .before .before .before .before .before .act .ensures in (
       refl,
-      d .1 .small,
+      d .1,
       λ env h l f.
           rw (step-is env _ _ (start .args .place) _ _ (d .2 env (start .args .trace .now) h l f), c .before .before .put-event .ensures, d .0, start .pre .5),
       d .3,

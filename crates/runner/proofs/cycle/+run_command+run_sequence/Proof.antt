@@ -16,6 +16,7 @@ use Rattle.runner.proofs.cycle.+run_command+run_sequence.Lts-run_comman
 use Rattle.runner.proofs.cycle.run_sequence.Reads as run-sequence
 use Rattle.runner.proofs.cycle.run_sequence.Kinds as run-sequence-kinds
 use Rattle.runner.proofs.cycle.+run_command+run_sequence.Lts-run_sequence as run-sequence-lts
+use Rattle.runner.proofs.cycle.all_failed.Reads as all-failed-reads
 use Rattle.runner.proofs.cycle.caught.Reads as caught-reads
 use Rattle.runner.proofs.cycle.enter.Reads as enter-reads
 use Rattle.runner.proofs.cycle.leaf.Reads as leaf-reads
@@ -53,7 +54,7 @@ run-sequence-below t =
 
 -- what run-command knows of what it calls
 abbrev run-command-callees : ℕ → run-command-lts.Claims
-run-command-callees t = (open-reads.Asked, open-reads.Learnt, enter-reads.Asked, enter-reads.Learnt, run-sequence-below t, run-sequence.Post, leave-reads.Asked, leave-reads.Learnt, skip-reads.Asked, skip-reads.Learnt, leaf-reads.Asked, leaf-reads.Learnt)
+run-command-callees t = (open-reads.Asked, open-reads.Learnt, enter-reads.Asked, enter-reads.Learnt, run-sequence-below t, run-sequence.Post, leave-reads.Asked, leave-reads.Learnt, skip-reads.Asked, skip-reads.Learnt, all-failed-reads.Asked, all-failed-reads.Learnt, leaf-reads.Asked, leaf-reads.Learnt)
 
 -- what run-sequence knows of what it calls
 abbrev run-sequence-callees : ℕ → run-sequence-lts.Claims
@@ -136,8 +137,8 @@ run-command-loop-less t c = search needs
 run-command-loop-again : (t : ℕ) → run-command-lts.Need-loop-again (run-command-callees t) (run-command-at t) run-command.Post run-command-Inv-loop run-command-μ-loop
 run-command-loop-again t c = (search needs, search needs, λ j. tries-on _ _ _ _ _ _ _ _ _ _ _ _ _ _ _ _ _ _ _ (c .before .before .before .before .before .before .before .before .before .before .before .before .before .loop .inv .2 j) (c .before .before .before .before .before .before .before .before .before .before .before .before .loop-test .taken) _ _ (c .before .before .before .before .before .before .before .before .before .before .before .open4 .ensures (choice-head _ _ _ _ _ _ _ _ _ _ _ _ _ _ _ _ _ _ _ (c .before .before .before .before .before .before .before .before .before .before .before .before .before .loop .inv .2 j) (c .before .before .before .before .before .before .before .before .before .before .before .before .loop-test .taken))) _ _ _ _ ((rw (c .before .before .before .before .before .before .before .before .before .before .enter2 .ensures) at (c .before .before .before .before .before .before .run-sequence2 .ensures)) (choice-job _ _ _ _ _ _ _ _ _ _ _ _ _ _ _ _ _ _ _ (c .before .before .before .before .before .before .before .before .before .before .before .before .before .loop .inv .2 j) (c .before .before .before .before .before .before .before .before .before .before .before .before .loop-test .taken) _ _ (c .before .before .before .before .before .before .before .before .before .before .before .open4 .ensures (choice-head _ _ _ _ _ _ _ _ _ _ _ _ _ _ _ _ _ _ _ (c .before .before .before .before .before .before .before .before .before .before .before .before .before .loop .inv .2 j) (c .before .before .before .before .before .before .before .before .before .before .before .before .loop-test .taken))))) (c .if3 .left))
 
-run-command-leave-requires-3 : (t : ℕ) → run-command-lts.Need-leave-requires-3 (run-command-callees t) (run-command-at t) run-command.Post run-command-Inv-loop run-command-μ-loop
-run-command-leave-requires-3 t c κs = search needs
+run-command-all-failed-requires : (t : ℕ) → run-command-lts.Need-all-failed-requires (run-command-callees t) (run-command-at t) run-command.Post run-command-Inv-loop run-command-μ-loop
+run-command-all-failed-requires t c κs = search needs
 
 run-command-same-length-5 : (t : ℕ) → run-command-lts.Need-same-length-5 (run-command-callees t) (run-command-at t) run-command.Post run-command-Inv-loop run-command-μ-loop
 run-command-same-length-5 t c = search needs
@@ -146,7 +147,7 @@ run-command-same-length-6 : (t : ℕ) → run-command-lts.Need-same-length-6 (ru
 run-command-same-length-6 t c = search needs
 
 run-command-returns-3 : (t : ℕ) → run-command-lts.Need-returns-3 (run-command-callees t) (run-command-at t) run-command.Post run-command-Inv-loop run-command-μ-loop
-run-command-returns-3 t c = λ j. rw (c .leave3 .ensures) (tries-failed _ _ _ _ _ _ _ _ _ _ _ _ _ _ _ _ _ _ _ (c .before .before .loop .inv .2 j) (omega (arith, c .before .loop-test .left)))
+run-command-returns-3 t c = λ j. rw (c .all-failed .ensures) (tries-failed _ _ _ _ _ _ _ _ _ _ _ _ _ _ _ _ _ _ _ (c .before .before .loop .inv .2 j) (omega (arith, c .before .loop-test .left)))
 
 run-command-leaf-requires : (t : ℕ) → run-command-lts.Need-leaf-requires (run-command-callees t) (run-command-at t) run-command.Post run-command-Inv-loop run-command-μ-loop
 run-command-leaf-requires t c κs = leaf-job _ _ _ _ _ _ _ _ _ _ (c .before .before .before .before .before .before .before .before .before .before .pre .1) _ _ (c .before .before .before .before .before .«open» .ensures (command-head _ _ _ _ _ _ _ _ _ _ (c .before .before .before .before .before .before .before .before .before .before .pre .1))) (c .before .before .before .before .if1 .left) (c .before .before .before .if2 .left)
@@ -237,7 +238,7 @@ pub +run-command+run-sequence-spec : {M : Type 1} → statement M
     (run-command-returns-2 t)
     (run-command-loop-less t)
     (run-command-loop-again t)
-    (run-command-leave-requires-3 t)
+    (run-command-all-failed-requires t)
     (run-command-same-length-5 t)
     (run-command-same-length-6 t)
     (run-command-returns-3 t)
