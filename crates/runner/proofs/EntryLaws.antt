@@ -24,7 +24,7 @@ use Rattle.rules.proofs.ParamLaws.{bytes-after, text-after}
 use Rattle.runner.specs.declared.arguments.Args.{Args}
 use Rattle.slots.specs.Params.{meaning, Fit}
 use Rattle.runner.specs.Heads.{Headed}
-use Rattle.runner.specs.Arguments.{paramsOf, coerceOf, givenOf, bareAt, overGiven, EntryAt, EntryPut}
+use Rattle.runner.specs.Arguments.{paramsOf, coerceOf, givenOf, Within, bareAt, overGiven, EntryAt, EntryPut}
 use Rattle.runner.proofs.ArgumentLaws.{_&_, found-is}
 use Rattle.runner.proofs.HeadLaws.{one-of-whole, item-headed, number-headed, flag-at}
 
@@ -65,6 +65,7 @@ module _ (s : Bytes) (n e at : ℕ) (f : e ≤ length s) (v : Given) (q : ℕ) w
     pub to : q ≡ headed .head .next + headed .head .num
     pub fits : q ≤ length s
     pub set : 0 < headed .head .next
+    pub short : headed .head .num < 256
 
   uri-read : parameter s n Uri e at ≡ got (v, q) → UriAt
   unfolding parameter
@@ -78,6 +79,7 @@ module _ (s : Bytes) (n e at : ℕ) (f : e ≤ length s) (v : Given) (q : ℕ) w
         to = sym eq ∙ text-after h (i .is);
         fits = omega (arith, i .fits);
         set = omega (arith, i .up);
+        short = omega (arith, i .high);
       }
 
   pub record SourceAt : Type 0 where
@@ -181,7 +183,7 @@ module _ (s : Bytes) (key at : ℕ) (x : EntryAt s key at) (a : Args) where
       (record { value = a .value; uri = a .uri; length = a .length; source = a .source; digest = a .digest; size = a .size; coerce = b; next = next })
   put-coerce k b e next n =
       let (l, to, given) = entry-coerce s key at x k in
-      record { given = rw (given, e, coerce-is (eqb (getD s at 0) 0xf5)); next = omega arith; fit = λ f. record { source = f .source; digest = f .digest } }
+      record { given = rw (given, e, coerce-is (eqb (getD s at 0) 0xf5)); next = omega arith; fit = λ f. record { source = f .source; digest = f .digest }; within = λ w. record { inside = w .inside; short = w .short } }
 
   module _ (value next : ℕ) (o : Opens s at value next) where
     pub put-uri : key ≡ 6 →
@@ -195,6 +197,7 @@ module _ (s : Bytes) (key at : ℕ) (x : EntryAt s key at) (a : Args) where
           given = rw (y .given, ← ev, ← en, ne-eqb next 0 (λ z. omega (arith, y .set)));
           next = omega (arith, y .to);
           fit = λ f. record { source = f .source; digest = f .digest };
+          within = λ w. record { inside = λ l. omega (arith, y .to, y .fits); short = omega (arith, y .short) };
         }
 
     pub put-source : key ≡ 10 →
@@ -209,6 +212,7 @@ module _ (s : Bytes) (key at : ℕ) (x : EntryAt s key at) (a : Args) where
           given = rw (y .given, ← ev, ne-eqb (value + 1) 0 (λ z. omega arith), m);
           next = omega (arith, y .to);
           fit = λ f. record { source = omega (arith, y .inside); digest = f .digest };
+          within = λ w. record { inside = w .inside; short = w .short };
         }
 
     pub put-digest : key ≡ 11 →
@@ -222,6 +226,7 @@ module _ (s : Bytes) (key at : ℕ) (x : EntryAt s key at) (a : Args) where
           given = rw (y .given, ← en, ne-eqb next 0 (λ z. omega (arith, y .set)));
           next = omega (arith, y .to);
           fit = λ f. record { source = f .source; digest = λ l. omega (arith, y .to, y .fits) };
+          within = λ w. record { inside = w .inside; short = w .short };
         }
 
     pub put-size : (key ≡ 2 → ⊥) → (key ≡ 6 → ⊥) → (key ≡ 10 → ⊥) → (key ≡ 11 → ⊥) →
@@ -236,6 +241,7 @@ module _ (s : Bytes) (key at : ℕ) (x : EntryAt s key at) (a : Args) where
           given = rw (y .given, ← ev, ne-eqb (value + 1) 0 (λ z. omega arith), m);
           next = omega (arith, y .to);
           fit = λ f. record { source = f .source; digest = f .digest };
+          within = λ w. record { inside = w .inside; short = w .short };
         }
 
 -- the first of some entries, and the rest
@@ -296,6 +302,9 @@ module _ (s : Bytes) (n k : ℕ) (g : Given) (e at : ℕ) (given : Given) (to : 
 
 pub fit-bare : (s : Bytes) (n : ℕ) → Fit s n (paramsOf (bareAt 0 0))
 fit-bare s n = record { source = omega arith; digest = λ l. absurd (omega arith) }
+
+pub within-bare : (s : Bytes) → Within s (paramsOf (bareAt 0 0))
+within-bare s = record { inside = λ l. absurd (omega arith); short = omega arith }
 
 pub given-bare : (s : Bytes) → givenOf s (bareAt 0 0) ≡ nothing
 unfolding meaning

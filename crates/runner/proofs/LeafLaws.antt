@@ -26,7 +26,7 @@ run-one : (env : Env) (p : ℕ) (op : Rules.Op) (b : Option Bool) (i : ℕ) (st 
 unfolding runSeq
 run-one env p op b i st = refl
 
-coerce-after : (x y : ℕ) → isTrue (cond (eqb x 0) y x) ≡ Option·getD (coerceOf x) (isTrue y)
+pub coerce-after : (x y : ℕ) → isTrue (cond (eqb x 0) y x) ≡ Option·getD (coerceOf x) (isTrue y)
 coerce-after x y = go (eqb x 0)
   where
     go : (b : Bool) → isTrue (cond b y x) ≡ Option·getD (cond b none (some (isTrue x))) (isTrue y)

@@ -24,10 +24,10 @@ use Rattle.slots.specs.declared.params.Params as Words
 use Rattle.slots.specs.Params.{meaning, Fit}
 use Rattle.commands.specs.Op.{opOf}
 use Rattle.runner.specs.Heads.{Headed}
-use Rattle.runner.specs.Arguments.{paramsOf, givenOf, bareAt, Entries, One, ReadAs}
+use Rattle.runner.specs.Arguments.{paramsOf, givenOf, Within, bareAt, Entries, One, ReadAs}
 use Rattle.rules.proofs.TableLaws.{each-row}
 use Rattle.runner.proofs.ArgumentLaws.{_&_, form-of}
-use Rattle.runner.proofs.EntryLaws.{Opens, fit-bare}
+use Rattle.runner.proofs.EntryLaws.{Opens, fit-bare, within-bare}
 use Rattle.runner.proofs.HeadLaws.{flag-at, item-whole, item-headed, number-headed}
 
 pub one-of-two : (c k : ℕ) → k ≤ c → c < k + 2 → (c ≡ k) ⊎ (c ≡ k + 1)
@@ -308,6 +308,7 @@ module _ (s : Bytes) (c at : ℕ) (x : One s c at) where
           coerce = sym (y .coerce-is);
           next = omega (arith, y .to-is);
           fit = fit-bare s (x .n);
+          within = within-bare s;
           sixteen = λ l. omega (arith, y .to-is, y .fits);
           inside = component-in _ new;
           component = component-at _ new;
@@ -323,6 +324,7 @@ module _ (s : Bytes) (c at : ℕ) (x : One s c at) where
           coerce = sym (y .coerce-is);
           next = omega (arith, y .to-is);
           fit = fit-bare s (x .n);
+          within = within-bare s;
           sixteen = λ l. absurd (omega arith);
           inside = component-in _ new;
           component = component-at _ new;
@@ -341,8 +343,8 @@ module _ (s : Bytes) (c at : ℕ) (x : One s c at) where
         }
 
     pub read-map : (k : (c ≡ 19) ⊎ (c ≡ 20)) (a : Args) →
-        (givenOf s a ≡ map-entries k .given) × (a .next ≡ x .to) × Fit s (x .n) (paramsOf a) → ReadAs s c at x a
-    read-map k a (g, n, f) =
+        (givenOf s a ≡ map-entries k .given) × (a .next ≡ x .to) × Fit s (x .n) (paramsOf a) × Within s (paramsOf a) → ReadAs s c at x a
+    read-map k a (g, n, f, w) =
         let y = one-map k in
         let new : New (a .value) = λ j. absurd (⊎-elim (λ i. omega arith) (λ i. omega arith) k) in
         record {
@@ -350,6 +352,7 @@ module _ (s : Bytes) (c at : ℕ) (x : One s c at) where
           coerce = ap (λ (z : Given). z .coerce) g ∙ sym (y .coerce-is);
           next = n;
           fit = f;
+          within = w;
           sixteen = λ l. absurd (⊎-elim (λ i. omega arith) (λ i. omega arith) k);
           inside = component-in _ new;
           component = component-at _ new;
@@ -364,6 +367,7 @@ module _ (s : Bytes) (c at : ℕ) (x : One s c at) where
         coerce = sym coerce-is;
         next = sym to-is;
         fit = fit-bare s (x .n);
+        within = within-bare s;
         sixteen = λ l. absurd (omega (arith, i (row-above c (x .row) (x .listed))));
         inside = component-in _ new;
         component = component-at _ new;

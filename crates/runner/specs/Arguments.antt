@@ -29,6 +29,11 @@ coerceOf n = optional n (isTrue n)
 abbrev pub givenOf : Bytes → Args → Given
 givenOf s a = record { coerce = coerceOf (a .coerce); params = meaning s (paramsOf a) }
 
+-- a URI lies in the bytes s, and its length fits in one
+pub record Within (s : Bytes) (p : Params) : Type 0 where
+  pub inside : 0 < p .uri → p .uri + p .length ≤ length s
+  pub short : p .length < 256
+
 -- no parameters
 abbrev pub bareAt : ℕ → ℕ → Args
 bareAt value next = record { value = value; uri = 0; length = 0; source = 0; digest = 0; size = 0; coerce = 0; next = next }
@@ -53,6 +58,7 @@ pub record EntryPut (s : Bytes) (key at : ℕ) (x : EntryAt s key at) (a r : Arg
   pub given : givenOf s r ≡ overGiven (x .given) (givenOf s a)
   pub next : r .next ≡ x .to
   pub fit : Fit s (x .n) (paramsOf a) → Fit s (x .n) (paramsOf r)
+  pub within : Within s (paramsOf a) → Within s (paramsOf r)
 
 -- k entries of a map of parameters, which check has accepted
 pub record Entries (s : Bytes) (k at : ℕ) : Type 0 where
@@ -84,6 +90,7 @@ pub record ReadAs (s : Bytes) (c at : ℕ) (x : One s c at) (a : Args) : Type 0 
   pub coerce : coerceOf (a .coerce) ≡ x .coerce
   pub next : a .next ≡ x .to
   pub fit : Fit s (x .n) (paramsOf a)
+  pub within : Within s (paramsOf a)
   pub sixteen : c < 3 → a .value + 16 ≤ length s
   pub inside : (i : ℕ) → i < x .n → component (x .op) i < x .n
   pub component : (i : ℕ) → component (x .op) i ≡ cond (eqb c 12) (a .value) i

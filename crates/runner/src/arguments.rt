@@ -3,7 +3,7 @@ ghost use mathlib.Core.Path.{_≡_};
 ghost use lib.Dec.{eqb};
 ghost use mathlib.Core.Bool.{cond};
 ghost use Rattle.slots.specs.Params.{Fit};
-ghost use Rattle.runner.specs.Arguments.{paramsOf, givenOf, bareAt, EntryAt, EntryPut, Entries, One, ReadAs};
+ghost use Rattle.runner.specs.Arguments.{paramsOf, givenOf, Within, bareAt, EntryAt, EntryPut, Entries, One, ReadAs};
 use crate::heads::open;
 
 // The place of 16 bytes or the new index; the parameters, as in Params; coerce: 0 unset, 1 false, 2 true; and the place after.
@@ -82,7 +82,7 @@ fn entry(s: &[u8], key: usize, at: usize, a: Args) -> Args
 // k entries of a map of parameters.
 pub fn read_entries(s: &[u8], k: usize, at: usize) -> Args
     requires { ⌜ Entries (now s) k at ⌝ }
-    ensures { λ r. ⌜ ((x : Entries (now (s .entry)) k at) → (givenOf (now (s .entry)) r ≡ x .given) × (r .next ≡ x .to) × Fit (now (s .entry)) (x .n) (paramsOf r)) ⌝ }
+    ensures { λ r. ⌜ ((x : Entries (now (s .entry)) k at) → (givenOf (now (s .entry)) r ≡ x .given) × (r .next ≡ x .to) × Fit (now (s .entry)) (x .n) (paramsOf r) × Within (now (s .entry)) (paramsOf r)) ⌝ }
 {
     let mut a = bare(0, at);
     let mut left = k;

@@ -2,9 +2,9 @@
 use Prim.Native.Nat.{ℕ, _+_, _*_, _≤_, _<_}
 use mathlib.Core.Path.{_≡_}
 use mathlib.Core.Bool.{Bool, false}
-use mathlib.Core.List.{List, [], _∷_, map}
+use mathlib.Core.List.{List, [], _∷_, _++_, map}
 use lib.ListN.{length}
-use Rattle.rules.specs.Bytes.{Bytes, put, flat}
+use Rattle.rules.specs.Bytes.{Bytes, put, flat, be2}
 use Rattle.rules.specs.Manifest.{Seq, Cmd}
 use Rattle.rules.specs.Program.{Rec, jump, argBytes, size, sizeCmd, flatSeq, flatCmd, recBytes}
 use Rattle.rules.specs.Run.{indexAfter, coerceAfter}
@@ -12,6 +12,15 @@ use Rattle.runner.specs.Arguments.{isTrue, One}
 use Rattle.runner.specs.Cycle.{CommandAt, SequenceAt}
 use Rattle.translator.specs.Size.{weigh, weighCmd}
 use Rattle.translator.specs.declared.write.Pen.{Pen}
+
+-- the bytes b were put at `to`, and r is the place after them
+pub record Filled (b : Bytes) (to : ℕ) (room : Bytes) (r : ℕ) (room′ : Bytes) : Type 0 where
+  pub filled : room′ ≡ put room to b
+  pub next : r ≡ to + length b
+
+-- a record up to its argument
+unfoldable pub headBytes : ℕ → ℕ → ℕ → ℕ → ℕ → Bytes
+headBytes code component place target size = 0x53 ∷ 0x50 ∷ code ∷ component ∷ be2 place ++ be2 target ++ be2 size
 
 unfoldable pub written : List Rec → Bytes
 written rs = flat (map recBytes rs)
@@ -57,3 +66,4 @@ pub record LeafJob (s : Bytes) (code at : ℕ) (pen : Pen) (room : Bytes) : Type
   pub inside : pen .index < argument .n
   pub components : argument .n ≤ 8
   pub enough : pen .to + 10 + length (argBytes (argument .op)) ≤ length room
+  pub count : pen .n < 1024

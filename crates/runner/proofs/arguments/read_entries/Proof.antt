@@ -5,21 +5,21 @@ use borrow.Author.Needs.{needs}
 use Rattle.rules.specs.Got.{got}
 use Rattle.rules.specs.Check.{entries}
 use Rattle.slots.specs.Params.{Fit}
-use Rattle.runner.specs.Arguments.{paramsOf, givenOf, Entries}
-use Rattle.runner.proofs.EntryLaws.{entries-step, entries-none, step-headed, step-entry, fit-bare, given-bare}
+use Rattle.runner.specs.Arguments.{paramsOf, givenOf, Within, Entries}
+use Rattle.runner.proofs.EntryLaws.{entries-step, entries-none, step-headed, step-entry, fit-bare, within-bare, given-bare}
 use Rattle.runner.proofs.arguments.read_entries.Statement.{statement}
 use Rattle.runner.proofs.arguments.read_entries.Tie as tie
 
 -- what was to be read is what was read and what is left
 abbrev Inv-loop : tie.InvT-loop
 Inv-loop s k at a₀ left₀ a left =
-    (x : Entries s k at) → (low : ℕ) × (entries s (x .n) left low (givenOf s a) (x .e) (a .next) ≡ got (x .given, x .to)) × Fit s (x .n) (paramsOf a)
+    (x : Entries s k at) → (low : ℕ) × (entries s (x .n) left low (givenOf s a) (x .e) (a .next) ≡ got (x .given, x .to)) × Fit s (x .n) (paramsOf a) × Within s (paramsOf a)
 
 abbrev μ-loop : tie.MeasureT-loop
 μ-loop s k at a₀ left₀ a left = left
 
 holds : tie.Need-loop-holds Inv-loop μ-loop
-holds c = λ x. (0, rw (c .bare .ensures, given-bare _) (x .reads), rw (c .bare .ensures) (fit-bare _ _))
+holds c = λ x. (0, rw (c .bare .ensures, given-bare _) (x .reads), rw (c .bare .ensures) (fit-bare _ _), rw (c .bare .ensures) (within-bare _))
 
 headed : tie.Need-open-requires Inv-loop μ-loop
 headed c κs =
@@ -40,13 +40,13 @@ again c = λ x.
     let t = entries-step _ _ _ _ _ _ _ _ _ (c .before .before .loop-test .taken) (i .1) in
     let o = c .before .«open» .ensures (step-headed _ _ _ _ _ _ _ _ (x .fits) t) in
     let y = c .entry .ensures (step-entry _ _ _ _ _ _ _ _ (x .fits) t _ _ (o .0) (o .1)) in
-    (t .name + 1, rw (y .given, y .next) (t .rest), y .fit (i .2))
+    (t .name + 1, rw (y .given, y .next) (t .rest), y .fit (i .2), y .within (i .3))
 
 done : tie.Need-returns Inv-loop μ-loop
 done c = λ x.
     let i = c .before .loop .inv x in
     let (g, n) = entries-none _ _ _ _ _ _ _ _ _ (omega arith) (i .1) in
-    (g, n, i .2)
+    (g, n, i .2, i .3)
 
 pub read-entries-spec : {M : Type 1} → statement M
 read-entries-spec =

@@ -1,11 +1,19 @@
+use borrow.Author.Needs.{needs}
+use Rattle.translator.proofs.RecordLaws.{jump-wrote}
 use Rattle.translator.proofs.record.put_jump.Statement.{statement}
 use Rattle.translator.proofs.record.put_jump.Tie as tie
-use Rattle.translator.proofs.record.put_jump.Reads as reads
-use Rattle.translator.proofs.record.put_jump.Lts as lts
 
--- src/record.rt:12:1
 returns : tie.Need-returns
-returns c = ?
+returns c =
+    let d = c .before .before .before .before in
+    jump-wrote _ (d .before .before .before .args .pen) _ _ (d .put-head .ensures)
 
 pub put-jump-spec : {M : Type 1} → statement M
-put-jump-spec = tie.close (tie.spec returns)
+put-jump-spec =
+    tie.close
+    (tie.spec
+    (λ c κs. search needs)
+    (λ c. search needs)
+    (λ c. search needs)
+    (λ c. search needs)
+    returns)
