@@ -487,3 +487,139 @@ module _ (s : Bytes) (depth : ℕ) (pen : Pen) (room : Bytes) (j : CommandJob s 
             enough = omega (arith, j .enough, sz, wt);
             few = omega (arith, j .few, sz);
           }
+
+module _ (s : Bytes) (depth components : ℕ) (cmd : Cmd) (to target : ℕ) (pen : Pen) (room₀ : Bytes) (z : ℕ) (room : Bytes) (k p : ℕ) (now : Pen)
+    (l : AltsLoop s depth components cmd to target pen room₀ z room k p now) where
+  abbrev pub its-choice : Choice s components depth 0 k p to (l .place)
+  its-choice = choice s components depth 0 k p to (l .place) (l .some-left)
+
+  abbrev pub choice-head : Headed s p
+  choice-head = item-headed s BYTES 0 (limits .number) (l .place .e) p (its-choice .inside .head) (l .place .fits) (omega arith) (its-choice .inside .item)
+
+  pub choice-fits : its-choice .inside .head .next + its-choice .inside .head .num ≤ length s
+  choice-fits = omega (arith, its-choice .inside .fits, l .place .fits)
+
+  pub choice-size : (size (its-choice .first) ≤ sizeAlts (l .alts)) × (weigh (its-choice .first) ≤ weighAlts (l .alts))
+  choice-size = first-fits (l .alts) (its-choice .first) (its-choice .rest .seqs) (l .listed ∙ its-choice .seqs)
+
+  abbrev More : Type 0
+  More = (b : Alts) × (l .alts ≡ or (its-choice .first) b) × (its-choice .rest .seqs ≡ listOf b)
+
+  more : 1 < k → More
+  more h = more-alts (l .alts) (its-choice .first) (its-choice .rest .seqs) (l .listed ∙ its-choice .seqs) (omega (arith, its-choice .rest .size))
+
+  -- the record after an alternative but the last, and its jump
+  pub choice-few : 1 < k → (w : ℕ) → w ≡ size (its-choice .first) → now .n + w + 1 ≤ 1024
+  choice-few h w e = let (b, a, _) = more h in omega (arith, e, l .few, ap sizeAlts a, size-or (its-choice .first) b .0)
+
+  module _ (w from : ℕ) (o : (w ≡ its-choice .inside .head .num) × (from ≡ its-choice .inside .head .next)) where
+    abbrev pub choice-place : SequenceAt s components depth 0 from
+    choice-place =
+        record {
+          section = l .place .section;
+          m = l .place .m;
+          e = its-choice .inside .head .next + its-choice .inside .head .num;
+          fits = choice-fits;
+          seq = its-choice .first;
+          to = its-choice .inside .head .next + its-choice .inside .head .num;
+          reads = rw (o .1) (its-choice .inside .reads);
+          few = l .place .few;
+        }
+
+    abbrev pub choice-here : SequenceHere s depth from
+    choice-here = record { n = components; place = choice-place }
+
+    abbrev pub choice-job : SequenceJob s depth (entered pen from now) room
+    choice-job =
+        record {
+          n = components;
+          place = choice-place;
+          inside = l .inside;
+          components = l .eight;
+          enough = omega (arith, l .enough, choice-size .0, choice-size .1);
+          few = omega (arith, l .few, choice-size .0);
+        }
+
+    -- an alternative but the last
+    module _ (h : 1 < k) (t : ℕ) (r : Pen) (room′ : Bytes)
+        (wrote : Wrote (flatSeq (its-choice .first) false (pen .index) false t z (now .n)) (entered pen from now) room r room′) where
+      pub jump-room : r .to + 10 ≤ length room′
+      jump-room =
+          let (b, a, _) = more h in
+          let f : List Rec = flatSeq (its-choice .first) false (pen .index) false t z (now .n) in
+          let (p₁, p₂) = size-or (its-choice .first) b in
+          omega (arith, l .enough, ap sizeAlts a, ap weighAlts a, p₁, p₂, wrote .to, bytes-seq (its-choice .first) false (pen .index) false t z (now .n), same-room f (entered pen from now) room r room′ wrote)
+
+      pub jump-few : r .n < 1024
+      jump-few =
+          let (b, a, _) = more h in
+          omega (arith, l .few, ap sizeAlts a, size-or (its-choice .first) b .0, wrote .n, length-seq (its-choice .first) false (pen .index) false t z (now .n))
+
+      pub tries-on : t ≡ now .n + size (its-choice .first) + 1 → (r′ : Pen) (room″ : Bytes) → JumpWrote z r room′ r′ room″ →
+          AltsLoop s depth components cmd to target pen room₀ z room″ (k - 1) (from + w) r′
+      tries-on e r′ room″ jumped =
+          let (b, a, rest) = more h in
+          let x : Seq = its-choice .first in
+          let f : List Rec = flatSeq x false (pen .index) false t z (now .n) in
+          let (p₁, p₂) = size-or x b in
+          let e₁ = ap sizeAlts a in
+          let e₂ = ap weighAlts a in
+          let n₁ = length-seq x false (pen .index) false t z (now .n) in
+          let b₁ = bytes-seq x false (pen .index) false t z (now .n) in
+          let g : Wrote (l .done ++ f) pen room₀ r room′ = wrote-then (l .done) f pen room₀ now room (entered pen from now) r room′ refl refl (l .wrote) wrote in
+          let nn : r′ .n ≡ now .n + size x + 1 = omega (arith, wrote .n, jumped .wrote .n, n₁) in
+          let tt′ : r′ .to ≡ now .to + (10 * size x + weigh x) + 10 = omega (arith, wrote .to, jumped .wrote .to, b₁, bytes-jump z) in
+          let ll : length room″ ≡ length room =
+          same-room (jump z ∷ []) r room′ r′ room″ (jumped .wrote) ∙ same-room f (entered pen from now) room r room′ wrote in
+          record {
+            whole = l .whole;
+            is = l .is;
+            inside = l .inside;
+            eight = l .eight;
+            alts = b;
+            place =
+                record {
+                  section = its-choice .rest .section;
+                  m = its-choice .rest .m;
+                  e = its-choice .rest .e;
+                  fits = its-choice .rest .fits;
+                  seqs = its-choice .rest .seqs;
+                  size = its-choice .rest .size;
+                  reads = rw (o .0, o .1) (its-choice .rest .reads);
+                  few = its-choice .rest .few;
+                };
+            listed = sym rest;
+            some-left = omega (arith, h);
+            done = l .done ++ f ++ (jump z ∷ []);
+            wrote = wrote-then (l .done ++ f) (jump z ∷ []) pen room₀ r room′ r r′ room″ refl refl g (jumped .wrote);
+            goes =
+                l .goes
+                ∙ ap (λ (v : Alts). l .done ++ flatAlts v (pen .index) target z (now .n)) a
+                ∙ ap (λ (v : List Rec). l .done ++ v) (flat-or x b (pen .index) target z (now .n))
+                ∙ rw (e, nn) (sym (append-assoc (l .done) (flatSeq x false (pen .index) false (now .n + size x + 1) z (now .n)) (jump z ∷ flatAlts b (pen .index) target z (now .n + size x + 1)))
+                ∙ sym (append-assoc (l .done ++ flatSeq x false (pen .index) false (now .n + size x + 1) z (now .n)) (jump z ∷ []) (flatAlts b (pen .index) target z (now .n + size x + 1))));
+            enough = omega (arith, l .enough, e₁, e₂, p₁, p₂, tt′, ll);
+            few = omega (arith, l .few, e₁, p₁, nn);
+          }
+
+    -- the last
+    pub tries-last : k ≡ 1 → (r : Pen) (room′ : Bytes) → Wrote (flatSeq (its-choice .first) false (pen .index) false target z (now .n)) (entered pen from now) room r room′ →
+        CommandWrote cmd to components target pen room₀ (entered pen (from + w) r) room′
+    tries-last h r room′ wrote =
+        let x : Seq = its-choice .first in
+        let f : List Rec = flatSeq x false (pen .index) false target z (now .n) in
+        let (a, none) = last-alts (l .alts) x (its-choice .rest .seqs) (l .listed ∙ its-choice .seqs) (omega (arith, h, its-choice .rest .size)) in
+        let ends : its-choice .inside .head .next + its-choice .inside .head .num ≡ to =
+        no-others (its-choice .rest .seqs) none (its-choice .rest .reads) in
+        let g : flatCmd cmd (pen .index) target (pen .n) ≡ l .done ++ f =
+        l .goes
+        ∙ ap (λ (v : Alts). l .done ++ flatAlts v (pen .index) target z (now .n)) a
+        ∙ ap (λ (v : List Rec). l .done ++ v) (flat-last x (pen .index) target z (now .n)) in
+        holds-sequences cmd to components target pen room₀ (from + w) r room′
+        (rw g (wrote-then (l .done) f pen room₀ now room (entered pen from now) r room′ refl refl (l .wrote) wrote))
+        (omega (arith, o .0, o .1, ends)) (l .inside) (λ i. rw (l .is)) (λ c. rw (l .is))
+      where
+        no-others : (list : List Seq) → list ≡ [] → Alternatives s (sequenceAt s components (its-choice .rest .section) depth) (its-choice .rest .e) list (its-choice .rest .m) (its-choice .inside .head .next + its-choice .inside .head .num) to →
+            its-choice .inside .head .next + its-choice .inside .head .num ≡ to
+        no-others [] e q = q
+        no-others (y ∷ ys) e q = absurd (omega (arith, ap length e))
