@@ -147,7 +147,7 @@ write-command-loop-less : (t : ℕ) → write-command-lts.Need-loop-less (write-
 write-command-loop-less t c = search needs
 
 write-command-loop-again : (t : ℕ) → write-command-lts.Need-loop-again (write-command-callees t) (write-command-at t) write-command.Post write-command-Inv-loop write-command-μ-loop
-write-command-loop-again t c = (search needs, λ j. tries-on _ _ _ _ _ _ _ _ _ _ _ _ _ (c .before .before .before .before .before .before .before .before .before .before .before .before .before .before .before .loop .inv .1 j) _ _ (c .before .before .before .before .before .before .before .before .before .before .before .before .before .open4 .ensures (choice-head _ _ _ _ _ _ _ _ _ _ _ _ _ (c .before .before .before .before .before .before .before .before .before .before .before .before .before .before .before .loop .inv .1 j))) (c .before .before .before .before .before .before .before .before .before .before .before .before .before .before .loop-test .taken) _ _ _ ((rw (c .before .before .before .before .before .before .before .before .before .enter3 .ensures) at (c .before .before .before .before .before .before .before .write-sequence2 .ensures)) (choice-job _ _ _ _ _ _ _ _ _ _ _ _ _ (c .before .before .before .before .before .before .before .before .before .before .before .before .before .before .before .loop .inv .1 j) _ _ (c .before .before .before .before .before .before .before .before .before .before .before .before .before .open4 .ensures (choice-head _ _ _ _ _ _ _ _ _ _ _ _ _ (c .before .before .before .before .before .before .before .before .before .before .before .before .before .before .before .loop .inv .1 j))))) (omega (arith, (c .before .before .before .before .before .before .before .before .before .before .before .before .size-sequence2 .ensures (choice-here _ _ _ _ _ _ _ _ _ _ _ _ _ (c .before .before .before .before .before .before .before .before .before .before .before .before .before .before .before .loop .inv .1 j) _ _ (c .before .before .before .before .before .before .before .before .before .before .before .before .before .open4 .ensures (choice-head _ _ _ _ _ _ _ _ _ _ _ _ _ (c .before .before .before .before .before .before .before .before .before .before .before .before .before .before .before .loop .inv .1 j)))) .records))) _ _ (c .before .before .before .put-jump .ensures))
+write-command-loop-again t c = (omega (arith, c .before .before .before .before .before .before .before .before .before .before .before .before .before .before .before .loop .inv .0), λ j. tries-on _ _ _ _ _ _ _ _ _ _ _ _ _ (c .before .before .before .before .before .before .before .before .before .before .before .before .before .before .before .loop .inv .1 j) _ _ (c .before .before .before .before .before .before .before .before .before .before .before .before .before .open4 .ensures (choice-head _ _ _ _ _ _ _ _ _ _ _ _ _ (c .before .before .before .before .before .before .before .before .before .before .before .before .before .before .before .loop .inv .1 j))) (c .before .before .before .before .before .before .before .before .before .before .before .before .before .before .loop-test .taken) _ _ _ ((rw (c .before .before .before .before .before .before .before .before .before .enter3 .ensures) at (c .before .before .before .before .before .before .before .write-sequence2 .ensures)) (choice-job _ _ _ _ _ _ _ _ _ _ _ _ _ (c .before .before .before .before .before .before .before .before .before .before .before .before .before .before .before .loop .inv .1 j) _ _ (c .before .before .before .before .before .before .before .before .before .before .before .before .before .open4 .ensures (choice-head _ _ _ _ _ _ _ _ _ _ _ _ _ (c .before .before .before .before .before .before .before .before .before .before .before .before .before .before .before .loop .inv .1 j))))) (omega (arith, (c .before .before .before .before .before .before .before .before .before .before .before .before .size-sequence2 .ensures (choice-here _ _ _ _ _ _ _ _ _ _ _ _ _ (c .before .before .before .before .before .before .before .before .before .before .before .before .before .before .before .loop .inv .1 j) _ _ (c .before .before .before .before .before .before .before .before .before .before .before .before .before .open4 .ensures (choice-head _ _ _ _ _ _ _ _ _ _ _ _ _ (c .before .before .before .before .before .before .before .before .before .before .before .before .before .before .before .loop .inv .1 j)))) .records))) _ _ (c .before .before .before .put-jump .ensures))
 
 write-command-open-requires-5 : (t : ℕ) → write-command-lts.Need-open-requires-5 (write-command-callees t) (write-command-at t) write-command.Post write-command-Inv-loop write-command-μ-loop
 write-command-open-requires-5 t c κs = choice-head _ _ _ _ _ _ _ _ _ _ _ _ _ (c .before .loop .inv .1 (c .before .before .before .before .before .before .before .before .before .before .before .pre .1))
