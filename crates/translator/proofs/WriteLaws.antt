@@ -2,13 +2,12 @@
 use Prim.Native.Nat.{ℕ, suc, _+_, _-_, _*_, _/_, _≤_, _<_}
 use mathlib.Core.Path.{_≡_, refl, sym, ap, _∙_}
 use mathlib.Core.Bool.{Bool, true, false, _&&_, cond}
-use mathlib.Core.List.{List, [], _∷_, _++_, map, append-assoc, append-nil}
+use mathlib.Core.List.{List, [], _∷_, _++_, append-assoc, append-nil}
 use mathlib.Core.Option.{Option}
 use native.Mathlib.Omega.{arith}
-use native.Mathlib.Nat.{add-assoc}
 use lib.ListN.{length, length-append, set}
-use lib.Seq.{sets, length-sets}
-use Rattle.rules.specs.Bytes.{Bytes, put, flat}
+use lib.Seq.{length-sets}
+use Rattle.rules.specs.Bytes.{Bytes, put}
 use Rattle.rules.specs.Cbor.{BYTES, ARRAY}
 use Rattle.rules.specs.Limits.{limits}
 use Rattle.rules.specs.Commands.{Op, component}
@@ -19,11 +18,11 @@ use Rattle.rules.specs.Program.{Rec, does, jump, targetOf, argBytes, size, size
 use Rattle.rules.proofs.RunLaws.{length-seq, length-cmd}
 use Rattle.runner.specs.Heads.{Headed}
 use Rattle.runner.specs.Arguments.{isTrue, One}
-use Rattle.runner.specs.Cycle.{CommandAt, SequenceAt}
+use Rattle.runner.specs.Cycle.{SequenceAt}
 use Rattle.runner.proofs.HeadLaws.{item-headed, number-headed}
 use Rattle.runner.proofs.ArgumentLaws.{command-one}
 use Rattle.runner.proofs.SequenceRuns.{CommandsAt, Start, start, Turn, turn, no-more}
-use Rattle.runner.proofs.CommandRuns.{Coded, coded, InString, Sub, its-sequence, Tries, its-alternatives, listOf, Alternatives, alternatives-law}
+use Rattle.runner.proofs.CommandRuns.{Coded, coded, Sub, its-sequence, Tries, its-alternatives, listOf, Alternatives, alternatives-law}
 use Rattle.runner.proofs.TryRuns.{AltsAt, Choice, choice}
 use Rattle.translator.specs.declared.write.Pen.{Pen}
 use Rattle.translator.specs.Size.{weigh, weighCmd, weighAlts, SequenceHere, CommandHere}
