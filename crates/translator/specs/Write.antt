@@ -32,6 +32,7 @@ pub record SequenceJob (s : Bytes) (depth : ℕ) (pen : Pen) (room : Bytes) : Ty
   pub inside : pen .index < n
   pub components : n ≤ 8
   pub enough : pen .to + 10 * size (place .seq) + weigh (place .seq) ≤ length room
+  pub few : pen .n + size (place .seq) ≤ 1024
 
 pub record CommandJob (s : Bytes) (depth : ℕ) (pen : Pen) (room : Bytes) : Type 0 where
   pub n : ℕ
@@ -39,6 +40,7 @@ pub record CommandJob (s : Bytes) (depth : ℕ) (pen : Pen) (room : Bytes) : Typ
   pub inside : pen .index < n
   pub components : n ≤ 8
   pub enough : pen .to + 10 * sizeCmd (place .cmd) + weighCmd (place .cmd) ≤ length room
+  pub few : pen .n + sizeCmd (place .cmd) ≤ 1024
 
 -- the records rs were written at the pen
 pub record Wrote (rs : List Rec) (pen : Pen) (room : Bytes) (r : Pen) (room′ : Bytes) : Type 0 where

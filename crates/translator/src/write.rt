@@ -1,6 +1,6 @@
 // The records of sequences and commands, written to lent room.
 ghost use mathlib.Core.Path.{_≡_};
-ghost use Rattle.rules.specs.Program.{flatSeq, flatCmd};
+ghost use Rattle.rules.specs.Program.{flatSeq};
 ghost use mathlib.Core.Bool.{false, _&&_, cond};
 ghost use Rattle.runner.specs.Arguments.{isTrue};
 ghost use Rattle.translator.specs.Write.{SequenceJob, CommandJob, Wrote, CommandWrote};

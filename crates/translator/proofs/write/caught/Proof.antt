@@ -1,20 +1,15 @@
-use borrow.Author.Needs.{needs}
+use borrow.Author.Tests.{eq-eqb, ne-eqb}
 use Rattle.translator.proofs.write.caught.Statement.{statement}
 use Rattle.translator.proofs.write.caught.Tie as tie
-use Rattle.translator.proofs.write.caught.Reads as reads
-use Rattle.translator.proofs.write.caught.Lts as lts
 
--- src/write.rt:28:13
 returns : tie.Need-returns
-returns c = ?
+returns c = rw (c .before .if1 .taken, eq-eqb _ _ (c .if2 .taken))
 
--- src/write.rt:23:1
 returns-2 : tie.Need-returns-2
-returns-2 c = ?
+returns-2 c = rw (c .before .if1 .taken, ne-eqb _ _ (c .if2 .left))
 
--- src/write.rt:23:1
 returns-3 : tie.Need-returns-3
-returns-3 c = search needs
+returns-3 c = rw (c .if1 .left)
 
 pub caught-spec : {M : Type 1} → statement M
 caught-spec = tie.close (tie.spec returns returns-2 returns-3)
