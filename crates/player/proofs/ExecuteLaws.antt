@@ -43,7 +43,7 @@ module _ (p : Bytes) (components : ℕ) (walk : Walk) (vendor class : Bytes) (fo
   execute-number = omega (arith, j .before, j .ready .size)
 
   pub execute-fit : FitAll p 8 words
-  execute-fit k h = record { source = omega (arith, j .ready .lent .fit k h .source, j .ready .lent .host .few); digest = j .ready .lent .fit k h .digest }
+  execute-fit k h = record { uri = j .ready .lent .fit k h .uri; source = omega (arith, j .ready .lent .fit k h .source, j .ready .lent .host .few); digest = j .ready .lent .fit k h .digest }
 
   records-are : j .ready .place .records ≡ does (command .op) (getD p (at + 3) 0) (numberAt p (at + 4)) (numberAt p (at + 6)) ∷ here .others .records
   records-are = here .records ∙ ap (λ (r : Rec). r ∷ here .others .records) (command .is)

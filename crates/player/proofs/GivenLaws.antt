@@ -169,7 +169,7 @@ module _ (p : Bytes) (n code from to : ℕ) (x : ArgumentAt p n code from to) wh
       (x .listed) (x .reads)
 
   pub given-none : (19 ≤ code → 21 ≤ code) → GivenAs p n code from to x (record { uri = 0; length = 0; source = 0; digest = 0; size = 0 })
-  given-none h = record { op = plain _ h; fit = record { source = omega arith; digest = λ l. absurd (omega arith) } }
+  given-none h = record { op = plain _ h; fit = record { uri = λ l. absurd (omega arith); source = omega arith; digest = λ l. absurd (omega arith) } }
 
   pub given-read : 19 ≤ code → code < 21 → (e : Entries) → ParamsAre p n (paramsIn n argument) e → GivenAs p n code from to x (wordsOf e)
   given-read l h e a =

@@ -82,6 +82,13 @@ module _ (p : Bytes) (at r : ℕ) where
       go true = refl
       go false = rw (ne-eqb (at + 2) 0 (λ e. omega arith))
 
+  uri-fits : (to : ℕ) → ((at ≡ r → ⊥) → at + 2 ≤ r) → r ≤ to → to ≤ length p → 0 < placeIn at r → placeIn at r + lengthIn at r ≤ length p
+  uri-fits to wide h l = go (eqb at r) refl
+    where
+      go : (b : Bool) → eqb at r ≡ b → 0 < cond b 0 (at + 2) → cond b 0 (at + 2) + cond b 0 (r - at - 2) ≤ length p
+      go true e z = absurd (omega arith)
+      go false e z = let x : at + 2 ≤ r = wide (eqb-false at r e) in omega arith
+
   module _ (w : ℕ) (fixed : (at ≡ r → ⊥) → (at + 2 + w ≤ r) × (r ≤ at + 2 + w)) where
     width : (at ≡ r → ⊥) → r - at - 2 ≡ w
     width h = let (x, y) = fixed h in omega arith
@@ -204,5 +211,5 @@ module _ (p : Bytes) (n from to : ℕ) (pre : (0 < from) × (from ≤ to) × (to
                     rw (whole, eu, el, es, ev, ez, below p a b 1 (source-step .wide) n (rw (← es) h)) (
                       refl,
                       rw (uri-is p from a, number-is p a b 1 (source-step .wide), string-is p b c 32 (digest-step .wide), number-is p c d 4 (size-step .wide)),
-                      record { source = rw (← es) h; digest = string-fits p b c 32 (digest-step .wide) to (digest-step .fits) (pre .2) },
+                      record { uri = uri-fits p from a to (λ d. omega (arith, uri-step .wide d .0)) (uri-step .fits) (pre .2); source = rw (← es) h; digest = string-fits p b c 32 (digest-step .wide) to (digest-step .fits) (pre .2) },
                     )

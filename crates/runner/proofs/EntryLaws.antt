@@ -181,7 +181,7 @@ module _ (s : Bytes) (key at : ℕ) (x : EntryAt s key at) (a : Args) where
       (record { value = a .value; uri = a .uri; length = a .length; source = a .source; digest = a .digest; size = a .size; coerce = b; next = next })
   put-coerce k b e next n =
       let (l, to, given) = entry-coerce s key at x k in
-      record { given = rw (given, e, coerce-is (eqb (getD s at 0) 0xf5)); next = omega arith; fit = λ f. record { source = f .source; digest = f .digest } }
+      record { given = rw (given, e, coerce-is (eqb (getD s at 0) 0xf5)); next = omega arith; fit = λ f. record { uri = f .uri; source = f .source; digest = f .digest } }
 
   module _ (value next : ℕ) (o : Opens s at value next) where
     pub put-uri : key ≡ 6 →
@@ -194,7 +194,7 @@ module _ (s : Bytes) (key at : ℕ) (x : EntryAt s key at) (a : Args) where
         record {
           given = rw (y .given, ← ev, ← en, ne-eqb next 0 (λ z. omega (arith, y .set)));
           next = omega (arith, y .to);
-          fit = λ f. record { source = f .source; digest = f .digest };
+          fit = λ f. record { uri = λ l. omega (arith, y .to, y .fits, ev, en); source = f .source; digest = f .digest };
         }
 
     pub put-source : key ≡ 10 →
@@ -208,7 +208,7 @@ module _ (s : Bytes) (key at : ℕ) (x : EntryAt s key at) (a : Args) where
         record {
           given = rw (y .given, ← ev, ne-eqb (value + 1) 0 (λ z. omega arith), m);
           next = omega (arith, y .to);
-          fit = λ f. record { source = omega (arith, y .inside); digest = f .digest };
+          fit = λ f. record { uri = f .uri; source = omega (arith, y .inside); digest = f .digest };
         }
 
     pub put-digest : key ≡ 11 →
@@ -221,7 +221,7 @@ module _ (s : Bytes) (key at : ℕ) (x : EntryAt s key at) (a : Args) where
         record {
           given = rw (y .given, ← en, ne-eqb next 0 (λ z. omega (arith, y .set)));
           next = omega (arith, y .to);
-          fit = λ f. record { source = f .source; digest = λ l. omega (arith, y .to, y .fits) };
+          fit = λ f. record { uri = f .uri; source = f .source; digest = λ l. omega (arith, y .to, y .fits) };
         }
 
     pub put-size : (key ≡ 2 → ⊥) → (key ≡ 6 → ⊥) → (key ≡ 10 → ⊥) → (key ≡ 11 → ⊥) →
@@ -235,7 +235,7 @@ module _ (s : Bytes) (key at : ℕ) (x : EntryAt s key at) (a : Args) where
         record {
           given = rw (y .given, ← ev, ne-eqb (value + 1) 0 (λ z. omega arith), m);
           next = omega (arith, y .to);
-          fit = λ f. record { source = f .source; digest = f .digest };
+          fit = λ f. record { uri = f .uri; source = f .source; digest = f .digest };
         }
 
 -- the first of some entries, and the rest
@@ -295,7 +295,7 @@ module _ (s : Bytes) (n k : ℕ) (g : Given) (e at : ℕ) (given : Given) (to : 
       }
 
 pub fit-bare : (s : Bytes) (n : ℕ) → Fit s n (paramsOf (bareAt 0 0))
-fit-bare s n = record { source = omega arith; digest = λ l. absurd (omega arith) }
+fit-bare s n = record { uri = λ l. absurd (omega arith); source = omega arith; digest = λ l. absurd (omega arith) }
 
 pub given-bare : (s : Bytes) → givenOf s (bareAt 0 0) ≡ nothing
 unfolding meaning

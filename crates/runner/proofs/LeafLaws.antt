@@ -43,7 +43,7 @@ module _ (s : Bytes) (code at : ℕ) (run : Run) (vendor class : Bytes) (found :
   leaf-inside = omega (arith, leaf-component, r .inside (run .index) (omega (arith, j .among, j .ready .inside)), j .among)
 
   pub leaf-fit : FitAll s 8 words
-  leaf-fit k h = record { source = omega (arith, j .ready .lent .fit k h .source, j .ready .lent .host .few); digest = j .ready .lent .fit k h .digest }
+  leaf-fit k h = record { uri = j .ready .lent .fit k h .uri; source = omega (arith, j .ready .lent .fit k h .source, j .ready .lent .host .few); digest = j .ready .lent .fit k h .digest }
 
   pub leaf-code : IsCode s code (a .value) (paramsOf a)
   leaf-code = rw (r .op) (one-plain s code at (j .argument) .0)

@@ -114,9 +114,14 @@ module _ (s : Bytes) (n : ℕ) where
   pub fit-over : (a b : Params) → Fit s n a → Fit s n b → Fit s n (overWords a b)
   fit-over a b f g =
       record {
+        uri = go (eqb (a .uri) 0);
         source = either (λ x. x ≤ n) (eqb (a .source) 0) (a .source) (b .source) (f .source) (g .source);
         digest = either (λ x. 0 < x → x + 32 ≤ length s) (eqb (a .digest) 0) (a .digest) (b .digest) (f .digest) (g .digest);
       }
+    where
+      go : (t : Bool) → 0 < cond t (b .uri) (a .uri) → cond t (b .uri) (a .uri) + cond t (b .length) (a .length) ≤ length s
+      go true = g .uri
+      go false = f .uri
 
   pub fit-stored : (w : List ℕ) (i : ℕ) (p : Params) → length w ≡ 40 → i < 8 → FitAll s n w → Fit s n p → FitAll s n (stored w i p)
   fit-stored w i p l h f g j k = go (eqb j i) refl
@@ -147,4 +152,4 @@ params-start s n = go n 0
     go (suc n) k = rw (meaning-start s k, go n (suc k))
 
 pub fit-start : (s : Bytes) (n : ℕ) → FitAll s n (replicate 40 0)
-fit-start s n i h = rw (words-start i) (record { source = omega arith; digest = λ l. omega arith })
+fit-start s n i h = rw (words-start i) (record { uri = λ l. omega arith; source = omega arith; digest = λ l. omega arith })

@@ -53,8 +53,9 @@ overWords a b =
 unfoldable pub paramsIn : Bytes → List ℕ → ℕ → List Rules.Params
 paramsIn s w n = map (λ k. meaning s (wordsAt w k)) (numbers n 0)
 
--- a source is one of n components, and a digest lies in the bytes
+-- a source is one of n components, and a URI and a digest lie in the bytes
 pub record Fit (s : Bytes) (n : ℕ) (p : Params) : Type 0 where
+  pub uri : 0 < p .uri → p .uri + p .length ≤ length s
   pub source : p .source ≤ n
   pub digest : 0 < p .digest → p .digest + 32 ≤ length s
 
