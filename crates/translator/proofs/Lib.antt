@@ -1,3 +1,4 @@
 pub mod ArgumentSizes
 pub mod SequenceSizes
 pub mod CommandSizes
+pub mod Weights
