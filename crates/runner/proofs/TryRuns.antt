@@ -82,7 +82,7 @@ choice s n depth events k at to x h = go (x .seqs) refl (x .size) (x .reads)
           more = refl;
         }
 
-no-choice : (s : Bytes) (n depth events k at to : ℕ) (x : AltsAt s n depth events k at to) → k ≡ 0 → (x .seqs ≡ []) × (at ≡ to)
+pub no-choice : (s : Bytes) (n depth events k at to : ℕ) (x : AltsAt s n depth events k at to) → k ≡ 0 → (x .seqs ≡ []) × (at ≡ to)
 no-choice s n depth events k at to x z = go (x .seqs) refl (x .size) (x .reads)
   where
     go : (list : List Seq) → x .seqs ≡ list → length list ≡ k → Alternatives s (sequenceAt s n (x .section) depth) (x .e) list (x .m) at to → (x .seqs ≡ []) × (at ≡ to)

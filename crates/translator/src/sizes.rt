@@ -1,13 +1,11 @@
 // How many records a sequence has, and how many bytes their arguments have.
 ghost use mathlib.Core.Path.{_≡_};
-ghost use lib.ListN.{length};
-ghost use Rattle.rules.specs.Program.{argBytes};
-ghost use Rattle.commands.specs.Op.{opOf};
-ghost use Rattle.runner.specs.Arguments.{paramsOf};
-ghost use Rattle.translator.specs.Size.{SequenceHere, CommandHere, SequenceSized, CommandSized};
+ghost use Prim.Native.Nat.{_≤_};
+ghost use Rattle.translator.specs.Size.{parametersSize, argumentSize, most, SequenceHere, CommandHere, SequenceSized, CommandSized};
 use runner::arguments::Args;
 use runner::arguments::read_one;
 use runner::heads::open;
+use slots::params::either;
 
 // Records, the bytes of their arguments, and the place after what was read.
 pub struct Size {
@@ -17,25 +15,23 @@ pub struct Size {
 }
 
 // The bytes of the parameters that are set: key, length and value.
-fn parameters_size(a: Args) -> usize {
-    let mut n = 0;
-    if a.uri != 0 {
-        n = n + 2 + a.length;
-    }
-    if a.source != 0 {
-        n = n + 3;
-    }
-    if a.digest != 0 {
-        n = n + 34;
-    }
-    if a.size != 0 {
-        n = n + 6;
-    }
-    n
+fn parameters_size(a: Args) -> usize
+    requires { ⌜ parametersSize a ≤ most ⌝ }
+    ensures { λ r. ⌜ r ≡ parametersSize a ⌝ }
+{
+    let text = either(a.uri, a.length, 0);
+    let uri = either(a.uri, 2, 0);
+    let source = either(a.source, 3, 0);
+    let digest = either(a.digest, 34, 0);
+    let size = either(a.size, 6, 0);
+    text + uri + source + digest + size
 }
 
 // How many bytes the argument of a command has in its record.
-pub fn argument_size(code: usize, a: Args) -> usize {
+pub fn argument_size(code: usize, a: Args) -> usize
+    requires { ⌜ argumentSize code a ≤ most ⌝ }
+    ensures { λ r. ⌜ r ≡ argumentSize code a ⌝ }
+{
     match code {
         1 | 2 => 16,
         19 | 20 => parameters_size(a),
