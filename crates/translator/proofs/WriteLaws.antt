@@ -25,7 +25,7 @@ use Rattle.runner.proofs.SequenceRuns.{CommandsAt, Start, start, Turn, turn, no
 use Rattle.runner.proofs.CommandRuns.{Coded, coded, Sub, its-sequence, Tries, its-alternatives, listOf, Alternatives, alternatives-law}
 use Rattle.runner.proofs.TryRuns.{AltsAt, Choice, choice}
 use Rattle.translator.specs.declared.write.Pen.{Pen}
-use Rattle.translator.specs.Size.{weigh, weighCmd, weighAlts, SequenceHere, CommandHere}
+use Rattle.translator.specs.Size.{most, weigh, weighCmd, weighAlts, SequenceHere, CommandHere}
 use Rattle.translator.specs.Write.{written, SequenceJob, CommandJob, LeafJob, Wrote, CommandWrote, JumpWrote}
 
 -- bytes put one after the other
@@ -101,6 +101,7 @@ pub record CommandsJob (s : Bytes) (depth k : ℕ) (pen : Pen) (room : Bytes) : 
   pub components : n ≤ 8
   pub enough : pen .to + 10 * size (place .cmds) + weigh (place .cmds) ≤ length room
   pub few : pen .n + size (place .cmds) ≤ 1024
+  pub small : length room ≤ most
 
 -- the loop over commands: the records of the whole are those written and those of the commands that are left
 pub record Loop (s : Bytes) (depth : ℕ) (own : Bool) (target beyond components : ℕ) (whole : List Rec) (pen : Pen) (room₀ room : Bytes) (left : ℕ) (now : Pen) : Type 0 where
@@ -162,6 +163,7 @@ module _ (s : Bytes) (depth : ℕ) (own : Bool) (target beyond : ℕ) where
             components = l .job .components;
             enough = omega (arith, l .job .enough, its-size, its-weight);
             few = omega (arith, l .job .few, its-size);
+            small = l .job .small;
           }
 
       pub loop-goes-on : (t : ℕ) → t ≡ cond (own && isTrue (now .coerce)) beyond target → (r : Pen) (room′ : Bytes) →
@@ -194,6 +196,7 @@ module _ (s : Bytes) (depth : ℕ) (own : Bool) (target beyond : ℕ) where
                   components = l .job .components;
                   enough = omega (arith, l .job .enough, its-size, its-weight, nt, nl, nb);
                   few = omega (arith, l .job .few, its-size, nn);
+                  small = omega (arith, l .job .small, nl);
                 };
             same = l .same;
             done = l .done ++ f;
@@ -237,6 +240,7 @@ module _ (s : Bytes) (depth : ℕ) (pen : Pen) (room : Bytes) (j : SequenceJob s
         components = j .components;
         enough = j .enough;
         few = j .few;
+        small = j .small;
       }
 
 -- the same place in the room
@@ -346,6 +350,7 @@ pub record AltsLoop (s : Bytes) (depth components : ℕ) (cmd : Cmd) (to target 
   pub goes : flatCmd cmd (pen .index) target (pen .n) ≡ done ++ flatAlts alts (pen .index) target z (now .n)
   pub enough : now .to + 10 * sizeAlts alts + weighAlts alts ≤ length room
   pub few : now .n + sizeAlts alts ≤ 1024
+  pub small : length room ≤ most
 
 module _ (s : Bytes) (depth : ℕ) (pen : Pen) (room : Bytes) (j : CommandJob s depth pen room) where
   abbrev pub its-code : Coded s (j .n) depth 0 (pen .next) (j .place)
@@ -355,7 +360,7 @@ module _ (s : Bytes) (depth : ℕ) (pen : Pen) (room : Bytes) (j : CommandJob s 
   command-head = number-headed s (j .place .e) (pen .next) (its-code .code) (its-code .from) (j .place .fits) (its-code .reads)
 
   abbrev pub command-here : CommandHere s depth (pen .next)
-  command-here = record { n = j .n; place = j .place }
+  command-here = record { n = j .n; place = j .place; small = omega (arith, j .enough, j .small) }
 
   module _ (v p : ℕ) (q : (v ≡ its-code .code) × (p ≡ its-code .from)) where
     -- 30
@@ -393,7 +398,7 @@ module _ (s : Bytes) (depth : ℕ) (pen : Pen) (room : Bytes) (j : CommandJob s 
             }
 
         abbrev pub sub-here : SequenceHere s depth from
-        sub-here = record { n = j .n; place = sub-place }
+        sub-here = record { n = j .n; place = sub-place; small = omega (arith, j .enough, j .small, sub-size, sub-weight) }
 
         abbrev pub sub-job : SequenceJob s depth (entered pen from pen) room
         sub-job =
@@ -404,6 +409,7 @@ module _ (s : Bytes) (depth : ℕ) (pen : Pen) (room : Bytes) (j : CommandJob s 
               components = j .components;
               enough = omega (arith, j .enough, sub-size, sub-weight);
               few = omega (arith, j .few, sub-size);
+              small = j .small;
             }
 
         pub sub-wrote : (target k : ℕ) → k ≡ size (sub-at .seq) → (r : Pen) (room′ : Bytes) →
@@ -485,6 +491,7 @@ module _ (s : Bytes) (depth : ℕ) (pen : Pen) (room : Bytes) (j : CommandJob s 
                 ∙ ap (λ (m : ℕ). flatAlts (tries-at .alts) (pen .index) target m (pen .n)) zz;
             enough = omega (arith, j .enough, sz, wt);
             few = omega (arith, j .few, sz);
+            small = j .small;
           }
 
 module _ (s : Bytes) (depth components : ℕ) (cmd : Cmd) (to target : ℕ) (pen : Pen) (room₀ : Bytes) (z : ℕ) (room : Bytes) (k p : ℕ) (now : Pen)
@@ -526,7 +533,7 @@ module _ (s : Bytes) (depth components : ℕ) (cmd : Cmd) (to target : ℕ) (pen
         }
 
     abbrev pub choice-here : SequenceHere s depth from
-    choice-here = record { n = components; place = choice-place }
+    choice-here = record { n = components; place = choice-place; small = omega (arith, l .enough, l .small, choice-size .0, choice-size .1) }
 
     abbrev pub choice-job : SequenceJob s depth (entered pen from now) room
     choice-job =
@@ -537,6 +544,7 @@ module _ (s : Bytes) (depth components : ℕ) (cmd : Cmd) (to target : ℕ) (pen
           components = l .eight;
           enough = omega (arith, l .enough, choice-size .0, choice-size .1);
           few = omega (arith, l .few, choice-size .0);
+          small = l .small;
         }
 
     -- an alternative but the last
@@ -599,6 +607,7 @@ module _ (s : Bytes) (depth components : ℕ) (cmd : Cmd) (to target : ℕ) (pen
                 ∙ sym (append-assoc (l .done ++ flatSeq x false (pen .index) false (now .n + size x + 1) z (now .n)) (jump z ∷ []) (flatAlts b (pen .index) target z (now .n + size x + 1))));
             enough = omega (arith, l .enough, e₁, e₂, p₁, p₂, tt′, ll);
             few = omega (arith, l .few, e₁, p₁, nn);
+            small = omega (arith, l .small, ll);
           }
 
     -- the last

@@ -10,7 +10,7 @@ use Rattle.rules.specs.Program.{Rec, jump, argBytes, size, sizeCmd, flatSeq, fl
 use Rattle.rules.specs.Run.{indexAfter, coerceAfter}
 use Rattle.runner.specs.Arguments.{isTrue, One}
 use Rattle.runner.specs.Cycle.{CommandAt, SequenceAt}
-use Rattle.translator.specs.Size.{weigh, weighCmd}
+use Rattle.translator.specs.Size.{most, weigh, weighCmd}
 use Rattle.translator.specs.declared.write.Pen.{Pen}
 
 -- the bytes b were put at `to`, and r is the place after them
@@ -33,6 +33,7 @@ pub record SequenceJob (s : Bytes) (depth : ℕ) (pen : Pen) (room : Bytes) : Ty
   pub components : n ≤ 8
   pub enough : pen .to + 10 * size (place .seq) + weigh (place .seq) ≤ length room
   pub few : pen .n + size (place .seq) ≤ 1024
+  pub small : length room ≤ most
 
 pub record CommandJob (s : Bytes) (depth : ℕ) (pen : Pen) (room : Bytes) : Type 0 where
   pub n : ℕ
@@ -41,6 +42,7 @@ pub record CommandJob (s : Bytes) (depth : ℕ) (pen : Pen) (room : Bytes) : Typ
   pub components : n ≤ 8
   pub enough : pen .to + 10 * sizeCmd (place .cmd) + weighCmd (place .cmd) ≤ length room
   pub few : pen .n + sizeCmd (place .cmd) ≤ 1024
+  pub small : length room ≤ most
 
 -- the records rs were written at the pen
 pub record Wrote (rs : List Rec) (pen : Pen) (room : Bytes) (r : Pen) (room′ : Bytes) : Type 0 where
