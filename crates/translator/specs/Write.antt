@@ -1,12 +1,11 @@
 -- The records of a sequence, written to lent room.
 use Prim.Native.Nat.{ℕ, _+_, _*_, _≤_, _<_}
 use mathlib.Core.Path.{_≡_}
-use mathlib.Core.Bool.{Bool, false}
 use mathlib.Core.List.{List, [], _∷_, _++_, map}
 use lib.ListN.{length}
 use Rattle.rules.specs.Bytes.{Bytes, put, flat, be2}
-use Rattle.rules.specs.Manifest.{Seq, Cmd}
-use Rattle.rules.specs.Program.{Rec, jump, argBytes, size, sizeCmd, flatSeq, flatCmd, recBytes}
+use Rattle.rules.specs.Manifest.{Cmd}
+use Rattle.rules.specs.Program.{Rec, jump, argBytes, size, sizeCmd, flatCmd, recBytes}
 use Rattle.rules.specs.Run.{indexAfter, coerceAfter}
 use Rattle.runner.specs.Arguments.{isTrue, One}
 use Rattle.runner.specs.Cycle.{CommandAt, SequenceAt}

@@ -1,4 +1,4 @@
-// The flat program of an envelope and a group.
+// The records of an accepted envelope's sequences, sized and written to lent room.
 pub mod argument;
 pub mod bytes;
 pub mod record;
