@@ -1,0 +1,9 @@
+use mathlib.Core.Path.{refl}
+use Rattle.runner.proofs.cycle.all_failed.Statement.{statement}
+use Rattle.runner.proofs.cycle.all_failed.Tie as tie
+
+returns : tie.Need-returns
+returns c = refl
+
+pub all-failed-spec : {M : Type 1} → statement M
+all-failed-spec = tie.close (tie.spec returns)
