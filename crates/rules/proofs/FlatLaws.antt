@@ -14,11 +14,12 @@ use Rattle.rules.specs.Commands.{Op, component, isCondition, among, Allo
 use Rattle.rules.specs.Manifest.{Seq, end, then, Cmd, one, sub, try, Alts, last, or, count, countCmd, countAlts, Section, countAll, Manifest, names}
 use Rattle.rules.specs.Run.{indexAfter, coerceAfter, sectionsOf, chosen, planOf}
 use Rattle.rules.specs.Program.{Rec, does, jump, NONE, targetOf, size, sizeCmd, sizeAlts, flatSeq, flatCmd, flatAlts, flatAll, programOf, argBytes, recBytes, idBytes, programBytes}
+use Rattle.rules.specs.ProgramSize.{argSize, argSizeCmd, argSizeAlts, sizeAll, argSizeAll}
 use Rattle.rules.specs.ProgramTest.{groupAllows, anyOf, nonJumps}
 use Rattle.rules.proofs.OpLaws.{rowFor, component-below}
 use Rattle.rules.proofs.RoundTrip.{GoodRecs, GoodIds, GoodProgram}
-use Rattle.rules.proofs.TreeLaws.{jumps, weigh, weighCmd, weighAlts, GoodSeq, GoodCmd, GoodAlts}
-use Rattle.rules.proofs.ManifestLaws.{Sound, weighAll, GoodSections}
+use Rattle.rules.proofs.TreeLaws.{jumps, GoodSeq, GoodCmd, GoodAlts}
+use Rattle.rules.proofs.ManifestLaws.{Sound, argSizeIn, GoodSections}
 use Rattle.rules.proofs.RunLaws.{length-seq, length-cmd}
 
 -- counts
@@ -65,10 +66,10 @@ unfolding bytes
 bytes-none = refl
 
 mutual
-  unfolding flatSeq size count weigh
+  unfolding flatSeq size count argSize
 
   sum-seq : (a : Seq) (own : Bool) (i : ℕ) (c : Bool) (t z k : ℕ) →
-      (nonJumps (flatSeq a own i c t z k) ≤ count a) × (bytes (flatSeq a own i c t z k) ≡ 10 * size a + weigh a)
+      (nonJumps (flatSeq a own i c t z k) ≤ count a) × (bytes (flatSeq a own i c t z k) ≡ 10 * size a + argSize a)
   sum-seq end own i c t z k = (omega arith, bytes-none)
   sum-seq (then x xs) own i c t z k =
       let f : List Rec = flatCmd x i (cond (own && c) z t) k in
@@ -77,12 +78,12 @@ mutual
       let r′ = sum-seq xs own (indexAfter x i) (coerceAfter x c) t z (k + sizeCmd x) in
       (omega (arith, r .0, r′ .0, nonJumps-append f f′), omega (arith, r .1, r′ .1, bytes-append f f′))
 
-  sum-cmd : (x : Cmd) (i t k : ℕ) → (nonJumps (flatCmd x i t k) ≤ countCmd x) × (bytes (flatCmd x i t k) ≡ 10 * sizeCmd x + weighCmd x)
+  sum-cmd : (x : Cmd) (i t k : ℕ) → (nonJumps (flatCmd x i t k) ≤ countCmd x) × (bytes (flatCmd x i t k) ≡ 10 * sizeCmd x + argSizeCmd x)
   sum-cmd (one p op b) i t k = (omega arith, omega (arith, bytes-does op (component op i) p (targetOf op t)))
   sum-cmd (sub s) i t k = let r = sum-seq s true i false t (k + size s) k in (omega (arith, r .0), r .1)
   sum-cmd (try a) i t k = let r = sum-alts a i t (k + sizeAlts a) k in (omega (arith, r .0), r .1)
 
-  sum-alts : (a : Alts) (i t z k : ℕ) → (nonJumps (flatAlts a i t z k) ≤ countAlts a) × (bytes (flatAlts a i t z k) ≡ 10 * sizeAlts a + weighAlts a)
+  sum-alts : (a : Alts) (i t z k : ℕ) → (nonJumps (flatAlts a i t z k) ≤ countAlts a) × (bytes (flatAlts a i t z k) ≡ 10 * sizeAlts a + argSizeAlts a)
   sum-alts (last s) i t z k = sum-seq s false i false _ z k
   sum-alts (or s a) i t z k =
       let f : List Rec = flatSeq s false i false (k + size s + 1) z k in
@@ -152,9 +153,9 @@ module _ (g : Group) (n sec total : ℕ) (of : among sec (sectionsOf g) ≡ true
   index-below (try a) i good h = h
 
   mutual
-    unfolding flatSeq size weigh GoodSeq
+    unfolding flatSeq size argSize GoodSeq
 
-    recs-seq : (a : Seq) (own : Bool) (i : ℕ) (c : Bool) (t z k : ℕ) → GoodSeq a n sec → i < n → weigh a < 65536 → k + size a ≤ total → k + size a ≤ t →
+    recs-seq : (a : Seq) (own : Bool) (i : ℕ) (c : Bool) (t z k : ℕ) → GoodSeq a n sec → i < n → argSize a < 65536 → k + size a ≤ total → k + size a ≤ t →
         Aim total t → (T own → (k + size a ≤ z) × Aim total z) → GoodRecs g n total k (flatSeq a own i c t z k)
     recs-seq end own i c t z k good h w m f a az = tt
     recs-seq (then x xs) own i c t z k good h w m f a az =
@@ -164,7 +165,7 @@ module _ (g : Group) (n sec total : ℕ) (of : among sec (sectionsOf g) ≡ true
         (recs-seq xs own (indexAfter x i) (coerceAfter x c) t z (k + sizeCmd x) (good .1) (index-below x i (good .0) h) (omega arith) (omega arith) (omega arith) a
         (λ q. let y = az q in (omega (arith, y .0), y .1)))
 
-    recs-cmd : (x : Cmd) (i t k : ℕ) → GoodCmd x n sec → i < n → weighCmd x < 65536 → k + sizeCmd x ≤ total → k + sizeCmd x ≤ t → Aim total t →
+    recs-cmd : (x : Cmd) (i t k : ℕ) → GoodCmd x n sec → i < n → argSizeCmd x < 65536 → k + sizeCmd x ≤ total → k + sizeCmd x ≤ t → Aim total t →
         GoodRecs g n total k (flatCmd x i t k)
     recs-cmd (one p op b) i t k good h w m f a =
         let r = target-law op k t total (omega arith) l a in (
@@ -184,7 +185,7 @@ module _ (g : Group) (n sec total : ℕ) (of : among sec (sectionsOf g) ≡ true
     recs-cmd (sub s) i t k good h w m f a = recs-seq s true i false t (k + size s) k good h w m f a (λ q. (omega arith, aim-within (k + size s) total m))
     recs-cmd (try x) i t k good h w m f a = recs-alts x i t (k + sizeAlts x) k (good .0) h w m f a (omega arith) m
 
-    recs-alts : (x : Alts) (i t z k : ℕ) → GoodAlts x n sec → i < n → weighAlts x < 65536 → k + sizeAlts x ≤ total → k + sizeAlts x ≤ t → Aim total t →
+    recs-alts : (x : Alts) (i t z k : ℕ) → GoodAlts x n sec → i < n → argSizeAlts x < 65536 → k + sizeAlts x ≤ total → k + sizeAlts x ≤ t → Aim total t →
         k + sizeAlts x ≤ z → z ≤ total → GoodRecs g n total k (flatAlts x i t z k)
     recs-alts (last s) i t z k good h w m f a fz az = recs-seq s false i false t z k good h w m f a (λ q. absurd q)
     recs-alts (or s x) i t z k good h w m f a fz az =
@@ -194,32 +195,24 @@ module _ (g : Group) (n sec total : ℕ) (of : among sec (sectionsOf g) ≡ true
         ((omega arith, omega arith, omega arith), recs-alts x i t z (k + size s + 1) (good .1) h (omega arith) (omega arith) (omega arith) a (omega arith) az)
 
 -- the sequences of a group, each from a section of it or from common
-abbrev sizes : List Seq → ℕ
-sizes [] = 0
-sizes (a ∷ xs) = size a + sizes xs
-
 abbrev pub counts : List Seq → ℕ
 counts [] = 0
 counts (a ∷ xs) = count a + counts xs
-
-abbrev pub weighs : List Seq → ℕ
-weighs [] = 0
-weighs (a ∷ xs) = weigh a + weighs xs
 
 abbrev pub Plan : Group → ℕ → List Seq → Type 0
 Plan g n [] = Unit {0}
 Plan g n (a ∷ xs) = ((sec : ℕ) × (among sec (sectionsOf g) ≡ true) × GoodSeq a n sec) × Plan g n xs
 
-length-all : (xs : List Seq) (k : ℕ) → length (flatAll xs k) ≡ sizes xs
-unfolding flatAll
+pub length-all : (xs : List Seq) (k : ℕ) → length (flatAll xs k) ≡ sizeAll xs
+unfolding flatAll sizeAll
 length-all [] k = refl
 length-all (a ∷ xs) k =
     omega
     (arith, length-append (flatSeq a false 0 false NONE 0 k) (flatAll xs (k + size a)), length-seq a false 0 false NONE 0 k, length-all xs (k + size a))
 
 sums-all : (g : Group) (n : ℕ) (xs : List Seq) (k : ℕ) → Plan g n xs →
-    (sizes xs ≤ 4 * counts xs) × (nonJumps (flatAll xs k) ≤ counts xs) × (bytes (flatAll xs k) ≡ 10 * sizes xs + weighs xs)
-unfolding flatAll
+    (sizeAll xs ≤ 4 * counts xs) × (nonJumps (flatAll xs k) ≤ counts xs) × (bytes (flatAll xs k) ≡ 10 * sizeAll xs + argSizeAll xs)
+unfolding flatAll sizeAll argSizeAll
 sums-all g n [] k p = (omega arith, omega arith, bytes-none)
 sums-all g n (a ∷ xs) k p =
     let f : List Rec = flatSeq a false 0 false NONE 0 k in
@@ -228,8 +221,8 @@ sums-all g n (a ∷ xs) k p =
     let (x, y, z) = sums-all g n xs (k + size a) (p .1) in
     (omega (arith, size-seq a n (p .0 .0) (p .0 .2)), omega (arith, r .0, nonJumps-append f f′), omega (arith, r .1, bytes-append f f′))
 
-recs-all : (g : Group) (n total : ℕ) (xs : List Seq) (k : ℕ) → 0 < n → total ≤ limits .records → Plan g n xs → weighs xs < 65536 → k + sizes xs ≤ total → GoodRecs g n total k (flatAll xs k)
-unfolding flatAll
+recs-all : (g : Group) (n total : ℕ) (xs : List Seq) (k : ℕ) → 0 < n → total ≤ limits .records → Plan g n xs → argSizeAll xs < 65536 → k + sizeAll xs ≤ total → GoodRecs g n total k (flatAll xs k)
+unfolding flatAll sizeAll argSizeAll
 recs-all g n total [] k h l p w m = tt
 recs-all g n total (a ∷ xs) k h l p w m =
     recs-append g n total k (size a) (flatSeq a false 0 false NONE 0 k) (flatAll xs (k + size a)) (length-seq a false 0 false NONE 0 k)
@@ -237,15 +230,16 @@ recs-all g n total (a ∷ xs) k h l p w m =
     (recs-all g n total xs (k + size a) h l (p .1) (omega arith) (omega arith))
 
 pub chosen-law : (g : Group) (n : ℕ) (xs : List Section) → GoodSections n xs →
-    Plan g n (chosen (sectionsOf g) xs) × (counts (chosen (sectionsOf g) xs) ≤ countAll xs) × (weighs (chosen (sectionsOf g) xs) ≤ weighAll xs)
+    Plan g n (chosen (sectionsOf g) xs) × (counts (chosen (sectionsOf g) xs) ≤ countAll xs) × (argSizeAll (chosen (sectionsOf g) xs) ≤ argSizeIn xs)
+unfolding argSizeAll
 chosen-law g n [] h = (tt, omega arith, omega arith)
 chosen-law g n (x ∷ xs) h = go (among (x .key) (sectionsOf g)) refl (chosen-law g n xs (h .1))
   where
     go : (b : Bool) → among (x .key) (sectionsOf g) ≡ b →
-        Plan g n (chosen (sectionsOf g) xs) × (counts (chosen (sectionsOf g) xs) ≤ countAll xs) × (weighs (chosen (sectionsOf g) xs) ≤ weighAll xs) →
+        Plan g n (chosen (sectionsOf g) xs) × (counts (chosen (sectionsOf g) xs) ≤ countAll xs) × (argSizeAll (chosen (sectionsOf g) xs) ≤ argSizeIn xs) →
         Plan g n (cond b (x .seq ∷ chosen (sectionsOf g) xs) (chosen (sectionsOf g) xs))
         × (counts (cond b (x .seq ∷ chosen (sectionsOf g) xs) (chosen (sectionsOf g) xs)) ≤ count (x .seq) + countAll xs)
-        × (weighs (cond b (x .seq ∷ chosen (sectionsOf g) xs) (chosen (sectionsOf g) xs)) ≤ weigh (x .seq) + weighAll xs)
+        × (argSizeAll (cond b (x .seq ∷ chosen (sectionsOf g) xs) (chosen (sectionsOf g) xs)) ≤ argSize (x .seq) + argSizeIn xs)
     go true e r = (((x .key, e, h .0), r .0), omega (arith, r .1), omega (arith, r .2))
     go false e r = (r .0, omega (arith, r .1), omega (arith, r .2))
 
@@ -259,7 +253,7 @@ well-formed s g m h =
     let n : ℕ = length (names s m) in
     let (plan, c, w) = chosen-law g n (m .sections) (h .sections) in
     let (x, y, z) = sums-all g n (planOf g m) 0 plan in
-    let j : length (flatAll (planOf g m) 0) ≡ sizes (planOf g m) = length-all (planOf g m) 0 in
+    let j : length (flatAll (planOf g m) 0) ≡ sizeAll (planOf g m) = length-all (planOf g m) 0 in
     record {
       number = h .number;
       some-ids = h .some-ids;
@@ -279,3 +273,12 @@ well-formed s g m h =
             length-append (flat (map idBytes (names s m))) (flat (map recBytes (flatAll (planOf g m) 0))),
           );
     }
+
+-- how long the program is: its start, the identifiers, ten bytes a record, and the arguments
+pub program-size : (s : Bytes) (g : Group) (m : Manifest) → Sound s m →
+    length (programBytes (programOf s g m)) ≡ 11 + length (flat (map idBytes (names s m))) + 10 * sizeAll (planOf g m) + argSizeAll (planOf g m)
+unfolding programOf programBytes bytes
+program-size s g m h =
+    let (plan, _, _) = chosen-law g (length (names s m)) (m .sections) (h .sections) in
+    let (_, _, z) = sums-all g (length (names s m)) (planOf g m) 0 plan in
+    omega (arith, z, length-append (flat (map idBytes (names s m))) (flat (map recBytes (flatAll (planOf g m) 0))))

@@ -14,11 +14,12 @@ use Rattle.rules.specs.Got.{got}
 use Rattle.rules.specs.Cbor.{NUMBER, BYTES, ARRAY, MAP, after, item}
 use Rattle.rules.specs.Manifest.{count, Section, countAll, Manifest, names}
 use Rattle.rules.specs.Check.{number, key, inBytes, strings, identifier, identifiers, components, sequenceAt, sectionAt, commonSeq, commonAt, sectionsAt, manifestAt, unread, check}
+use Rattle.rules.specs.ProgramSize.{argSize}
 use Rattle.rules.proofs.GotLaws.{passed, both, split, split₂}
 use Rattle.rules.proofs.CheckLaws.{Item, item-law, number-law, key-law, inBytes-law}
 use Rattle.rules.proofs.RoundTrip.{GoodIds}
 use Rattle.rules.proofs.ParamLaws.{length-part}
-use Rattle.rules.proofs.TreeLaws.{weigh, GoodSeq, Tree, seq-tree}
+use Rattle.rules.proofs.TreeLaws.{GoodSeq, Tree, seq-tree}
 
 eqb-sym : (x y : ℕ) → eqb x y ≡ false → eqb y x ≡ false
 eqb-sym x y e = ne-eqb y x (λ q. eqb-false x y e (sym q))
@@ -121,9 +122,9 @@ module _ (s : Bytes) where
       (omega arith, b, d, omega arith, omega arith)
 
 -- argument bytes of a list of sections
-abbrev pub weighAll : List Section → ℕ
-weighAll [] = 0
-weighAll (x ∷ xs) = weigh (x .seq) + weighAll xs
+abbrev pub argSizeIn : List Section → ℕ
+argSizeIn [] = 0
+argSizeIn (x ∷ xs) = argSize (x .seq) + argSizeIn xs
 
 abbrev pub GoodSections : ℕ → List Section → Type 0
 GoodSections n [] = Unit {0}
@@ -136,9 +137,9 @@ pub record Sound (s : Bytes) (m : Manifest) : Type 0 where
   pub some-ids : (1 ≤ length (names s m)) × (length (names s m) ≤ limits .components)
   pub sections : GoodSections (length (names s m)) (m .sections)
   pub few : countAll (m .sections) ≤ limits .commands
-  pub light : weighAll (m .sections) ≤ 4096 + 25 * countAll (m .sections)
+  pub light : argSizeIn (m .sections) ≤ 4096 + 25 * countAll (m .sections)
 
-count-append : (xs ys : List Section) → (countAll (xs ++ ys) ≡ countAll xs + countAll ys) × (weighAll (xs ++ ys) ≡ weighAll xs + weighAll ys)
+count-append : (xs ys : List Section) → (countAll (xs ++ ys) ≡ countAll xs + countAll ys) × (argSizeIn (xs ++ ys) ≡ argSizeIn xs + argSizeIn ys)
 count-append [] ys = (omega arith, omega arith)
 count-append (x ∷ xs) ys = let r = count-append xs ys in (omega (arith, r .0), omega (arith, r .1))
 
@@ -148,7 +149,7 @@ sections-append n (x ∷ xs) ys g h = (g .0, sections-append n xs ys (g .1) h)
 
 module _ (s : Bytes) (small : length s < 65536) where
   section-law : (n k m e at : ℕ) (x : Section) (q : ℕ) → e ≤ length s → sectionAt s n k m e at ≡ got (x, q) →
-      Tree m e at q (count (x .seq)) (weigh (x .seq)) (GoodSeq (x .seq) n (x .key))
+      Tree m e at q (count (x .seq)) (argSize (x .seq)) (GoodSeq (x .seq) n (x .key))
   unfolding sectionAt
   section-law n k m e at x q l q₀ =
       split₂ _ (inBytes s (sequenceAt s n k (limits .depth) m) e at) _ (x, q) q₀ λ a p qa q₁.
@@ -159,7 +160,7 @@ module _ (s : Bytes) (small : length s < 65536) where
       (record { up = omega (arith, i .up, t .up); fits = i .fits; few = t .few; light = omega (arith, i .up, t .light); good = t .good })
 
   abbrev Listed : ℕ → ℕ → ℕ → List Section → ℕ → ℕ → Type 0
-  Listed m e at xs q n = Tree m e at q (countAll xs) (weighAll xs) (GoodSections n xs)
+  Listed m e at xs q n = Tree m e at q (countAll xs) (argSizeIn xs) (GoodSections n xs)
 
   sections-law : (n k low m e at : ℕ) (xs : List Section) (q : ℕ) → e ≤ length s → at ≤ e → sectionsAt s n k low m e at ≡ got (xs, q) → Listed m e at xs q n
   unfolding sectionsAt

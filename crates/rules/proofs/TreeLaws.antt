@@ -15,7 +15,7 @@ use Rattle.rules.specs.Cbor.{BYTES, ARRAY, MAP, NIL, after, item}
 use Rattle.rules.specs.Commands.{Form, sixteen, nil, below, alternatives, parameters, sequence, Allowed, commands, rowOf, isAllowed}
 use Rattle.rules.specs.Manifest.{Seq, end, then, Cmd, one, sub, try, Alts, last, or, count, countCmd, countAlts}
 use Rattle.rules.specs.Check.{Read, nothing, number, inBytes, entries, alternativesAt, argument, command, commandsAt, sequenceAt}
-use Rattle.rules.specs.Program.{argBytes}
+use Rattle.rules.specs.ProgramSize.{argSize, argSizeCmd, argSizeAlts}
 use Rattle.rules.proofs.GotLaws.{passed, both, split, split₂}
 use Rattle.rules.proofs.CheckLaws.{Item, item-law, number-law, inBytes-law}
 use Rattle.rules.proofs.OpLaws.{GoodOp, rowFor, fit-unset, RowOk, row-ok}
@@ -28,21 +28,6 @@ found-is (some b) r p a e = let f : b ≡ a = cc in ap some f
 abbrev pub jumps : Alts → ℕ
 jumps (last s) = 0
 jumps (or s a) = suc (jumps a)
-
--- the bytes of the arguments
-unfoldable mutual
-  pub weigh : Seq → ℕ
-  weigh end = 0
-  weigh (then c s) = weighCmd c + weigh s
-
-  pub weighCmd : Cmd → ℕ
-  weighCmd (one p op b) = length (argBytes op)
-  weighCmd (sub s) = weigh s
-  weighCmd (try a) = weighAlts a
-
-  pub weighAlts : Alts → ℕ
-  weighAlts (last s) = weigh s
-  weighAlts (or s a) = weigh s + weighAlts a
 
 -- what check has seen to, in section `sec` of a manifest with n components
 unfoldable mutual
@@ -69,18 +54,18 @@ pub record Tree (m e at q c w : ℕ) (G : Type 0) : Type 0 where
 
 module _ (s : Bytes) (n sec : ℕ) (small : length s < 65536) where
   abbrev pub Fine : (ℕ → Read Seq) → Type 0
-  Fine read = (m e at : ℕ) (a : Seq) (q : ℕ) → e ≤ length s → at ≤ e → read m e at ≡ got (a, q) → Tree m e at q (count a) (weigh a) (GoodSeq a n sec)
+  Fine read = (m e at : ℕ) (a : Seq) (q : ℕ) → e ≤ length s → at ≤ e → read m e at ≡ got (a, q) → Tree m e at q (count a) (argSize a) (GoodSeq a n sec)
 
   module _ (deeper : ℕ → Read Seq) (ih : Fine deeper) where
-    held : (m e at : ℕ) (a : Seq) (p : Span) → e ≤ length s → inBytes s (deeper m) e at ≡ got (a, p) → Tree m e at (p .to) (count a) (weigh a) (GoodSeq a n sec)
+    held : (m e at : ℕ) (a : Seq) (p : Span) → e ≤ length s → inBytes s (deeper m) e at ≡ got (a, p) → Tree m e at (p .to) (count a) (argSize a) (GoodSeq a n sec)
     held m e at a p l q₀ =
         let i = inBytes-law s (deeper m) e at a p q₀ in
         let t = ih m (p .to) (p .from) a (p .to) (omega (arith, i .fits)) (i .mid) (i .reads) in
         record { up = omega (arith, i .up, t .up); fits = i .fits; few = t .few; light = omega (arith, i .up, t .light); good = t .good }
 
     alts-tree : (k m e at : ℕ) (a : Alts) (q : ℕ) → e ≤ length s → alternativesAt s deeper k m e at ≡ got (a, q) →
-        Tree m e at q (countAlts a) (weighAlts a) (GoodAlts a n sec × (jumps a ≡ k))
-    unfolding alternativesAt count weigh GoodSeq
+        Tree m e at q (countAlts a) (argSizeAlts a) (GoodAlts a n sec × (jumps a ≡ k))
+    unfolding alternativesAt count argSize GoodSeq
     alts-tree zero m e at a q l q₀ =
         split₂ _ (inBytes s (deeper m) e at) _ (a, q) q₀ λ b p qr q₁.
         let t = held m e at b p l qr in
@@ -102,8 +87,8 @@ module _ (s : Bytes) (n sec : ℕ) (small : length s < 65536) where
         })
 
     arg-tree : (m place : ℕ) (form : Form) (allowed : Allowed) (e at : ℕ) (c : Cmd) (q : ℕ) → RowOk form allowed → isAllowed sec allowed ≡ true → m < (limits .commands) → place < at →
-        at ≤ e → e ≤ length s → argument s deeper n (m + 1) place form e at ≡ got (c, q) → Tree m e at q (countCmd c) (weighCmd c) (GoodCmd c n sec)
-    unfolding argument count weigh GoodSeq
+        at ≤ e → e ≤ length s → argument s deeper n (m + 1) place form e at ≡ got (c, q) → Tree m e at q (countCmd c) (argSizeCmd c) (GoodCmd c n sec)
+    unfolding argument count argSize GoodSeq
     arg-tree m place (sixteen op) allowed e at c q ok al room pl u l q₀ =
         split _ (item BYTES 16 16 s e at) _ (c, q) q₀ λ h qh q₁.
         let i : Item s BYTES 16 16 e at h = item-law s BYTES 16 16 e at h qh in
@@ -189,7 +174,7 @@ module _ (s : Bytes) (n sec : ℕ) (small : length s < 65536) where
           good = t .good;
         })
 
-    cmd-tree : (m e at : ℕ) (c : Cmd) (q : ℕ) → e ≤ length s → command s deeper n sec m e at ≡ got (c, q) → Tree m e at q (countCmd c) (weighCmd c) (GoodCmd c n sec)
+    cmd-tree : (m e at : ℕ) (c : Cmd) (q : ℕ) → e ≤ length s → command s deeper n sec m e at ≡ got (c, q) → Tree m e at q (countCmd c) (argSizeCmd c) (GoodCmd c n sec)
     unfolding command
     cmd-tree m e at c q l q₀ =
         split₂ _ (number s e at) _ (c, q) q₀ λ k p qk q₁.
@@ -201,8 +186,8 @@ module _ (s : Bytes) (n sec : ℕ) (small : length s < 65536) where
         record { up = omega (arith, t .up); fits = t .fits; few = t .few; light = omega (arith, t .light); good = t .good }
 
     cmds-tree : (k m e at : ℕ) (a : Seq) (q : ℕ) → e ≤ length s → at ≤ e → commandsAt s deeper n sec k m e at ≡ got (a, q) →
-        Tree m e at q (count a) (weigh a) (GoodSeq a n sec)
-    unfolding commandsAt count weigh GoodSeq
+        Tree m e at q (count a) (argSize a) (GoodSeq a n sec)
+    unfolding commandsAt count argSize GoodSeq
     cmds-tree zero m e at a q l u q₀ =
         let (ea, eq) = both q₀ in
         rw (← ea, ← eq) (record { up = omega arith; fits = u; few = λ h. omega arith; light = omega arith; good = tt })

@@ -13,5 +13,6 @@ pub mod Slots
 pub mod Step
 pub mod Run
 pub mod Program
+pub mod ProgramSize
 pub mod ProgramTest
 pub mod ProgramRun

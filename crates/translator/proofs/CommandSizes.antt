@@ -1,7 +1,6 @@
 -- A command, by its code, as it is counted.
 use Prim.Native.Nat.{ℕ, _+_, _-_, _≤_, _<_}
 use mathlib.Core.Path.{_≡_, sym, ap, _∙_}
-use mathlib.Core.List.{List, [], _∷_}
 use native.Mathlib.Omega.{arith}
 use lib.ListN.{length}
 use Rattle.rules.specs.Bytes.{Bytes}
@@ -10,6 +9,7 @@ use Rattle.rules.specs.Limits.{limits}
 use Rattle.rules.specs.Manifest.{Seq, Cmd, one, Alts, last, or}
 use Rattle.rules.specs.Check.{sequenceAt}
 use Rattle.rules.specs.Program.{size, sizeCmd, sizeAlts}
+use Rattle.rules.specs.ProgramSize.{argSize, argSizeCmd, argSizeAlts, sizeAll, argSizeAll}
 use Rattle.runner.specs.declared.arguments.Args.{Args}
 use Rattle.runner.specs.Arguments.{One, ReadAs}
 use Rattle.runner.specs.Heads.{Headed}
@@ -18,35 +18,26 @@ use Rattle.runner.proofs.ArgumentLaws.{command-one}
 use Rattle.runner.proofs.CommandRuns.{Coded, coded, Sub, its-sequence, Tries, its-alternatives, listOf, alternatives-law}
 use Rattle.runner.proofs.TryRuns.{AltsAt, Choice, choice, no-choice}
 use Rattle.translator.specs.declared.sizes.Size.{Size}
-use Rattle.translator.specs.Size.{weigh, weighCmd, weighAlts, argumentSize, most, SequenceHere, CommandHere, SequenceSized, CommandSized}
+use Rattle.translator.specs.Size.{argumentSize, most, SequenceHere, CommandHere, SequenceSized, CommandSized}
 use Rattle.translator.proofs.ArgumentSizes.{argument-is}
-
--- of some sequences
-unfoldable pub sizeAll : List Seq → ℕ
-sizeAll [] = 0
-sizeAll (a ∷ rest) = size a + sizeAll rest
-
-unfoldable pub weighAll : List Seq → ℕ
-weighAll [] = 0
-weighAll (a ∷ rest) = weigh a + weighAll rest
 
 size-alts : (a : Alts) → sizeAlts a + 1 ≡ sizeAll (listOf a) + length (listOf a)
 unfolding size sizeAll
 size-alts (last a) = omega arith
 size-alts (or a b) = omega (arith, size-alts b)
 
-weigh-alts : (a : Alts) → weighAlts a ≡ weighAll (listOf a)
-unfolding weigh weighAll
-weigh-alts (last a) = omega arith
-weigh-alts (or a b) = omega (arith, weigh-alts b)
+arg-size-alts : (a : Alts) → argSizeAlts a ≡ argSizeAll (listOf a)
+unfolding argSize argSizeAll
+arg-size-alts (last a) = omega arith
+arg-size-alts (or a b) = omega (arith, arg-size-alts b)
 
 -- the loop over alternatives: what is counted and the alternatives that are left make the whole
 pub record Choices (s : Bytes) (depth : ℕ) (cmd : Cmd) (to k : ℕ) (now : Size) : Type 0 where
   pub n : ℕ
   pub place : AltsAt s n depth 0 k (now .next) to
   pub records : now .records + sizeAll (place .seqs) ≡ sizeCmd cmd
-  pub arguments : now .arguments + weighAll (place .seqs) ≡ weighCmd cmd
-  pub small : sizeCmd cmd + weighCmd cmd ≤ most
+  pub arguments : now .arguments + argSizeAll (place .seqs) ≡ argSizeCmd cmd
+  pub small : sizeCmd cmd + argSizeCmd cmd ≤ most
 
 module _ (s : Bytes) (depth at : ℕ) (j : CommandHere s depth at) where
   abbrev its-code : Coded s (j .n) depth 0 at (j .place)
@@ -71,11 +62,11 @@ module _ (s : Bytes) (depth at : ℕ) (j : CommandHere s depth at) where
       unfolding size
       sub-size = ap sizeCmd (sub-at .is)
 
-      sub-weight : weighCmd (j .place .cmd) ≡ weigh (sub-at .seq)
-      unfolding weigh
-      sub-weight = ap weighCmd (sub-at .is)
+      sub-weight : argSizeCmd (j .place .cmd) ≡ argSize (sub-at .seq)
+      unfolding argSize
+      sub-weight = ap argSizeCmd (sub-at .is)
 
-      pub sub-small : size (sub-at .seq) + weigh (sub-at .seq) ≤ most
+      pub sub-small : size (sub-at .seq) + argSize (sub-at .seq) ≤ most
       sub-small = omega (arith, sub-size, sub-weight, j .small)
 
       module _ (w from : ℕ) (o : (w ≡ sub-at .inside .head .num) × (from ≡ sub-at .inside .head .next)) where
@@ -119,9 +110,9 @@ module _ (s : Bytes) (depth at : ℕ) (j : CommandHere s depth at) where
       one-here = one-at .0
 
       module _ (a : Args) (r : ReadAs s v p one-here a) where
-        one-weight : weighCmd (j .place .cmd) ≡ argumentSize v a
-        unfolding weigh
-        one-weight = ap weighCmd (one-at .2) ∙ sym (argument-is s v p one-here a r)
+        one-weight : argSizeCmd (j .place .cmd) ≡ argumentSize v a
+        unfolding argSize
+        one-weight = ap argSizeCmd (one-at .2) ∙ sym (argument-is s v p one-here a r)
 
         pub one-small : argumentSize v a ≤ most
         one-small = omega (arith, one-weight, j .small)
@@ -147,9 +138,9 @@ module _ (s : Bytes) (depth at : ℕ) (j : CommandHere s depth at) where
       unfolding size
       tries-size = ap sizeCmd (tries-at .is)
 
-      tries-weight : weighCmd (j .place .cmd) ≡ weighAlts (tries-at .alts)
-      unfolding weigh
-      tries-weight = ap weighCmd (tries-at .is)
+      tries-weight : argSizeCmd (j .place .cmd) ≡ argSizeAlts (tries-at .alts)
+      unfolding argSize
+      tries-weight = ap argSizeCmd (tries-at .is)
 
       module _ (w from : ℕ) (o : (w ≡ tries-at .head .num) × (from ≡ tries-at .head .next)) where
         pub tries-some : 1 ≤ w
@@ -172,16 +163,16 @@ module _ (s : Bytes) (depth at : ℕ) (j : CommandHere s depth at) where
                     few = omega arith;
                   };
               records = omega (arith, tries-size, size-alts (tries-at .alts), many, o .0, tries-at .some-of);
-              arguments = omega (arith, tries-weight, weigh-alts (tries-at .alts));
+              arguments = omega (arith, tries-weight, arg-size-alts (tries-at .alts));
               small = j .small;
             }
 
 module _ (s : Bytes) (depth : ℕ) (cmd : Cmd) (to k : ℕ) (now : Size) (l : Choices s depth cmd to k now) where
   pub choices-done : k ≡ 0 → CommandSized cmd to now
-  unfolding sizeAll weighAll
+  unfolding sizeAll argSizeAll
   choices-done z =
       let (e, at) = no-choice s (l .n) depth 0 k (now .next) to (l .place) z in
-      record { records = omega (arith, l .records, ap sizeAll e); arguments = omega (arith, l .arguments, ap weighAll e); next = at }
+      record { records = omega (arith, l .records, ap sizeAll e); arguments = omega (arith, l .arguments, ap argSizeAll e); next = at }
 
   module _ (h : 0 < k) where
     abbrev its-choice : Choice s (l .n) depth 0 k (now .next) to (l .place)
@@ -197,11 +188,11 @@ module _ (s : Bytes) (depth : ℕ) (cmd : Cmd) (to k : ℕ) (now : Size) (l : Ch
     unfolding sizeAll
     sum = ap sizeAll (its-choice .seqs)
 
-    weight : weighAll (l .place .seqs) ≡ weigh (its-choice .first) + weighAll (its-choice .rest .seqs)
-    unfolding weighAll
-    weight = ap weighAll (its-choice .seqs)
+    weight : argSizeAll (l .place .seqs) ≡ argSize (its-choice .first) + argSizeAll (its-choice .rest .seqs)
+    unfolding argSizeAll
+    weight = ap argSizeAll (its-choice .seqs)
 
-    pub choice-small : size (its-choice .first) + weigh (its-choice .first) ≤ most
+    pub choice-small : size (its-choice .first) + argSize (its-choice .first) ≤ most
     choice-small = omega (arith, sum, weight, l .records, l .arguments, l .small)
 
     module _ (w from : ℕ) (o : (w ≡ its-choice .inside .head .num) × (from ≡ its-choice .inside .head .next)) where

@@ -4,4 +4,3 @@ pub mod WriteLaws
 pub mod ArgumentSizes
 pub mod SequenceSizes
 pub mod CommandSizes
-pub mod Weights

@@ -7,19 +7,20 @@ use Rattle.rules.specs.Cbor.{ARRAY}
 use Rattle.rules.specs.Limits.{limits}
 use Rattle.rules.specs.Manifest.{Seq}
 use Rattle.rules.specs.Program.{size, sizeCmd}
+use Rattle.rules.specs.ProgramSize.{argSize, argSizeCmd}
 use Rattle.runner.specs.Heads.{Headed}
 use Rattle.runner.proofs.HeadLaws.{item-headed}
 use Rattle.runner.proofs.SequenceRuns.{CommandsAt, Start, start, Turn, turn, no-more}
 use Rattle.translator.specs.declared.sizes.Size.{Size}
-use Rattle.translator.specs.Size.{weigh, weighCmd, most, SequenceHere, CommandHere, SequenceSized, CommandSized}
+use Rattle.translator.specs.Size.{most, SequenceHere, CommandHere, SequenceSized, CommandSized}
 
 -- the loop over commands: what is counted and the commands that are left make the whole
 pub record Commands (s : Bytes) (depth : ℕ) (seq : Seq) (k : ℕ) (now : Size) : Type 0 where
   pub n : ℕ
   pub place : CommandsAt s n depth 0 k (now .next)
   pub records : now .records + size (place .cmds) ≡ size seq
-  pub arguments : now .arguments + weigh (place .cmds) ≡ weigh seq
-  pub small : size seq + weigh seq ≤ most
+  pub arguments : now .arguments + argSize (place .cmds) ≡ argSize seq
+  pub small : size seq + argSize seq ≤ most
 
 module _ (s : Bytes) (depth at : ℕ) (j : SequenceHere s depth at) where
   abbrev began : Start s (j .n) depth 0 at (j .place)
@@ -54,10 +55,10 @@ module _ (s : Bytes) (depth at : ℕ) (j : SequenceHere s depth at) where
 
 module _ (s : Bytes) (depth : ℕ) (seq : Seq) (k : ℕ) (now : Size) (l : Commands s depth seq k now) where
   pub commands-done : k ≡ 0 → SequenceSized seq now
-  unfolding size weigh
+  unfolding size argSize
   commands-done z =
       let e = no-more s (l .n) depth 0 k (now .next) (l .place) z in
-      record { records = omega (arith, l .records, ap size e); arguments = omega (arith, l .arguments, ap weigh e) }
+      record { records = omega (arith, l .records, ap size e); arguments = omega (arith, l .arguments, ap argSize e) }
 
   module _ (h : 0 < k) where
     abbrev its-turn : Turn s (l .n) depth 0 k (now .next) (l .place)
@@ -67,11 +68,11 @@ module _ (s : Bytes) (depth : ℕ) (seq : Seq) (k : ℕ) (now : Size) (l : Comma
     unfolding size
     sum = ap size (its-turn .cmds)
 
-    weight : weigh (l .place .cmds) ≡ weighCmd (its-turn .first .cmd) + weigh (its-turn .rest .cmds)
-    unfolding weigh
-    weight = ap weigh (its-turn .cmds)
+    weight : argSize (l .place .cmds) ≡ argSizeCmd (its-turn .first .cmd) + argSize (its-turn .rest .cmds)
+    unfolding argSize
+    weight = ap argSize (its-turn .cmds)
 
-    pub command-small : sizeCmd (its-turn .first .cmd) + weighCmd (its-turn .first .cmd) ≤ most
+    pub command-small : sizeCmd (its-turn .first .cmd) + argSizeCmd (its-turn .first .cmd) ≤ most
     command-small = omega (arith, sum, weight, l .records, l .arguments, l .small)
 
     abbrev pub command-here : CommandHere s depth (now .next)

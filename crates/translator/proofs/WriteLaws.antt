@@ -15,6 +15,7 @@ use Rattle.rules.specs.Manifest.{Seq, end, then, Cmd, one, sub, try, Alts, last
 use Rattle.rules.specs.Check.{sequenceAt}
 use Rattle.rules.specs.Run.{indexAfter, coerceAfter}
 use Rattle.rules.specs.Program.{Rec, does, jump, targetOf, argBytes, size, sizeCmd, sizeAlts, flatSeq, flatCmd, flatAlts, recBytes}
+use Rattle.rules.specs.ProgramSize.{argSize, argSizeCmd, argSizeAlts}
 use Rattle.rules.proofs.RunLaws.{length-seq, length-cmd}
 use Rattle.runner.specs.Heads.{Headed}
 use Rattle.runner.specs.Arguments.{isTrue, One}
@@ -25,7 +26,7 @@ use Rattle.runner.proofs.SequenceRuns.{CommandsAt, Start, start, Turn, turn, no
 use Rattle.runner.proofs.CommandRuns.{Coded, coded, Sub, its-sequence, Tries, its-alternatives, listOf, Alternatives, alternatives-law}
 use Rattle.runner.proofs.TryRuns.{AltsAt, Choice, choice}
 use Rattle.translator.specs.declared.write.Pen.{Pen}
-use Rattle.translator.specs.Size.{most, weigh, weighCmd, weighAlts, SequenceHere, CommandHere}
+use Rattle.translator.specs.Size.{most, SequenceHere, CommandHere}
 use Rattle.translator.specs.Write.{written, SequenceJob, CommandJob, LeafJob, Wrote, CommandWrote, JumpWrote}
 
 -- bytes put one after the other
@@ -54,21 +55,21 @@ length-written : (a b : List Rec) → length (written (a ++ b)) ≡ length (writ
 length-written a b = ap length (written-append a b) ∙ length-append (written a) (written b)
 
 mutual
-  unfolding flatSeq size weigh
+  unfolding flatSeq size argSize
 
-  pub bytes-seq : (a : Seq) (own : Bool) (i : ℕ) (c : Bool) (t z k : ℕ) → length (written (flatSeq a own i c t z k)) ≡ 10 * size a + weigh a
+  pub bytes-seq : (a : Seq) (own : Bool) (i : ℕ) (c : Bool) (t z k : ℕ) → length (written (flatSeq a own i c t z k)) ≡ 10 * size a + argSize a
   bytes-seq end own i c t z k = bytes-none
   bytes-seq (then x xs) own i c t z k =
       let f : List Rec = flatCmd x i (cond (own && c) z t) k in
       let f′ : List Rec = flatSeq xs own (indexAfter x i) (coerceAfter x c) t z (k + sizeCmd x) in
       omega (arith, bytes-cmd x i (cond (own && c) z t) k, bytes-seq xs own (indexAfter x i) (coerceAfter x c) t z (k + sizeCmd x), length-written f f′)
 
-  pub bytes-cmd : (x : Cmd) (i t k : ℕ) → length (written (flatCmd x i t k)) ≡ 10 * sizeCmd x + weighCmd x
+  pub bytes-cmd : (x : Cmd) (i t k : ℕ) → length (written (flatCmd x i t k)) ≡ 10 * sizeCmd x + argSizeCmd x
   bytes-cmd (one p op b) i t k = omega (arith, bytes-does op (component op i) p (targetOf op t))
   bytes-cmd (sub s) i t k = bytes-seq s true i false t (k + size s) k
   bytes-cmd (try a) i t k = bytes-alts a i t (k + sizeAlts a) k
 
-  pub bytes-alts : (a : Alts) (i t z k : ℕ) → length (written (flatAlts a i t z k)) ≡ 10 * sizeAlts a + weighAlts a
+  pub bytes-alts : (a : Alts) (i t z k : ℕ) → length (written (flatAlts a i t z k)) ≡ 10 * sizeAlts a + argSizeAlts a
   bytes-alts (last s) i t z k = bytes-seq s false i false t z k
   bytes-alts (or s a) i t z k =
       let f : List Rec = flatSeq s false i false (k + size s + 1) z k in
@@ -99,7 +100,7 @@ pub record CommandsJob (s : Bytes) (depth k : ℕ) (pen : Pen) (room : Bytes) : 
   pub place : CommandsAt s n depth 0 k (pen .next)
   pub inside : pen .index < n
   pub components : n ≤ 8
-  pub enough : pen .to + 10 * size (place .cmds) + weigh (place .cmds) ≤ length room
+  pub enough : pen .to + 10 * size (place .cmds) + argSize (place .cmds) ≤ length room
   pub few : pen .n + size (place .cmds) ≤ 1024
   pub small : length room ≤ most
 
@@ -124,9 +125,9 @@ size-then : (x : Cmd) (xs : Seq) → size (then x xs) ≡ sizeCmd x + size xs
 unfolding size
 size-then x xs = refl
 
-weigh-then : (x : Cmd) (xs : Seq) → weigh (then x xs) ≡ weighCmd x + weigh xs
-unfolding weigh
-weigh-then x xs = refl
+arg-size-then : (x : Cmd) (xs : Seq) → argSize (then x xs) ≡ argSizeCmd x + argSize xs
+unfolding argSize
+arg-size-then x xs = refl
 
 module _ (s : Bytes) (depth : ℕ) (own : Bool) (target beyond : ℕ) where
   pub loop-starts : (left : ℕ) (now : Pen) (room : Bytes) (x : CommandsJob s depth left now room) →
@@ -151,8 +152,8 @@ module _ (s : Bytes) (depth : ℕ) (own : Bool) (target beyond : ℕ) where
       pub its-size : size (l .job .place .cmds) ≡ sizeCmd (its-turn .first .cmd) + size (its-turn .rest .cmds)
       its-size = ap size (its-turn .cmds) ∙ size-then (its-turn .first .cmd) (its-turn .rest .cmds)
 
-      pub its-weight : weigh (l .job .place .cmds) ≡ weighCmd (its-turn .first .cmd) + weigh (its-turn .rest .cmds)
-      its-weight = ap weigh (its-turn .cmds) ∙ weigh-then (its-turn .first .cmd) (its-turn .rest .cmds)
+      pub its-weight : argSize (l .job .place .cmds) ≡ argSizeCmd (its-turn .first .cmd) + argSize (its-turn .rest .cmds)
+      its-weight = ap argSize (its-turn .cmds) ∙ arg-size-then (its-turn .first .cmd) (its-turn .rest .cmds)
 
       abbrev pub command-job : CommandJob s depth now room
       command-job =
@@ -274,9 +275,9 @@ pub size-sub : (a : Seq) → sizeCmd (sub a) ≡ size a
 unfolding size
 size-sub a = refl
 
-pub weigh-sub : (a : Seq) → weighCmd (sub a) ≡ weigh a
-unfolding weigh
-weigh-sub a = refl
+pub arg-size-sub : (a : Seq) → argSizeCmd (sub a) ≡ argSize a
+unfolding argSize
+arg-size-sub a = refl
 
 flat-sub : (a : Seq) (i t n : ℕ) → flatCmd (sub a) i t n ≡ flatSeq a true i false t (n + size a) n
 unfolding flatSeq
@@ -286,9 +287,9 @@ pub size-try : (a : Alts) → sizeCmd (try a) ≡ sizeAlts a
 unfolding size
 size-try a = refl
 
-pub weigh-try : (a : Alts) → weighCmd (try a) ≡ weighAlts a
-unfolding weigh
-weigh-try a = refl
+pub arg-size-try : (a : Alts) → argSizeCmd (try a) ≡ argSizeAlts a
+unfolding argSize
+arg-size-try a = refl
 
 flat-try : (a : Alts) (i t n : ℕ) → flatCmd (try a) i t n ≡ flatAlts a i t (n + sizeAlts a) n
 unfolding flatSeq
@@ -298,9 +299,9 @@ pub size-one : (p : ℕ) (op : Op) (b : Option Bool) → sizeCmd (one p op b) �
 unfolding size
 size-one p op b = refl
 
-pub weigh-one : (p : ℕ) (op : Op) (b : Option Bool) → weighCmd (one p op b) ≡ length (argBytes op)
-unfolding weigh
-weigh-one p op b = refl
+pub arg-size-one : (p : ℕ) (op : Op) (b : Option Bool) → argSizeCmd (one p op b) ≡ length (argBytes op)
+unfolding argSize
+arg-size-one p op b = refl
 
 -- alternatives by their list
 listed-some : (a : Alts) → 0 < length (listOf a)
@@ -315,12 +316,12 @@ last-alts : (a : Alts) (x : Seq) (xs : List Seq) → listOf a ≡ x ∷ xs → l
 last-alts (last y) x xs e h = let n : y ≡ x = cc in let m : xs ≡ [] = cc in (ap last n, m)
 last-alts (or y b) x xs e h = let m : xs ≡ listOf b = cc in absurd (omega (arith, h, ap length m, listed-some b))
 
-size-or : (x : Seq) (a : Alts) → (sizeAlts (or x a) ≡ size x + (1 + sizeAlts a)) × (weighAlts (or x a) ≡ weigh x + weighAlts a)
-unfolding size weigh
+size-or : (x : Seq) (a : Alts) → (sizeAlts (or x a) ≡ size x + (1 + sizeAlts a)) × (argSizeAlts (or x a) ≡ argSize x + argSizeAlts a)
+unfolding size argSize
 size-or x a = (refl, refl)
 
-size-last : (x : Seq) → (sizeAlts (last x) ≡ size x) × (weighAlts (last x) ≡ weigh x)
-unfolding size weigh
+size-last : (x : Seq) → (sizeAlts (last x) ≡ size x) × (argSizeAlts (last x) ≡ argSize x)
+unfolding size argSize
 size-last x = (refl, refl)
 
 flat-or : (x : Seq) (a : Alts) (i t z n : ℕ) → flatAlts (or x a) i t z n ≡ flatSeq x false i false (n + size x + 1) z n ++ jump z ∷ flatAlts a i t z (n + size x + 1)
@@ -331,9 +332,9 @@ flat-last : (x : Seq) (i t z n : ℕ) → flatAlts (last x) i t z n ≡ flatSeq 
 unfolding flatSeq
 flat-last x i t z n = refl
 
-first-fits : (a : Alts) (x : Seq) (xs : List Seq) → listOf a ≡ x ∷ xs → (size x ≤ sizeAlts a) × (weigh x ≤ weighAlts a)
-first-fits (last y) x xs e = let n : y ≡ x = cc in let (p, q) = size-last y in (omega (arith, p, ap size n), omega (arith, q, ap weigh n))
-first-fits (or y b) x xs e = let n : y ≡ x = cc in let (p, q) = size-or y b in (omega (arith, p, ap size n), omega (arith, q, ap weigh n))
+first-fits : (a : Alts) (x : Seq) (xs : List Seq) → listOf a ≡ x ∷ xs → (size x ≤ sizeAlts a) × (argSize x ≤ argSizeAlts a)
+first-fits (last y) x xs e = let n : y ≡ x = cc in let (p, q) = size-last y in (omega (arith, p, ap size n), omega (arith, q, ap argSize n))
+first-fits (or y b) x xs e = let n : y ≡ x = cc in let (p, q) = size-or y b in (omega (arith, p, ap size n), omega (arith, q, ap argSize n))
 
 -- the loop over alternatives: the records of the command are those written and those of the alternatives that are left
 pub record AltsLoop (s : Bytes) (depth components : ℕ) (cmd : Cmd) (to target : ℕ) (pen : Pen) (room₀ : Bytes) (z : ℕ) (room : Bytes) (k p : ℕ) (now : Pen) : Type 0 where
@@ -348,7 +349,7 @@ pub record AltsLoop (s : Bytes) (depth components : ℕ) (cmd : Cmd) (to target 
   pub done : List Rec
   pub wrote : Wrote done pen room₀ now room
   pub goes : flatCmd cmd (pen .index) target (pen .n) ≡ done ++ flatAlts alts (pen .index) target z (now .n)
-  pub enough : now .to + 10 * sizeAlts alts + weighAlts alts ≤ length room
+  pub enough : now .to + 10 * sizeAlts alts + argSizeAlts alts ≤ length room
   pub few : now .n + sizeAlts alts ≤ 1024
   pub small : length room ≤ most
 
@@ -377,8 +378,8 @@ module _ (s : Bytes) (depth : ℕ) (pen : Pen) (room : Bytes) (j : CommandJob s 
       pub sub-size : sizeCmd (j .place .cmd) ≡ size (sub-at .seq)
       sub-size = ap sizeCmd (sub-at .is) ∙ size-sub (sub-at .seq)
 
-      pub sub-weight : weighCmd (j .place .cmd) ≡ weigh (sub-at .seq)
-      sub-weight = ap weighCmd (sub-at .is) ∙ weigh-sub (sub-at .seq)
+      pub sub-weight : argSizeCmd (j .place .cmd) ≡ argSize (sub-at .seq)
+      sub-weight = ap argSizeCmd (sub-at .is) ∙ arg-size-sub (sub-at .seq)
 
       pub sub-few : (k : ℕ) → k ≡ size (sub-at .seq) → pen .n + k ≤ 1024
       sub-few k e = omega (arith, e, sub-size, j .few)
@@ -440,7 +441,7 @@ module _ (s : Bytes) (depth : ℕ) (pen : Pen) (room : Bytes) (j : CommandJob s 
             argument = one-at .0;
             inside = omega (arith, j .inside, one-at .1);
             components = omega (arith, j .components, one-at .1);
-            enough = omega (arith, j .enough, ap sizeCmd (one-at .2), ap weighCmd (one-at .2), size-one (pen .next) (one-at .0 .op) (one-at .0 .coerce), weigh-one (pen .next) (one-at .0 .op) (one-at .0 .coerce));
+            enough = omega (arith, j .enough, ap sizeCmd (one-at .2), ap argSizeCmd (one-at .2), size-one (pen .next) (one-at .0 .op) (one-at .0 .coerce), arg-size-one (pen .next) (one-at .0 .op) (one-at .0 .coerce));
             count = omega (arith, j .few, ap sizeCmd (one-at .2), size-one (pen .next) (one-at .0 .op) (one-at .0 .coerce));
           }
 
@@ -462,7 +463,7 @@ module _ (s : Bytes) (depth : ℕ) (pen : Pen) (room : Bytes) (j : CommandJob s 
       tries-start target w from z o k e e′ =
           let (l, size) = alternatives-law s (sequenceAt s (j .n) (j .place .section) depth) (tries-at .head .num - 1) (j .place .m + 1) (j .place .e) (tries-at .head .next) (tries-at .alts) (j .place .to) (tries-at .reads) in
           let sz : sizeCmd (j .place .cmd) ≡ sizeAlts (tries-at .alts) = ap sizeCmd (tries-at .is) ∙ size-try (tries-at .alts) in
-          let wt : weighCmd (j .place .cmd) ≡ weighAlts (tries-at .alts) = ap weighCmd (tries-at .is) ∙ weigh-try (tries-at .alts) in
+          let wt : argSizeCmd (j .place .cmd) ≡ argSizeAlts (tries-at .alts) = ap argSizeCmd (tries-at .is) ∙ arg-size-try (tries-at .alts) in
           let zz : pen .n + sizeAlts (tries-at .alts) ≡ z = omega (arith, e, e′, sz) in
           record {
             whole = tries-at .alts;
@@ -505,7 +506,7 @@ module _ (s : Bytes) (depth components : ℕ) (cmd : Cmd) (to target : ℕ) (pen
   pub choice-fits : its-choice .inside .head .next + its-choice .inside .head .num ≤ length s
   choice-fits = omega (arith, its-choice .inside .fits, l .place .fits)
 
-  pub choice-size : (size (its-choice .first) ≤ sizeAlts (l .alts)) × (weigh (its-choice .first) ≤ weighAlts (l .alts))
+  pub choice-size : (size (its-choice .first) ≤ sizeAlts (l .alts)) × (argSize (its-choice .first) ≤ argSizeAlts (l .alts))
   choice-size = first-fits (l .alts) (its-choice .first) (its-choice .rest .seqs) (l .listed ∙ its-choice .seqs)
 
   abbrev More : Type 0
@@ -555,7 +556,7 @@ module _ (s : Bytes) (depth components : ℕ) (cmd : Cmd) (to target : ℕ) (pen
           let (b, a, _) = more h in
           let f : List Rec = flatSeq (its-choice .first) false (pen .index) false t z (now .n) in
           let (p₁, p₂) = size-or (its-choice .first) b in
-          omega (arith, l .enough, ap sizeAlts a, ap weighAlts a, p₁, p₂, wrote .to, bytes-seq (its-choice .first) false (pen .index) false t z (now .n), same-room f (entered pen from now) room r room′ wrote)
+          omega (arith, l .enough, ap sizeAlts a, ap argSizeAlts a, p₁, p₂, wrote .to, bytes-seq (its-choice .first) false (pen .index) false t z (now .n), same-room f (entered pen from now) room r room′ wrote)
 
       pub jump-few : r .n < 1024
       jump-few =
@@ -570,12 +571,12 @@ module _ (s : Bytes) (depth components : ℕ) (cmd : Cmd) (to target : ℕ) (pen
           let f : List Rec = flatSeq x false (pen .index) false t z (now .n) in
           let (p₁, p₂) = size-or x b in
           let e₁ = ap sizeAlts a in
-          let e₂ = ap weighAlts a in
+          let e₂ = ap argSizeAlts a in
           let n₁ = length-seq x false (pen .index) false t z (now .n) in
           let b₁ = bytes-seq x false (pen .index) false t z (now .n) in
           let g : Wrote (l .done ++ f) pen room₀ r room′ = wrote-then (l .done) f pen room₀ now room (entered pen from now) r room′ refl refl (l .wrote) wrote in
           let nn : r′ .n ≡ now .n + size x + 1 = omega (arith, wrote .n, jumped .wrote .n, n₁) in
-          let tt′ : r′ .to ≡ now .to + (10 * size x + weigh x) + 10 = omega (arith, wrote .to, jumped .wrote .to, b₁, bytes-jump z) in
+          let tt′ : r′ .to ≡ now .to + (10 * size x + argSize x) + 10 = omega (arith, wrote .to, jumped .wrote .to, b₁, bytes-jump z) in
           let ll : length room″ ≡ length room =
           same-room (jump z ∷ []) r room′ r′ room″ (jumped .wrote) ∙ same-room f (entered pen from now) room r room′ wrote in
           record {

@@ -3,28 +3,13 @@ use Prim.Native.Nat.{ℕ, _+_, _≤_}
 use mathlib.Core.Path.{_≡_}
 use mathlib.Core.Bool.{cond}
 use lib.Dec.{eqb}
-use lib.ListN.{length}
 use Rattle.rules.specs.Bytes.{Bytes}
-use Rattle.rules.specs.Manifest.{Seq, end, then, Cmd, one, sub, try, Alts, last, or}
-use Rattle.rules.specs.Program.{size, sizeCmd, argBytes}
+use Rattle.rules.specs.Manifest.{Seq, Cmd}
+use Rattle.rules.specs.Program.{size, sizeCmd}
+use Rattle.rules.specs.ProgramSize.{argSize, argSizeCmd}
 use Rattle.runner.specs.declared.arguments.Args.{Args}
 use Rattle.runner.specs.Cycle.{CommandAt, SequenceAt}
 use Rattle.translator.specs.declared.sizes.Size.{Size}
-
--- how many bytes the arguments of its records have
-unfoldable mutual
-  pub weigh : Seq → ℕ
-  weigh end = 0
-  weigh (then c s) = weighCmd c + weigh s
-
-  pub weighCmd : Cmd → ℕ
-  weighCmd (one p op b) = length (argBytes op)
-  weighCmd (sub s) = weigh s
-  weighCmd (try a) = weighAlts a
-
-  pub weighAlts : Alts → ℕ
-  weighAlts (last s) = weigh s
-  weighAlts (or s a) = weigh s + weighAlts a
 
 -- the bytes of the parameters that are set: key, length and value
 abbrev pub parametersSize : Args → ℕ
@@ -43,18 +28,18 @@ most = 0xffffffffffffffff
 pub record SequenceHere (s : Bytes) (depth at : ℕ) : Type 0 where
   pub n : ℕ
   pub place : SequenceAt s n depth 0 at
-  pub small : size (place .seq) + weigh (place .seq) ≤ most
+  pub small : size (place .seq) + argSize (place .seq) ≤ most
 
 pub record CommandHere (s : Bytes) (depth at : ℕ) : Type 0 where
   pub n : ℕ
   pub place : CommandAt s n depth 0 at
-  pub small : sizeCmd (place .cmd) + weighCmd (place .cmd) ≤ most
+  pub small : sizeCmd (place .cmd) + argSizeCmd (place .cmd) ≤ most
 
 pub record SequenceSized (seq : Seq) (r : Size) : Type 0 where
   pub records : r .records ≡ size seq
-  pub arguments : r .arguments ≡ weigh seq
+  pub arguments : r .arguments ≡ argSize seq
 
 pub record CommandSized (cmd : Cmd) (to : ℕ) (r : Size) : Type 0 where
   pub records : r .records ≡ sizeCmd cmd
-  pub arguments : r .arguments ≡ weighCmd cmd
+  pub arguments : r .arguments ≡ argSizeCmd cmd
   pub next : r .next ≡ to

@@ -6,10 +6,11 @@ use lib.ListN.{length}
 use Rattle.rules.specs.Bytes.{Bytes, put, flat, be2}
 use Rattle.rules.specs.Manifest.{Cmd}
 use Rattle.rules.specs.Program.{Rec, jump, argBytes, size, sizeCmd, flatCmd, recBytes}
+use Rattle.rules.specs.ProgramSize.{argSize, argSizeCmd}
 use Rattle.rules.specs.Run.{indexAfter, coerceAfter}
 use Rattle.runner.specs.Arguments.{isTrue, One}
 use Rattle.runner.specs.Cycle.{CommandAt, SequenceAt}
-use Rattle.translator.specs.Size.{most, weigh, weighCmd}
+use Rattle.translator.specs.Size.{most}
 use Rattle.translator.specs.declared.write.Pen.{Pen}
 
 -- the bytes b were put at `to`, and r is the place after them
@@ -30,7 +31,7 @@ pub record SequenceJob (s : Bytes) (depth : ℕ) (pen : Pen) (room : Bytes) : Ty
   pub place : SequenceAt s n depth 0 (pen .next)
   pub inside : pen .index < n
   pub components : n ≤ 8
-  pub enough : pen .to + 10 * size (place .seq) + weigh (place .seq) ≤ length room
+  pub enough : pen .to + 10 * size (place .seq) + argSize (place .seq) ≤ length room
   pub few : pen .n + size (place .seq) ≤ 1024
   pub small : length room ≤ most
 
@@ -39,7 +40,7 @@ pub record CommandJob (s : Bytes) (depth : ℕ) (pen : Pen) (room : Bytes) : Typ
   pub place : CommandAt s n depth 0 (pen .next)
   pub inside : pen .index < n
   pub components : n ≤ 8
-  pub enough : pen .to + 10 * sizeCmd (place .cmd) + weighCmd (place .cmd) ≤ length room
+  pub enough : pen .to + 10 * sizeCmd (place .cmd) + argSizeCmd (place .cmd) ≤ length room
   pub few : pen .n + sizeCmd (place .cmd) ≤ 1024
   pub small : length room ≤ most
 
