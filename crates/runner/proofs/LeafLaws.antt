@@ -2,8 +2,8 @@
 use Prim.Native.Nat.{ℕ, _+_, _*_, _≤_, _<_}
 use mathlib.Core.Path.{_≡_, refl, sym, _∙_}
 use mathlib.Core.List.{List}
-use mathlib.Core.Bool.{Bool, true, false, cond}
-use mathlib.Core.Option.{Option, some, none, Option·getD}
+use mathlib.Core.Bool.{Bool, cond}
+use mathlib.Core.Option.{Option}
 use native.Mathlib.Omega.{arith}
 use lib.Dec.{eqb}
 use lib.ListN.{length}
@@ -12,26 +12,19 @@ use Rattle.rules.specs.Commands as Rules
 use Rattle.rules.specs.Manifest.{one}
 use Rattle.rules.specs.Step.{Env, State, step}
 use Rattle.rules.specs.Run.{runSeq, runCmd}
-use Rattle.runner.specs.declared.arguments.Args.{Args}
+use Rattle.accepted.specs.declared.arguments.Args.{Args}
 use Rattle.runner.specs.declared.cycle.Run.{Run}
 use Rattle.commands.specs.declared.perform.Done.{Done}
 use Rattle.slots.specs.Params.{FitAll}
 use Rattle.commands.specs.Op.{opOf, IsCode}
 use Rattle.commands.specs.Machine.{stateAt, outAt}
-use Rattle.runner.specs.Arguments.{paramsOf, isTrue, coerceOf, ReadAs}
+use Rattle.accepted.specs.Arguments.{paramsOf, ReadAs}
 use Rattle.runner.specs.Cycle.{LeafJob, CommandRan}
-use Rattle.runner.proofs.OneLaws.{one-plain}
+use Rattle.accepted.proofs.OneLaws.{one-plain, coerce-after}
 
 run-one : (env : Env) (p : ℕ) (op : Rules.Op) (b : Option Bool) (i : ℕ) (st : State) → runCmd env (one p op b) i st ≡ step env op (Rules.component op i) p st
 unfolding runSeq
 run-one env p op b i st = refl
-
-pub coerce-after : (x y : ℕ) → isTrue (cond (eqb x 0) y x) ≡ Option·getD (coerceOf x) (isTrue y)
-coerce-after x y = go (eqb x 0)
-  where
-    go : (b : Bool) → isTrue (cond b y x) ≡ Option·getD (cond b none (some (isTrue x))) (isTrue y)
-    go true = refl
-    go false = refl
 
 module _ (s : Bytes) (code at : ℕ) (run : Run) (vendor class : Bytes) (found : List ℕ) (answers slots : Bytes) (words : List ℕ) (trace : Bytes)
     (j : LeafJob s code at run vendor class found answers slots words trace) (a : Args) (r : ReadAs s code at (j .argument) a)

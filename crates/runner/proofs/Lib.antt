@@ -1,13 +1,6 @@
-pub mod HeadLaws
-pub mod ArgumentLaws
-pub mod EntryLaws
-pub mod OneLaws
 pub mod LeafLaws
 pub mod Keeping
 pub mod SequenceRuns
-pub mod CommandRuns
 pub mod TryRuns
-pub mod IdentifiersRead
-pub mod SectionsRead
 pub mod SectionsLaws
 pub mod OutcomeLaws

@@ -27,9 +27,9 @@ use Rattle.slots.specs.Slot.{namesAt, Found}
 use Rattle.frame.specs.Answer.{stopOf, endingOf, Settles}
 use Rattle.runner.specs.Cycle.{outOf}
 use Rattle.runner.specs.Sections.{SectionsJob, SectionsRan}
-use Rattle.runner.specs.Accepted.{Accepted}
+use Rattle.accepted.specs.Accepted.{Accepted}
 use Rattle.slots.proofs.SearchLaws.{names-laid}
-use Rattle.runner.proofs.IdentifiersRead.{In, ids-in}
+use Rattle.accepted.proofs.IdentifiersRead.{In, ids-in}
 use Rattle.frame.proofs.FrameLaws.{refused-run, ran-run, trace-room, lent-start, state-start, settles-refused, settles-ran}
 
 module _ (s : Bytes) (number n : ℕ) (ids sections : List ℕ) (a : Accepted s number n ids sections) where

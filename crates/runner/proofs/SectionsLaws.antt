@@ -3,10 +3,11 @@ use Prim.Native.Nat.{ℕ, _+_, _*_, _≤_, _<_}
 use mathlib.Core.Path.{_≡_, refl, sym, ap, _∙_}
 use mathlib.Core.List.{List, [], _∷_}
 use mathlib.Core.Bool.{Bool, true, false, cond}
+use mathlib.Core.Logic.{⊎-elim}
 use native.Mathlib.Omega.{arith}
 use lib.Dec.{eqb}
 use lib.ListN.{length, getD}
-use borrow.Author.Tests.{eqb-true, eqb-false, ne-eqb}
+use borrow.Author.Tests.{ne-eqb}
 use Rattle.rules.specs.declared.answers.End.{End}
 use Rattle.rules.specs.declared.answers.End.the-variants.{Finished, ConditionFailed, Started, Failed}
 use Rattle.rules.specs.declared.answers.Group.{Group}
@@ -19,10 +20,11 @@ use Rattle.rules.specs.Run.{on, runSeq, runAll, sectionsOf, chosen, planOf}
 use Rattle.runner.specs.declared.cycle.Run.{Run}
 use Rattle.commands.specs.Machine.{stateAt}
 use Rattle.runner.specs.Cycle.{stateOf, SequenceJob, SequenceRan}
-use Rattle.runner.specs.Sections.{keyOf, startOf, SectionsJob, SectionsRan}
+use Rattle.runner.specs.Sections.{startOf, SectionsJob, SectionsRan}
 use Rattle.commands.proofs.LentLaws.{Moves, moves-seq}
 use Rattle.runner.proofs.Keeping.{Kept, ready-of, kept-of, kept-after, events-after}
-use Rattle.runner.proofs.SectionsRead.{Rest, Here, rest-start, rest-end, rest-none, rest-some}
+use Rattle.accepted.proofs.SectionsRead.{Rest, Here, rest-start, rest-end}
+use Rattle.accepted.proofs.SectionPlaces.{Wanted, Taken, taken, skipped}
 
 -- an end is no success unless its number is 0
 not-finished : (n : ℕ) → (n ≡ 0 → ⊥) → endOf n ≡ Finished → ⊥
@@ -72,52 +74,21 @@ module _ (s vendor class : Bytes) (found : List ℕ) (answers : Bytes) (group : 
         ap (λ (xs : List Section). runAll env (chosen (sectionsOf group) xs) (stateOf s (length (env .ids)) words slots trace run)) e in
         record { goes = rw (l .going) (sym (l .goes ∙ g)); late = λ z. absurd (omega (arith, l .going)) }
 
-    -- section k is not the group's, or not there
-    module _ (h : k < 6) where
-      not-there : getD places (2 * k + 1) 0 ≡ 0 → Left slots words trace run (k + 1)
-      not-there e =
-          record {
-            kept = l .kept;
-            commands = l .commands;
-            rest = l .rest;
-            stand = rest-none s (length (env .ids)) places k (l .commands) (l .rest) e (l .stand);
-            few = l .few;
-            going = l .going;
-            goes = l .goes;
-          }
+    -- section k is not there, or not the group's
+    not-there : Rest s (length (env .ids)) places (k + 1) (l .commands) (l .rest) → Left slots words trace run (k + 1)
+    not-there stand = record { kept = l .kept; commands = l .commands; rest = l .rest; stand = stand; few = l .few; going = l .going; goes = l .goes }
 
-      not-wanted : (x : Here s (length (env .ids)) places k (l .commands) (l .rest)) → among (x .section .key) (sectionsOf group) ≡ false → Left slots words trace run (k + 1)
-      not-wanted x a =
-          record {
-            kept = l .kept;
-            commands = l .commands + count (x .section .seq);
-            rest = x .others;
-            stand = x .left;
-            few = omega (arith, l .few);
-            going = l .going;
-            goes = l .goes ∙ ap (λ (xs : List Section). runAll env (chosen (sectionsOf group) xs) (stateOf s (length (env .ids)) words slots trace run)) (x .all) ∙ rw a;
-          }
-
-      abbrev pub Wanted : Bool → Type 0
-      Wanted w = w ≡ cond (eqb (getD places (2 * k + 1) 0) 0) false (among (keyOf k) (sectionsOf group))
-
-      skipped : Wanted false → Left slots words trace run (k + 1)
-      skipped w = go (eqb (getD places (2 * k + 1) 0) 0) refl
-        where
-          go : (b : Bool) → eqb (getD places (2 * k + 1) 0) 0 ≡ b → Left slots words trace run (k + 1)
-          go true e = not-there (eqb-true _ 0 e)
-          go false e =
-              let x = rest-some s (length (env .ids)) places k (l .commands) (l .rest) h (eqb-false _ 0 e) (l .stand) in
-              not-wanted x (rw (x .key) (sym (rw e at w)))
-
-      taken : Wanted true → (x : Here s (length (env .ids)) places k (l .commands) (l .rest)) × (among (x .section .key) (sectionsOf group) ≡ true)
-      taken w = go (eqb (getD places (2 * k + 1) 0) 0) refl
-        where
-          go : (b : Bool) → eqb (getD places (2 * k + 1) 0) 0 ≡ b → (x : Here s (length (env .ids)) places k (l .commands) (l .rest)) × (among (x .section .key) (sectionsOf group) ≡ true)
-          go true e = let y : _≡_ {A = Bool} true false = rw e at w in let z : _≡_ {A = ℕ} 0 1 = cc in absurd (omega arith)
-          go false e =
-              let x = rest-some s (length (env .ids)) places k (l .commands) (l .rest) h (eqb-false _ 0 e) (l .stand) in
-              (x, rw (x .key) (sym (rw e at w)))
+    not-wanted : (x : Here s (length (env .ids)) places k (l .commands) (l .rest)) × (among (x .section .key) (sectionsOf group) ≡ false) → Left slots words trace run (k + 1)
+    not-wanted (x, a) =
+        record {
+          kept = l .kept;
+          commands = l .commands + count (x .section .seq);
+          rest = x .others;
+          stand = x .left;
+          few = omega (arith, l .few);
+          going = l .going;
+          goes = l .goes ∙ ap (λ (xs : List Section). runAll env (chosen (sectionsOf group) xs) (stateOf s (length (env .ids)) words slots trace run)) (x .all) ∙ rw a;
+        }
 
     -- section k is run
     module _ (x : Here s (length (env .ids)) places k (l .commands) (l .rest)) where
@@ -167,9 +138,12 @@ module _ (s vendor class : Bytes) (found : List ℕ) (answers : Bytes) (group : 
             }
 
     -- one turn of the loop, whether section k is run or not
-    module _ (h : k < 6) (w : Bool) (e : Wanted h w) where
+    module _ (h : k < 6) (w : Bool) (e : Wanted group places k w) where
+      its-section : w ≡ true → Taken s (length (env .ids)) group places k (l .commands) (l .rest) h (l .stand)
+      its-section t = taken s (length (env .ids)) group places k (l .commands) (l .rest) h (l .stand) (sym t ∙ e)
+
       pub turn-job : w ≡ true → SequenceJob s 4 (startOf (getD places (2 * k) 0) run) vendor class found answers slots words trace
-      turn-job t = let (x, a) = taken h (sym t ∙ e) in job x
+      turn-job t = let (x, a) = its-section t in job x
 
       module _ (r : Run) (slots′ : Bytes) (words′ : List ℕ) (trace′ : Bytes)
           (run-it : w ≡ true → (j : SequenceJob s 4 (startOf (getD places (2 * k) 0) run) vendor class found answers slots words trace) →
@@ -179,15 +153,15 @@ module _ (s vendor class : Bytes) (found : List ℕ) (answers : Bytes) (group : 
         turn-stops n = go w refl
           where
             go : (b : Bool) → w ≡ b → SectionsRan s env plan slots₀ words₀ trace₀ r slots′ words′ trace′
-            go true t = let (x, a) = taken h (sym t ∙ e) in stopped x a r slots′ words′ trace′ (run-it t (job x)) n
+            go true t = let (x, a) = its-section t in stopped x a r slots′ words′ trace′ (run-it t (job x)) n
             go false t = absurd (n (ap (λ (y : Run). y .stop) (skip-it t .0) ∙ l .going))
 
         pub turn-goes : r .stop ≡ 0 → Left slots′ words′ trace′ r (k + 1)
         turn-goes z = go w refl
           where
             go : (b : Bool) → w ≡ b → Left slots′ words′ trace′ r (k + 1)
-            go true t = let (x, a) = taken h (sym t ∙ e) in went x a r slots′ words′ trace′ (run-it t (job x)) z
-            go false t = let (p, q, u, v) = skip-it t in rw (p, q, u, v) (skipped h (sym t ∙ e))
+            go true t = let (x, a) = its-section t in went x a r slots′ words′ trace′ (run-it t (job x)) z
+            go false t = let (p, q, u, v) = skip-it t in rw (p, q, u, v) (⊎-elim not-there not-wanted (skipped s (length (env .ids)) group places k (l .commands) (l .rest) h (l .stand) (sym t ∙ e)))
 
 pub left-start : (s vendor class : Bytes) (found : List ℕ) (answers : Bytes) (group : Group) (places : List ℕ) (slots : Bytes) (words : List ℕ) (trace : Bytes) →
     (j : SectionsJob s places vendor class found answers slots words trace) →

@@ -7,27 +7,27 @@ use native.Mathlib.Omega.{arith}
 use lib.Dec.{eqb}
 use lib.ListN.{length}
 use borrow.Author.Tests.{ne-eqb}
-use Rattle.rules.specs.declared.answers.End.the-variants.{Finished, Started, Failed}
+use Rattle.rules.specs.declared.answers.End.{End}
+use Rattle.rules.specs.declared.answers.End.the-variants.{Finished, ConditionFailed, Started, Failed}
 use Rattle.rules.specs.Answers.{endOf, failureOf}
 use Rattle.rules.specs.Bytes.{Bytes}
-use Rattle.rules.specs.Got.{got}
-use Rattle.rules.specs.Cbor.{BYTES, ARRAY, after}
+use Rattle.rules.specs.Cbor.{BYTES, ARRAY}
 use Rattle.rules.specs.Limits.{limits}
-use Rattle.rules.specs.Manifest.{Seq, Cmd, one, try, Alts, count}
-use Rattle.rules.specs.Check.{Read, strings, sequenceAt}
+use Rattle.rules.specs.Manifest.{Seq, Cmd, one, try, Alts, last, or, count}
+use Rattle.rules.specs.Check.{sequenceAt}
 use Rattle.rules.specs.Step.{Env, State, Out, out}
-use Rattle.rules.specs.Run.{on, next, runSeq, runCmd, indexAfter, coerceAfter}
-use Rattle.rules.proofs.CheckLaws.{Item, item-law}
+use Rattle.rules.specs.Run.{on, next, runSeq, runCmd, runAlts, indexAfter, coerceAfter}
 use Rattle.runner.specs.declared.cycle.Run.{Run}
 use Rattle.slots.specs.Params.{FitAll}
-use Rattle.runner.specs.Heads.{Headed, Strings}
+use Rattle.accepted.specs.Heads.{Headed, Strings}
 use Rattle.runner.specs.Cycle.{stateOf, outOf, LeafJob, CommandJob, SequenceJob, CommandRan, SequenceRan}
-use Rattle.runner.specs.Arguments.{One}
-use Rattle.runner.proofs.ArgumentLaws.{command-one}
-use Rattle.runner.proofs.HeadLaws.{item-headed, number-headed}
+use Rattle.accepted.specs.Arguments.{One}
+use Rattle.accepted.proofs.ArgumentLaws.{command-one}
+use Rattle.accepted.proofs.HeadLaws.{item-headed, number-headed}
 use Rattle.commands.proofs.LentLaws.{Moves, moves-seq}
 use Rattle.runner.proofs.Keeping.{Kept, ready-of, kept-of, kept-after, events-after}
-use Rattle.runner.proofs.CommandRuns.{Coded, coded, InString, Sub, its-sequence, Tries, its-alternatives, listOf, Alternatives, alternatives-law, tryAll, try-law}
+use Rattle.accepted.proofs.CommandPlaces.{Coded, coded, Sub, its-sequence, Tries, its-alternatives, listOf, alternatives-law}
+use Rattle.accepted.proofs.TryPlaces.{AltsAt, Choice, choice, no-choice, strings-at}
 
 -- the run where a sequence starts, and after a command that held sequences
 abbrev pub entered : Run → ℕ → Run → Run
@@ -39,68 +39,25 @@ left run at now = record { next = at; index = run .index; coerce = run .coerce; 
 abbrev pub failed : Run → ℕ → Run → Run
 failed run at now = record { next = at; index = run .index; coerce = run .coerce; events = now .events; used = now .used; stop = 1 }
 
--- k alternatives at `at` as check read them
-pub record AltsAt (s : Bytes) (n depth events k at to : ℕ) : Type 0 where
-  pub section : ℕ
-  pub m : ℕ
-  pub e : ℕ
-  pub fits : e ≤ length s
-  pub seqs : List Seq
-  pub size : length seqs ≡ k
-  pub reads : Alternatives s (sequenceAt s n section depth) e seqs m at to
-  pub few : events ≤ m
+-- 'alternatives in turn until one succeeds'
+unfoldable pub tryAll : Env → List Seq → ℕ → State → Out
+tryAll env [] i st = out ConditionFailed st
+tryAll env (a ∷ rest) i st = next (runSeq env a false i false st) (λ st′. out Finished st′) (λ st′. tryAll env rest i st′)
 
--- the first of some alternatives, and the others
-pub record Choice (s : Bytes) (n depth events k at to : ℕ) (x : AltsAt s n depth events k at to) : Type 0 where
-  pub first : Seq
-  pub inside : InString s (sequenceAt s n (x .section) depth) (x .m) (x .e) at first
-  pub rest : AltsAt s n depth 0 (k - 1) (inside .head .next + inside .head .num) to
-  pub seqs : x .seqs ≡ first ∷ rest .seqs
-  pub more : rest .m ≡ x .m + count first
-
-pub choice : (s : Bytes) (n depth events k at to : ℕ) (x : AltsAt s n depth events k at to) → 0 < k → Choice s n depth events k at to x
-choice s n depth events k at to x h = go (x .seqs) refl (x .size) (x .reads)
+on-same : (o : Out) → on (o .end) (o .state) (λ st′. out Finished st′) (λ st′. out ConditionFailed st′) ≡ o
+unfolding on
+on-same o = go (o .end) refl
   where
-    go : (list : List Seq) → x .seqs ≡ list → length list ≡ k → Alternatives s (sequenceAt s n (x .section) depth) (x .e) list (x .m) at to → Choice s n depth events k at to x
-    go [] q l r = absurd (omega (arith, l, h))
-    go (a ∷ rest) q l r =
-        record {
-          first = a;
-          inside = r .0;
-          rest =
-              record {
-                section = x .section;
-                m = x .m + count a;
-                e = x .e;
-                fits = x .fits;
-                seqs = rest;
-                size = omega (arith, l);
-                reads = r .1;
-                few = omega arith;
-              };
-          seqs = q;
-          more = refl;
-        }
+    go : (e : End) → o .end ≡ e → on e (o .state) (λ st′. out Finished st′) (λ st′. out ConditionFailed st′) ≡ out e (o .state)
+    go Finished q = refl
+    go ConditionFailed q = refl
+    go Started q = refl
+    go (Failed f) q = refl
 
-pub no-choice : (s : Bytes) (n depth events k at to : ℕ) (x : AltsAt s n depth events k at to) → k ≡ 0 → (x .seqs ≡ []) × (at ≡ to)
-no-choice s n depth events k at to x z = go (x .seqs) refl (x .size) (x .reads)
-  where
-    go : (list : List Seq) → x .seqs ≡ list → length list ≡ k → Alternatives s (sequenceAt s n (x .section) depth) (x .e) list (x .m) at to → (x .seqs ≡ []) × (at ≡ to)
-    go [] q l r = (q, r)
-    go (a ∷ rest) q l r = absurd (omega (arith, l, z))
-
--- they are byte strings
-pub strings-of : (s : Bytes) (deeper : ℕ → Read Seq) (e : ℕ) (list : List Seq) (m at to : ℕ) → Alternatives s deeper e list m at to → strings s (length list) e at ≡ got to
-unfolding strings
-strings-of s deeper e [] m at to r = ap got r
-strings-of s deeper e (a ∷ rest) m at to r =
-    let i : Item s BYTES 0 (limits .number) e at (r .0 .head) = item-law s BYTES 0 (limits .number) e at (r .0 .head) (r .0 .item) in
-    let w : after (r .0 .head) ≡ r .0 .head .next + r .0 .head .num = rw (i .is) in
-    rw (r .0 .item, w) (strings-of s deeper e rest (m + count a) (r .0 .head .next + r .0 .head .num) to (r .1))
-
-abbrev pub strings-at : (s : Bytes) (n depth events k at to : ℕ) (x : AltsAt s n depth events k at to) → Strings s k at
-strings-at s n depth events k at to x =
-    record { e = x .e; fits = x .fits; to = to; reads = rw (x .size) at (strings-of s (sequenceAt s n (x .section) depth) (x .e) (x .seqs) (x .m) at to (x .reads)) }
+pub try-law : (env : Env) (a : Alts) (i : ℕ) (st : State) → runAlts env a i st ≡ tryAll env (listOf a) i st
+unfolding runSeq tryAll
+try-law env (last a) i st = sym (on-same (runSeq env a false i false st))
+try-law env (or a b) i st = ap (λ (g : State → Out). next (runSeq env a false i false st) (λ st′. out Finished st′) g) (λ j st′. try-law env b i st′ j)
 
 -- alternatives go on after a failed condition, and end with anything else
 try-on : (env : Env) (a : Seq) (rest : List Seq) (i : ℕ) (st st′ : State) (n : ℕ) → n ≡ 1 → runSeq env a false i false st ≡ out (endOf n) st′ →

@@ -1,5 +1,5 @@
--- Sequences and commands as they stand in an accepted envelope, and what their runs give.
-use Prim.Native.Nat.{ℕ, _≤_, _<_}
+-- The runs of commands and sequences of an accepted envelope, and what they give.
+use Prim.Native.Nat.{ℕ, _<_}
 use mathlib.Core.Path.{_≡_}
 use mathlib.Core.Bool.{Bool, false, _&&_, cond}
 use lib.Dec.{eqb}
@@ -7,16 +7,15 @@ use mathlib.Core.List.{List}
 use lib.ListN.{length}
 use Rattle.rules.specs.Answers.{endOf}
 use Rattle.rules.specs.Bytes.{Bytes}
-use Rattle.rules.specs.Got.{got}
 use Rattle.rules.specs.Limits.{limits}
 use Rattle.rules.specs.Manifest.{Seq, Cmd}
-use Rattle.rules.specs.Check.{command, sequenceAt}
 use Rattle.rules.specs.Step.{Env, State, Out, out}
 use Rattle.rules.specs.Run.{runSeq, runCmd, indexAfter, coerceAfter}
 use Rattle.runner.specs.declared.cycle.Run.{Run}
 use Rattle.slots.specs.Params.{FitAll}
 use Rattle.commands.specs.Machine.{stateAt, Lent}
-use Rattle.runner.specs.Arguments.{isTrue, One}
+use Rattle.accepted.specs.Arguments.{isTrue, One}
+use Rattle.accepted.specs.Places.{CommandAt, SequenceAt}
 
 -- the state and the outcome that a run has reached
 abbrev pub stateOf : Bytes → ℕ → List ℕ → Bytes → Bytes → Run → State
@@ -30,27 +29,6 @@ pub record Ready (s vendor class : Bytes) (found : List ℕ) (answers slots : By
   pub env : Env
   pub lent : Lent env s vendor class found answers slots words trace
   pub inside : index < length (env .ids)
-
--- the command or sequence at `at` as check read it, after at least as many commands as there are events; those in it may be `depth` deep
-pub record CommandAt (s : Bytes) (n depth events at : ℕ) : Type 0 where
-  pub section : ℕ
-  pub m : ℕ
-  pub e : ℕ
-  pub fits : e ≤ length s
-  pub cmd : Cmd
-  pub to : ℕ
-  pub reads : command s (sequenceAt s n section depth) n section m e at ≡ got (cmd, to)
-  pub few : events ≤ m
-
-pub record SequenceAt (s : Bytes) (n depth events at : ℕ) : Type 0 where
-  pub section : ℕ
-  pub m : ℕ
-  pub e : ℕ
-  pub fits : e ≤ length s
-  pub seq : Seq
-  pub to : ℕ
-  pub reads : sequenceAt s n section depth m e at ≡ got (seq, to)
-  pub few : events ≤ m
 
 pub record CommandJob (s : Bytes) (depth : ℕ) (run : Run) (vendor class : Bytes) (found : List ℕ) (answers slots : Bytes) (words : List ℕ) (trace : Bytes) : Type 0 where
   pub ready : Ready s vendor class found answers slots words trace (run .index)

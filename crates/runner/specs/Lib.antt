@@ -1,5 +1,2 @@
-pub mod Heads
-pub mod Arguments
 pub mod Cycle
 pub mod Sections
-pub mod Accepted

@@ -1,9 +1,7 @@
 -- The sections of a checked manifest, as their places stand in an array, and what their run gives.
-use Prim.Native.Nat.{ℕ, _+_, _<_}
+use Prim.Native.Nat.{ℕ, _<_}
 use mathlib.Core.Path.{_≡_}
-use mathlib.Core.Bool.{cond}
 use mathlib.Core.List.{List}
-use lib.Dec.{eqb}
 use lib.ListN.{length, replicate}
 use Rattle.rules.specs.Bytes.{Bytes}
 use Rattle.rules.specs.Got.{got}
@@ -15,10 +13,6 @@ use Rattle.manifest.specs.Sections.{placed}
 use Rattle.runner.specs.declared.cycle.Run.{Run}
 use Rattle.commands.specs.Machine.{stateAt}
 use Rattle.runner.specs.Cycle.{outOf, Ready}
-
--- the key of the section of number k in the array: 3 for common's sequence, which is number 0
-abbrev pub keyOf : ℕ → ℕ
-keyOf k = cond (eqb k 0) 3 (7 + k)
 
 -- the run at the start of the sequence at `from`, with what r has done
 abbrev pub startOf : ℕ → Run → Run

@@ -3,7 +3,7 @@ ghost use mathlib.Core.Path.{_≡_};
 ghost use Prim.Native.Nat.{_-_};
 ghost use Rattle.rules.specs.Run.{runEnvelope};
 ghost use Rattle.frame.specs.Answer.{inputOf, Settles};
-ghost use Rattle.runner.specs.Accepted.{Accepted};
+ghost use Rattle.accepted.specs.Accepted.{Accepted};
 use envelope::check;
 use envelope::report::Checked;
 use frame::admit::admit;
@@ -16,9 +16,7 @@ use rules::answers::Refusal;
 use rules::controller::Controller;
 use sections::run_sections;
 
-pub mod arguments;
 pub mod cycle;
-pub mod heads;
 pub mod sections;
 
 // The run of an envelope that check has accepted, by what check reported.

@@ -1,33 +1,14 @@
 // The sections of a group, one after the other.
 ghost use mathlib.Core.Path.{_≡_};
-ghost use Prim.Native.Nat.{_<_};
-ghost use mathlib.Core.Bool.{true, false, cond};
-ghost use lib.Dec.{eqb};
-ghost use Rattle.rules.specs.Commands.{among};
-ghost use Rattle.rules.specs.Run.{sectionsOf, planOf};
+ghost use mathlib.Core.Bool.{true, false};
+ghost use Rattle.rules.specs.Run.{planOf};
 ghost use Rattle.runner.specs.Cycle.{SequenceJob, SequenceRan};
-ghost use Rattle.runner.specs.Sections.{keyOf, startOf, SectionsJob, SectionsRan};
+ghost use Rattle.runner.specs.Sections.{startOf, SectionsJob, SectionsRan};
 use crate::cycle::Run;
 use crate::cycle::run_sequence;
+use accepted::sections::wanted;
 use rules::answers::Group;
 use rules::controller::Controller;
-
-// Whether the group does the section of number k, which ends at `to`: common's sequence is 0, sections 8 to 12 are 1 to 5.
-fn wanted(group: Group, k: usize, to: usize) -> bool
-    requires { ⌜ k < 6 ⌝ }
-    ensures { λ r. ⌜ r ≡ cond (eqb to 0) false (among (keyOf k) (sectionsOf group)) ⌝ }
-{
-    if to == 0 {
-        return false;
-    }
-    if k == 0 {
-        return true;
-    }
-    match group {
-        Group::Install => k < 3,
-        Group::Boot => 3 <= k,
-    }
-}
 
 // The sequence at `from`, after what `run` has done; nothing where it is not wanted.
 fn run_section(

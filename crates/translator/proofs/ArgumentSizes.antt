@@ -14,8 +14,8 @@ use Rattle.rules.proofs.OpLaws.{weight-is}
 use Rattle.rules.proofs.ParamLaws.{length-part}
 use Rattle.slots.specs.Params.{optional, meaning, Fit}
 use Rattle.commands.specs.Op.{opOf}
-use Rattle.runner.specs.declared.arguments.Args.{Args}
-use Rattle.runner.specs.Arguments.{paramsOf, One, ReadAs, Within}
+use Rattle.accepted.specs.declared.arguments.Args.{Args}
+use Rattle.accepted.specs.Arguments.{paramsOf, One, ReadAs, Within}
 use Rattle.translator.specs.Size.{parametersSize, argumentSize}
 
 -- a parameter of n bytes that is set

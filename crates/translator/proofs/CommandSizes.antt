@@ -6,17 +6,17 @@ use lib.ListN.{length}
 use Rattle.rules.specs.Bytes.{Bytes}
 use Rattle.rules.specs.Cbor.{BYTES, ARRAY}
 use Rattle.rules.specs.Limits.{limits}
-use Rattle.rules.specs.Manifest.{Seq, Cmd, one, Alts, last, or}
+use Rattle.rules.specs.Manifest.{Cmd, one, Alts, last, or}
 use Rattle.rules.specs.Check.{sequenceAt}
 use Rattle.rules.specs.Program.{size, sizeCmd, sizeAlts}
 use Rattle.rules.specs.ProgramSize.{argSize, argSizeCmd, argSizeAlts, sizeAll, argSizeAll}
-use Rattle.runner.specs.declared.arguments.Args.{Args}
-use Rattle.runner.specs.Arguments.{One, ReadAs}
-use Rattle.runner.specs.Heads.{Headed}
-use Rattle.runner.proofs.HeadLaws.{item-headed, number-headed}
-use Rattle.runner.proofs.ArgumentLaws.{command-one}
-use Rattle.runner.proofs.CommandRuns.{Coded, coded, Sub, its-sequence, Tries, its-alternatives, listOf, alternatives-law}
-use Rattle.runner.proofs.TryRuns.{AltsAt, Choice, choice, no-choice}
+use Rattle.accepted.specs.declared.arguments.Args.{Args}
+use Rattle.accepted.specs.Arguments.{One, ReadAs}
+use Rattle.accepted.specs.Heads.{Headed}
+use Rattle.accepted.proofs.HeadLaws.{item-headed, number-headed}
+use Rattle.accepted.proofs.ArgumentLaws.{command-one}
+use Rattle.accepted.proofs.CommandPlaces.{Coded, coded, Sub, its-sequence, Tries, its-alternatives, listOf, alternatives-law}
+use Rattle.accepted.proofs.TryPlaces.{AltsAt, Choice, choice, no-choice}
 use Rattle.translator.specs.declared.sizes.Size.{Size}
 use Rattle.translator.specs.Size.{argumentSize, most, SequenceHere, CommandHere, SequenceSized, CommandSized}
 use Rattle.translator.proofs.ArgumentSizes.{argument-is}

@@ -15,10 +15,9 @@ use Rattle.rules.specs.Program.{does, jump, targetOf, entry, paramBytes, argByt
 use Rattle.slots.specs.declared.params.Params.{Params}
 use Rattle.slots.specs.Params.{optional, meaning, Fit}
 use Rattle.commands.specs.Op.{opOf, IsCode}
-use Rattle.runner.specs.declared.arguments.Args.{Args}
-use Rattle.runner.specs.Arguments.{paramsOf, ReadAs}
-use Rattle.runner.proofs.OneLaws.{one-plain}
-use Rattle.runner.proofs.LeafLaws.{coerce-after}
+use Rattle.accepted.specs.declared.arguments.Args.{Args}
+use Rattle.accepted.specs.Arguments.{paramsOf, ReadAs}
+use Rattle.accepted.proofs.OneLaws.{one-plain, coerce-after}
 use Rattle.translator.specs.declared.write.Pen.{Pen}
 use Rattle.translator.specs.Write.{Filled, headBytes, written, JumpWrote, LeafJob, CommandWrote}
 use Rattle.translator.proofs.FillLaws.{put-before, filled-then, length-part}

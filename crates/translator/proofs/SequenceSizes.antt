@@ -8,9 +8,9 @@ use Rattle.rules.specs.Limits.{limits}
 use Rattle.rules.specs.Manifest.{Seq}
 use Rattle.rules.specs.Program.{size, sizeCmd}
 use Rattle.rules.specs.ProgramSize.{argSize, argSizeCmd}
-use Rattle.runner.specs.Heads.{Headed}
-use Rattle.runner.proofs.HeadLaws.{item-headed}
-use Rattle.runner.proofs.SequenceRuns.{CommandsAt, Start, start, Turn, turn, no-more}
+use Rattle.accepted.specs.Heads.{Headed}
+use Rattle.accepted.proofs.HeadLaws.{item-headed}
+use Rattle.accepted.proofs.SequencePlaces.{CommandsAt, Start, start, Turn, turn, no-more}
 use Rattle.translator.specs.declared.sizes.Size.{Size}
 use Rattle.translator.specs.Size.{most, SequenceHere, CommandHere, SequenceSized, CommandSized}
 

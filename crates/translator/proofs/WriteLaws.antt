@@ -17,14 +17,14 @@ use Rattle.rules.specs.Run.{indexAfter, coerceAfter}
 use Rattle.rules.specs.Program.{Rec, does, jump, targetOf, argBytes, size, sizeCmd, sizeAlts, flatSeq, flatCmd, flatAlts, recBytes}
 use Rattle.rules.specs.ProgramSize.{argSize, argSizeCmd, argSizeAlts}
 use Rattle.rules.proofs.RunLaws.{length-seq, length-cmd}
-use Rattle.runner.specs.Heads.{Headed}
-use Rattle.runner.specs.Arguments.{isTrue, One}
-use Rattle.runner.specs.Cycle.{SequenceAt}
-use Rattle.runner.proofs.HeadLaws.{item-headed, number-headed}
-use Rattle.runner.proofs.ArgumentLaws.{command-one}
-use Rattle.runner.proofs.SequenceRuns.{CommandsAt, Start, start, Turn, turn, no-more}
-use Rattle.runner.proofs.CommandRuns.{Coded, coded, Sub, its-sequence, Tries, its-alternatives, listOf, Alternatives, alternatives-law}
-use Rattle.runner.proofs.TryRuns.{AltsAt, Choice, choice}
+use Rattle.accepted.specs.Heads.{Headed}
+use Rattle.accepted.specs.Arguments.{isTrue, One}
+use Rattle.accepted.specs.Places.{SequenceAt}
+use Rattle.accepted.proofs.HeadLaws.{item-headed, number-headed}
+use Rattle.accepted.proofs.ArgumentLaws.{command-one}
+use Rattle.accepted.proofs.SequencePlaces.{CommandsAt, Start, start, Turn, turn, no-more}
+use Rattle.accepted.proofs.CommandPlaces.{Coded, coded, Sub, its-sequence, Tries, its-alternatives, listOf, Alternatives, alternatives-law}
+use Rattle.accepted.proofs.TryPlaces.{AltsAt, Choice, choice}
 use Rattle.translator.specs.declared.write.Pen.{Pen}
 use Rattle.translator.specs.Size.{most, SequenceHere, CommandHere}
 use Rattle.translator.specs.Write.{written, SequenceJob, CommandJob, LeafJob, Wrote, CommandWrote, JumpWrote}

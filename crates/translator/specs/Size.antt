@@ -7,8 +7,8 @@ use Rattle.rules.specs.Bytes.{Bytes}
 use Rattle.rules.specs.Manifest.{Seq, Cmd}
 use Rattle.rules.specs.Program.{size, sizeCmd}
 use Rattle.rules.specs.ProgramSize.{argSize, argSizeCmd}
-use Rattle.runner.specs.declared.arguments.Args.{Args}
-use Rattle.runner.specs.Cycle.{CommandAt, SequenceAt}
+use Rattle.accepted.specs.declared.arguments.Args.{Args}
+use Rattle.accepted.specs.Places.{CommandAt, SequenceAt}
 use Rattle.translator.specs.declared.sizes.Size.{Size}
 
 -- the bytes of the parameters that are set: key, length and value

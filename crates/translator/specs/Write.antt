@@ -8,8 +8,8 @@ use Rattle.rules.specs.Manifest.{Cmd}
 use Rattle.rules.specs.Program.{Rec, jump, argBytes, size, sizeCmd, flatCmd, recBytes}
 use Rattle.rules.specs.ProgramSize.{argSize, argSizeCmd}
 use Rattle.rules.specs.Run.{indexAfter, coerceAfter}
-use Rattle.runner.specs.Arguments.{isTrue, One}
-use Rattle.runner.specs.Cycle.{CommandAt, SequenceAt}
+use Rattle.accepted.specs.Arguments.{isTrue, One}
+use Rattle.accepted.specs.Places.{CommandAt, SequenceAt}
 use Rattle.translator.specs.Size.{most}
 use Rattle.translator.specs.declared.write.Pen.{Pen}
 

@@ -6,10 +6,10 @@ ghost use Rattle.rules.specs.Bytes.{part, be4};
 ghost use Rattle.rules.specs.Program.{entry, paramBytes, argBytes};
 ghost use Rattle.slots.specs.Params.{optional, meaning, Fit};
 ghost use Rattle.commands.specs.Op.{opOf, IsCode};
-ghost use Rattle.runner.specs.Arguments.{paramsOf, Within};
+ghost use Rattle.accepted.specs.Arguments.{paramsOf, Within};
 ghost use Rattle.translator.specs.Write.{Filled};
 use crate::bytes::copy;
-use runner::arguments::Args;
+use accepted::arguments::Args;
 
 // The URI or the digest under that key: the n bytes of s from `from` on; 0 is unset.
 fn put_string(s: &[u8], key: u8, from: usize, n: usize, room: &mut [u8], to: usize) -> usize

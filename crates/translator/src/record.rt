@@ -9,7 +9,7 @@ ghost use Rattle.rules.specs.Manifest.{one};
 ghost use Rattle.translator.specs.Write.{headBytes, JumpWrote, LeafJob, CommandWrote};
 use crate::argument::put_argument;
 use crate::write::Pen;
-use runner::arguments::read_one;
+use accepted::arguments::read_one;
 use slots::params::either;
 
 const HEAD_BYTES: usize = 10;

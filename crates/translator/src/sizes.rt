@@ -2,9 +2,9 @@
 ghost use mathlib.Core.Path.{_≡_};
 ghost use Prim.Native.Nat.{_≤_};
 ghost use Rattle.translator.specs.Size.{parametersSize, argumentSize, most, SequenceHere, CommandHere, SequenceSized, CommandSized};
-use runner::arguments::Args;
-use runner::arguments::read_one;
-use runner::heads::open;
+use accepted::arguments::Args;
+use accepted::arguments::read_one;
+use accepted::heads::open;
 use slots::params::either;
 
 // Records, the bytes of their arguments, and the place after what was read.

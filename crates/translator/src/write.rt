@@ -2,13 +2,13 @@
 ghost use mathlib.Core.Path.{_≡_};
 ghost use Rattle.rules.specs.Program.{flatSeq};
 ghost use mathlib.Core.Bool.{false, _&&_, cond};
-ghost use Rattle.runner.specs.Arguments.{isTrue};
+ghost use Rattle.accepted.specs.Arguments.{isTrue};
 ghost use Rattle.translator.specs.Write.{SequenceJob, CommandJob, Wrote, CommandWrote};
 use crate::record::put_command;
 use crate::record::put_jump;
 use crate::sizes::size_command;
 use crate::sizes::size_sequence;
-use runner::heads::open;
+use accepted::heads::open;
 
 // Where the next command is, the index and coerce of the sequence (1 false, 2 true), the number of the next record, and its place in the room.
 pub struct Pen {

@@ -4,7 +4,7 @@ use mathlib.Core.Path.{_≡_, refl, _∙_}
 use native.Mathlib.Omega.{arith}
 use borrow.Author.Needs.{needs}
 use Rattle.rules.specs.Run.{runSeq, runCmd}
-use Rattle.runner.specs.Arguments.{isTrue}
+use Rattle.accepted.specs.Arguments.{isTrue}
 use Rattle.runner.specs.Cycle.{stateOf, CommandJob}
 use Rattle.runner.proofs.SequenceRuns.{CommandsJob, Loop, loop-starts, command-job, loop-goes-on, sequence-deep, sequence-head, commands-job, sequence-done, sequence-stopped}
 use borrow.Fn.Kinds.{In}
@@ -21,8 +21,8 @@ use Rattle.runner.proofs.cycle.caught.Reads as caught-reads
 use Rattle.runner.proofs.cycle.enter.Reads as enter-reads
 use Rattle.runner.proofs.cycle.leaf.Reads as leaf-reads
 use Rattle.runner.proofs.cycle.leave.Reads as leave-reads
-use Rattle.runner.proofs.heads.open.Reads as open-reads
-use Rattle.runner.proofs.heads.skip.Reads as skip-reads
+use Rattle.accepted.proofs.heads.open.Reads as open-reads
+use Rattle.accepted.proofs.heads.skip.Reads as skip-reads
 use Rattle.runner.proofs.cycle.+run_command+run_sequence.{statement}
 use Rattle.runner.proofs.cycle.+run_command+run_sequence.Tie.{close}
 

@@ -1,8 +1,8 @@
 use mathlib.Core.Logic.{⊎-elim}
 use native.Mathlib.Omega.{arith}
 use borrow.Author.Needs.{needs}
-use Rattle.runner.proofs.OneLaws.{one-of-two}
-use Rattle.runner.specs.Arguments.{paramsOf}
+use Rattle.accepted.proofs.OneLaws.{one-of-two}
+use Rattle.accepted.specs.Arguments.{paramsOf}
 use Rattle.translator.proofs.FillLaws.{length-part, filled-none}
 use Rattle.translator.proofs.RecordLaws.{sixteen-bytes, sixteen-filled, params-bytes, no-bytes}
 use Rattle.translator.proofs.argument.put_argument.Statement.{statement}

@@ -1,6 +1,6 @@
 use native.Mathlib.Omega.{arith}
 use borrow.Author.Needs.{needs}
-use Rattle.runner.specs.Arguments.{paramsOf}
+use Rattle.accepted.specs.Arguments.{paramsOf}
 use Rattle.translator.proofs.FillLaws.{filled-length}
 use Rattle.translator.proofs.RecordLaws.{params-length, params-filled}
 use Rattle.translator.proofs.argument.put_parameters.Statement.{statement}

@@ -12,8 +12,8 @@ use Rattle.translator.proofs.sizes.+size_command+size_sequence.Lts-size
 use Rattle.translator.proofs.sizes.size_sequence.Reads as size-sequence
 use Rattle.translator.proofs.sizes.size_sequence.Kinds as size-sequence-kinds
 use Rattle.translator.proofs.sizes.+size_command+size_sequence.Lts-size_sequence as size-sequence-lts
-use Rattle.runner.proofs.arguments.read_one.Reads as read-one-reads
-use Rattle.runner.proofs.heads.open.Reads as open-reads
+use Rattle.accepted.proofs.arguments.read_one.Reads as read-one-reads
+use Rattle.accepted.proofs.heads.open.Reads as open-reads
 use Rattle.translator.proofs.sizes.argument_size.Reads as argument-size-reads
 use Rattle.translator.proofs.sizes.+size_command+size_sequence.{statement}
 use Rattle.translator.proofs.sizes.+size_command+size_sequence.Tie.{close}

@@ -4,7 +4,7 @@ use mathlib.Core.Path.{_≡_, refl}
 use native.Mathlib.Omega.{arith}
 use borrow.Author.Needs.{needs}
 use Rattle.rules.specs.Program.{flatSeq}
-use Rattle.runner.specs.Arguments.{isTrue}
+use Rattle.accepted.specs.Arguments.{isTrue}
 use Rattle.translator.specs.Write.{CommandJob}
 use Rattle.translator.proofs.WriteLaws.{CommandsJob, Loop, loop-starts, loop-done, command-job, loop-goes-on, sequence-deep, sequence-head, commands-job, wrote-at, AltsLoop, command-head, command-here, sub-head, sub-fits, sub-few, sub-here, sub-job, sub-wrote, leaf-job, leaf-wrote, tries-head, tries-start, choice-head, choice-fits, choice-few, choice-here, choice-job, jump-room, jump-few, tries-on, tries-last}
 use borrow.Fn.Kinds.{In}
@@ -15,7 +15,7 @@ use Rattle.translator.proofs.write.+write_command+write_sequence.Lts-wr
 use Rattle.translator.proofs.write.write_sequence.Reads as write-sequence
 use Rattle.translator.proofs.write.write_sequence.Kinds as write-sequence-kinds
 use Rattle.translator.proofs.write.+write_command+write_sequence.Lts-write_sequence as write-sequence-lts
-use Rattle.runner.proofs.heads.open.Reads as open-reads
+use Rattle.accepted.proofs.heads.open.Reads as open-reads
 use Rattle.translator.proofs.record.put_command.Reads as put-command-reads
 use Rattle.translator.proofs.record.put_jump.Reads as put-jump-reads
 use Rattle.translator.proofs.sizes.size_command.Reads as size-command-reads

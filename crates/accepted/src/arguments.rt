@@ -3,7 +3,7 @@ ghost use mathlib.Core.Path.{_≡_};
 ghost use lib.Dec.{eqb};
 ghost use mathlib.Core.Bool.{cond};
 ghost use Rattle.slots.specs.Params.{Fit};
-ghost use Rattle.runner.specs.Arguments.{paramsOf, givenOf, Within, bareAt, EntryAt, EntryPut, Entries, One, ReadAs};
+ghost use Rattle.accepted.specs.Arguments.{paramsOf, givenOf, Within, bareAt, EntryAt, EntryPut, Entries, One, ReadAs};
 use crate::heads::open;
 
 // The place of 16 bytes or the new index; the parameters, as in Params; coerce: 0 unset, 1 false, 2 true; and the place after.

@@ -1,8 +1,8 @@
 use native.Mathlib.Omega.{arith}
 use borrow.Author.Needs.{needs}
-use Rattle.runner.proofs.HeadLaws.{headed-first, headed-short, headed-1, headed-2, headed-4}
-use Rattle.runner.proofs.heads.open.Statement.{statement}
-use Rattle.runner.proofs.heads.open.Tie as tie
+use Rattle.accepted.proofs.HeadLaws.{headed-first, headed-short, headed-1, headed-2, headed-4}
+use Rattle.accepted.proofs.heads.open.Statement.{statement}
+use Rattle.accepted.proofs.heads.open.Tie as tie
 
 first : tie.Need-shared-slice-read-wide
 first c = omega (arith, headed-first _ _ (c .before .before .pre))

@@ -3,7 +3,7 @@ use Prim.Native.Nat.{ℕ, _+_, _-_, _≤_, _<_}
 use mathlib.Core.Path.{_≡_, refl, sym, ap, _∙_}
 use mathlib.Core.Bool.{Bool, true, false, cond}
 use mathlib.Core.Logic.{_⊎_, inl, inr, ⊎-elim}
-use mathlib.Core.Option.{Option, some, none}
+use mathlib.Core.Option.{Option, some, none, Option·getD}
 use native.Mathlib.Omega.{arith}
 use lib.Dec.{ltb, eqb}
 use lib.ListN.{length}
@@ -19,16 +19,16 @@ use Rattle.rules.specs.Check.{Read, Given, nothing, number, inBytes, entries, a
 use Rattle.rules.proofs.GotLaws.{passed, both, split, split₂}
 use Rattle.rules.proofs.CheckLaws.{item-law}
 use Rattle.rules.proofs.ParamLaws.{bytes-after}
-use Rattle.runner.specs.declared.arguments.Args.{Args}
+use Rattle.accepted.specs.declared.arguments.Args.{Args}
 use Rattle.slots.specs.declared.params.Params as Words
 use Rattle.slots.specs.Params.{meaning, Fit}
 use Rattle.commands.specs.Op.{opOf}
-use Rattle.runner.specs.Heads.{Headed}
-use Rattle.runner.specs.Arguments.{paramsOf, givenOf, Within, bareAt, Entries, One, ReadAs}
+use Rattle.accepted.specs.Heads.{Headed}
+use Rattle.accepted.specs.Arguments.{paramsOf, isTrue, coerceOf, givenOf, Within, bareAt, Entries, One, ReadAs}
 use Rattle.rules.proofs.TableLaws.{each-row}
-use Rattle.runner.proofs.ArgumentLaws.{_&_, form-of}
-use Rattle.runner.proofs.EntryLaws.{Opens, fit-bare, within-bare}
-use Rattle.runner.proofs.HeadLaws.{flag-at, item-whole, item-headed, number-headed}
+use Rattle.accepted.proofs.ArgumentLaws.{_&_, form-of}
+use Rattle.accepted.proofs.EntryLaws.{Opens, fit-bare, within-bare}
+use Rattle.accepted.proofs.HeadLaws.{flag-at, item-whole, item-headed, number-headed}
 
 pub one-of-two : (c k : ℕ) → k ≤ c → c < k + 2 → (c ≡ k) ⊎ (c ≡ k + 1)
 one-of-two c k l u = go (eqb c k) refl
@@ -372,3 +372,11 @@ module _ (s : Bytes) (c at : ℕ) (x : One s c at) where
         inside = component-in _ new;
         component = component-at _ new;
       }
+
+-- coerce after an argument that may set it
+pub coerce-after : (x y : ℕ) → isTrue (cond (eqb x 0) y x) ≡ Option·getD (coerceOf x) (isTrue y)
+coerce-after x y = go (eqb x 0)
+  where
+    go : (b : Bool) → isTrue (cond b y x) ≡ Option·getD (cond b none (some (isTrue x))) (isTrue y)
+    go true = refl
+    go false = refl

@@ -19,7 +19,7 @@ use Rattle.rules.specs.Check.{number, key, inBytes, components, sequenceAt, sec
 use Rattle.rules.proofs.GotLaws.{passed, both, split, split₂}
 use Rattle.rules.proofs.CheckLaws.{item-law, inBytes-law}
 use Rattle.manifest.specs.Sections.{sectionNo, placedOne, placed}
-use Rattle.runner.specs.Sections.{keyOf}
+use Rattle.accepted.specs.Sections.{keyOf}
 
 -- a section as check read it, after m commands; its number is at least `least`
 pub record ReadAs (s : Bytes) (n m least : ℕ) (x : Section) : Type 0 where

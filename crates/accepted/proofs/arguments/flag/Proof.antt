@@ -1,6 +1,6 @@
 use borrow.Author.Tests.{eq-eqb, ne-eqb}
-use Rattle.runner.proofs.arguments.flag.Statement.{statement}
-use Rattle.runner.proofs.arguments.flag.Tie as tie
+use Rattle.accepted.proofs.arguments.flag.Statement.{statement}
+use Rattle.accepted.proofs.arguments.flag.Tie as tie
 
 yes : tie.Need-returns
 yes c = rw (eq-eqb _ _ (c .if1 .taken))

@@ -1,9 +1,9 @@
 use mathlib.Core.Path.{refl}
 use native.Mathlib.Omega.{arith}
 use borrow.Author.Needs.{needs}
-use Rattle.runner.proofs.EntryLaws.{entry-coerce, entry-uri, entry-source, entry-digest, entry-size, entry-headed, put-coerce, put-uri, put-source, put-digest, put-size}
-use Rattle.runner.proofs.arguments.entry.Statement.{statement}
-use Rattle.runner.proofs.arguments.entry.Tie as tie
+use Rattle.accepted.proofs.EntryLaws.{entry-coerce, entry-uri, entry-source, entry-digest, entry-size, entry-headed, put-coerce, put-uri, put-source, put-digest, put-size}
+use Rattle.accepted.proofs.arguments.entry.Statement.{statement}
+use Rattle.accepted.proofs.arguments.entry.Tie as tie
 
 first : tie.Need-shared-slice-read-flag
 first c = omega (arith, entry-coerce _ _ _ (c .before .before .before .pre) (c .before .if1 .taken))

@@ -1,15 +1,12 @@
--- A command, by its code: as check read it, and as it runs.
+-- A command by its code, and the sequences that it holds, as check read them.
 use Prim.Native.Nat.{ℕ, zero, suc, _+_, _-_, _≤_, _<_}
 use mathlib.Core.Path.{_≡_, refl, sym, ap, _∙_}
-use mathlib.Core.Bool.{false}
 use mathlib.Core.List.{List, [], _∷_}
 use mathlib.Core.Option.{some}
 use native.Mathlib.Omega.{arith}
 use lib.Dec.{eqb}
 use lib.ListN.{length}
 use borrow.Author.Tests.{eqb-true}
-use Rattle.rules.specs.declared.answers.End.{End}
-use Rattle.rules.specs.declared.answers.End.the-variants.{Finished, ConditionFailed, Started, Failed}
 use Rattle.rules.specs.declared.answers.Refusal.the-variants.{NotCbor}
 use Rattle.rules.specs.Bytes.{Bytes, Span}
 use Rattle.rules.specs.Got.{got}
@@ -18,12 +15,10 @@ use Rattle.rules.specs.Limits.{limits}
 use Rattle.rules.specs.Commands.{Row, rowOf, commands}
 use Rattle.rules.specs.Manifest.{Seq, sub, try, Alts, last, or, count}
 use Rattle.rules.specs.Check.{Read, number, inBytes, alternativesAt, argument, command, sequenceAt}
-use Rattle.rules.specs.Step.{Env, State, Out, out}
-use Rattle.rules.specs.Run.{on, next, runSeq, runAlts}
 use Rattle.rules.proofs.GotLaws.{passed, split, split₂, both}
 use Rattle.rules.proofs.CheckLaws.{Item, item-law}
-use Rattle.runner.specs.Cycle.{CommandAt}
-use Rattle.runner.proofs.ArgumentLaws.{command-coded}
+use Rattle.accepted.specs.Places.{CommandAt}
+use Rattle.accepted.proofs.ArgumentLaws.{command-coded}
 
 -- a command's code, and its argument
 pub record Coded (s : Bytes) (n depth events at : ℕ) (x : CommandAt s n depth events at) : Type 0 where
@@ -123,23 +118,3 @@ alternatives-law s deeper (suc k) m e at a to q₀ =
     let (ea, et) = both q₂ in
     let (l, w) = alternatives-law s deeper k (m + count b) e (i .head .next + i .head .num) rest to (rw (← t, ← et) qs) in
     rw (← ea) ((i, l), ap suc w)
-
--- 'alternatives in turn until one succeeds'
-unfoldable pub tryAll : Env → List Seq → ℕ → State → Out
-tryAll env [] i st = out ConditionFailed st
-tryAll env (a ∷ rest) i st = next (runSeq env a false i false st) (λ st′. out Finished st′) (λ st′. tryAll env rest i st′)
-
-on-same : (o : Out) → on (o .end) (o .state) (λ st′. out Finished st′) (λ st′. out ConditionFailed st′) ≡ o
-unfolding on
-on-same o = go (o .end) refl
-  where
-    go : (e : End) → o .end ≡ e → on e (o .state) (λ st′. out Finished st′) (λ st′. out ConditionFailed st′) ≡ out e (o .state)
-    go Finished q = refl
-    go ConditionFailed q = refl
-    go Started q = refl
-    go (Failed f) q = refl
-
-pub try-law : (env : Env) (a : Alts) (i : ℕ) (st : State) → runAlts env a i st ≡ tryAll env (listOf a) i st
-unfolding runSeq tryAll
-try-law env (last a) i st = sym (on-same (runSeq env a false i false st))
-try-law env (or a b) i st = ap (λ (g : State → Out). next (runSeq env a false i false st) (λ st′. out Finished st′) g) (λ j st′. try-law env b i st′ j)

@@ -1,7 +1,7 @@
 // Heads of an envelope that check has accepted: nothing is tested again.
 ghost use mathlib.Core.Path.{_≡_};
 ghost use Prim.Native.Nat.{_+_};
-ghost use Rattle.runner.specs.Heads.{Headed, Strings};
+ghost use Rattle.accepted.specs.Heads.{Headed, Strings};
 use numbers::four;
 use numbers::two;
 use numbers::wide;

@@ -18,7 +18,7 @@ use Rattle.rules.specs.Manifest.{Seq, Cmd, one}
 use Rattle.rules.specs.Check.{Read, nothing, number, entries, argument, command, sequenceAt}
 use Rattle.rules.proofs.TableLaws.{each-row}
 use Rattle.rules.proofs.GotLaws.{passed, both, split, split₂}
-use Rattle.runner.specs.Arguments.{One}
+use Rattle.accepted.specs.Arguments.{One}
 
 pub found-is : {A : Type 0} (o : Option A) (r : Refusal) (p : ℕ) (a : A) → found o r p ≡ got a → o ≡ some a
 found-is none r p a e = let z : _≡_ {A = ℕ} 0 1 = cc in absurd (omega arith)

@@ -1,9 +1,9 @@
 use mathlib.Core.Logic.{⊎-elim}
 use native.Mathlib.Omega.{arith}
 use borrow.Author.Needs.{needs}
-use Rattle.runner.proofs.OneLaws.{one-of-two, one-sixteen, one-index, one-map, one-rest, map-entries, read-sixteen, read-index, read-map, read-rest}
-use Rattle.runner.proofs.arguments.read_one.Statement.{statement}
-use Rattle.runner.proofs.arguments.read_one.Tie as tie
+use Rattle.accepted.proofs.OneLaws.{one-of-two, one-sixteen, one-index, one-map, one-rest, map-entries, read-sixteen, read-index, read-map, read-rest}
+use Rattle.accepted.proofs.arguments.read_one.Statement.{statement}
+use Rattle.accepted.proofs.arguments.read_one.Tie as tie
 
 index-headed : tie.Need-open-requires
 index-headed c κs = one-index _ _ _ (c .before .before .pre) (c .match .keys1) .headed

@@ -16,7 +16,7 @@ use Rattle.rules.proofs.GotLaws.{passed, both, split}
 use Rattle.rules.proofs.BytesLaws.{num-1, num-2, num-4}
 use Rattle.rules.proofs.CheckLaws.{item-law}
 use Rattle.rules.proofs.ParamLaws.{bytes-after}
-use Rattle.runner.specs.Heads.{Headed}
+use Rattle.accepted.specs.Heads.{Headed}
 
 module _ (s : Bytes) (e at : ℕ) (h : Head) where
   pub record HeadAt : Type 0 where

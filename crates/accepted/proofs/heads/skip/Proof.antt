@@ -2,10 +2,10 @@ use mathlib.Core.Path.{_≡_}
 use native.Mathlib.Omega.{arith}
 use Rattle.rules.specs.Got.{got}
 use Rattle.rules.specs.Check.{strings}
-use Rattle.runner.specs.Heads.{Strings}
-use Rattle.runner.proofs.HeadLaws.{strings-first, strings-more, strings-fit, strings-none}
-use Rattle.runner.proofs.heads.skip.Statement.{statement}
-use Rattle.runner.proofs.heads.skip.Tie as tie
+use Rattle.accepted.specs.Heads.{Strings}
+use Rattle.accepted.proofs.HeadLaws.{strings-first, strings-more, strings-fit, strings-none}
+use Rattle.accepted.proofs.heads.skip.Statement.{statement}
+use Rattle.accepted.proofs.heads.skip.Tie as tie
 
 -- what was to be read is what is left
 abbrev Inv-loop : tie.InvT-loop

@@ -11,7 +11,7 @@ use Rattle.rules.specs.declared.tables.Parameter.{Parameter}
 use Rattle.rules.specs.Commands.{Op, Row, rowOf, commands, component, orElse, over, params, paramOf}
 use Rattle.rules.specs.Manifest.{Seq, one}
 use Rattle.rules.specs.Check.{Read, Given, parameter, entries, nothing, argument}
-use Rattle.runner.specs.declared.arguments.Args.{Args}
+use Rattle.accepted.specs.declared.arguments.Args.{Args}
 use Rattle.slots.specs.declared.params.Params.{Params}
 use Rattle.slots.specs.Params.{optional, meaning, Fit}
 use Rattle.commands.specs.Op.{opOf}

@@ -5,10 +5,10 @@ use borrow.Author.Needs.{needs}
 use Rattle.rules.specs.Got.{got}
 use Rattle.rules.specs.Check.{entries}
 use Rattle.slots.specs.Params.{Fit}
-use Rattle.runner.specs.Arguments.{paramsOf, givenOf, Within, Entries}
-use Rattle.runner.proofs.EntryLaws.{entries-step, entries-none, step-headed, step-entry, fit-bare, within-bare, given-bare}
-use Rattle.runner.proofs.arguments.read_entries.Statement.{statement}
-use Rattle.runner.proofs.arguments.read_entries.Tie as tie
+use Rattle.accepted.specs.Arguments.{paramsOf, givenOf, Within, Entries}
+use Rattle.accepted.proofs.EntryLaws.{entries-step, entries-none, step-headed, step-entry, fit-bare, within-bare, given-bare}
+use Rattle.accepted.proofs.arguments.read_entries.Statement.{statement}
+use Rattle.accepted.proofs.arguments.read_entries.Tie as tie
 
 -- what was to be read is what was read and what is left
 abbrev Inv-loop : tie.InvT-loop

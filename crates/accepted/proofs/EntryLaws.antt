@@ -21,12 +21,12 @@ use Rattle.rules.specs.Check.{Given, give, nothing, number, parameter, entries}
 use Rattle.rules.proofs.GotLaws.{passed, both, split, split₂}
 use Rattle.rules.proofs.CheckLaws.{item-law, number-law, one-of-kind}
 use Rattle.rules.proofs.ParamLaws.{bytes-after, text-after}
-use Rattle.runner.specs.declared.arguments.Args.{Args}
+use Rattle.accepted.specs.declared.arguments.Args.{Args}
 use Rattle.slots.specs.Params.{meaning, Fit}
-use Rattle.runner.specs.Heads.{Headed}
-use Rattle.runner.specs.Arguments.{paramsOf, coerceOf, givenOf, Within, bareAt, overGiven, EntryAt, EntryPut}
-use Rattle.runner.proofs.ArgumentLaws.{_&_, found-is}
-use Rattle.runner.proofs.HeadLaws.{one-of-whole, item-headed, number-headed, flag-at}
+use Rattle.accepted.specs.Heads.{Headed}
+use Rattle.accepted.specs.Arguments.{paramsOf, coerceOf, givenOf, Within, bareAt, overGiven, EntryAt, EntryPut}
+use Rattle.accepted.proofs.ArgumentLaws.{_&_, found-is}
+use Rattle.accepted.proofs.HeadLaws.{one-of-whole, item-headed, number-headed, flag-at}
 
 -- what holds of each parameter and its key holds of the parameter of a key
 abbrev Each : (ℕ → Parameter → Type 0) → List ParamRow → Type 0

@@ -9,9 +9,9 @@ use Rattle.rules.specs.declared.answers.Group.{Group}
 use Rattle.rules.specs.declared.answers.Group.the-variants.{Install, Boot}
 use Rattle.rules.specs.Commands.{among}
 use Rattle.rules.specs.Run.{sectionsOf}
-use Rattle.runner.specs.Sections.{keyOf}
-use Rattle.runner.proofs.sections.wanted.Statement.{statement}
-use Rattle.runner.proofs.sections.wanted.Tie as tie
+use Rattle.accepted.specs.Sections.{keyOf}
+use Rattle.accepted.proofs.sections.wanted.Statement.{statement}
+use Rattle.accepted.proofs.sections.wanted.Tie as tie
 
 in-install : (k : ℕ) → k < 6 → (k ≡ 0 → ⊥) → ltb k 3 ≡ among (keyOf k) (sectionsOf Install)
 in-install zero h d = absurd (d refl)

@@ -1,0 +1,10 @@
+pub mod HeadLaws
+pub mod ArgumentLaws
+pub mod EntryLaws
+pub mod OneLaws
+pub mod CommandPlaces
+pub mod SequencePlaces
+pub mod TryPlaces
+pub mod IdentifiersRead
+pub mod SectionsRead
+pub mod SectionPlaces

@@ -1,0 +1,5 @@
+pub mod Heads
+pub mod Arguments
+pub mod Places
+pub mod Sections
+pub mod Accepted
