@@ -19,8 +19,7 @@ use Rattle.rules.specs.Cbor.{BYTES, TEXT, FALSE, TRUE, Head, after, item, oneOf
 use Rattle.rules.specs.Commands.{ParamRow, params, paramOf}
 use Rattle.rules.specs.Check.{Given, give, nothing, number, parameter, entries}
 use Rattle.rules.proofs.GotLaws.{passed, both, split, split₂}
-use Rattle.rules.proofs.CheckLaws.{item-law, number-law, one-of-kind}
-use Rattle.rules.proofs.ParamLaws.{bytes-after, text-after}
+use Rattle.rules.proofs.CheckLaws.{item-law, number-law, one-of-kind, bytes-after, text-after}
 use Rattle.accepted.specs.declared.arguments.Args.{Args}
 use Rattle.slots.specs.Params.{meaning, Fit}
 use Rattle.accepted.specs.Heads.{Headed}

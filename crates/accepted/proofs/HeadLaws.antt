@@ -14,8 +14,7 @@ use Rattle.rules.specs.Cbor.{NUMBER, BYTES, Head, head, known, more, least, val
 use Rattle.rules.specs.Check.{number, strings}
 use Rattle.rules.proofs.GotLaws.{passed, both, split}
 use Rattle.rules.proofs.BytesLaws.{num-1, num-2, num-4}
-use Rattle.rules.proofs.CheckLaws.{item-law}
-use Rattle.rules.proofs.ParamLaws.{bytes-after}
+use Rattle.rules.proofs.CheckLaws.{item-law, bytes-after}
 use Rattle.accepted.specs.Heads.{Headed}
 
 module _ (s : Bytes) (e at : ℕ) (h : Head) where

@@ -14,8 +14,7 @@ use Rattle.rules.specs.Cbor.{ARRAY, MAP, item}
 use Rattle.rules.specs.Manifest.{Section, countAll, Manifest}
 use Rattle.rules.specs.Check.{number, key, inBytes, strings, identifier, identifiers, components, commonSeq, commonAt, sectionsAt, manifestAt, unread, check}
 use Rattle.rules.proofs.GotLaws.{passed, both, split, split₂}
-use Rattle.rules.proofs.CheckLaws.{Item, item-law, inBytes-law}
-use Rattle.rules.proofs.ManifestLaws.{strings-law}
+use Rattle.rules.proofs.CheckLaws.{Item, item-law, inBytes-law, strings-law}
 
 -- a place in s
 abbrev pub In : Bytes → Span → Type 0

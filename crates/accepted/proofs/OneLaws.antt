@@ -17,8 +17,7 @@ use Rattle.rules.specs.Commands.{Op, vendor, class, imageMatch, setIndex, abort
 use Rattle.rules.specs.Manifest.{Seq, one}
 use Rattle.rules.specs.Check.{Read, Given, nothing, number, inBytes, entries, alternativesAt, argument}
 use Rattle.rules.proofs.GotLaws.{passed, both, split, split₂}
-use Rattle.rules.proofs.CheckLaws.{item-law}
-use Rattle.rules.proofs.ParamLaws.{bytes-after}
+use Rattle.rules.proofs.CheckLaws.{item-law, bytes-after}
 use Rattle.accepted.specs.declared.arguments.Args.{Args}
 use Rattle.slots.specs.declared.params.Params as Words
 use Rattle.slots.specs.Params.{meaning, Fit}

@@ -8,8 +8,7 @@ use Rattle.rules.proofs.AnswerLaws.{not-zero}
 use Rattle.rules.specs.Bytes.{Bytes}
 use Rattle.rules.specs.Cbor.{BYTES, TEXT, Head, item}
 use Rattle.rules.specs.Check.{number}
-use Rattle.rules.proofs.CheckLaws.{item-law}
-use Rattle.rules.proofs.ParamLaws.{bytes-after, text-after}
+use Rattle.rules.proofs.CheckLaws.{item-law, bytes-after, text-after}
 use Rattle.rules.specs.Got.{Got, refused, got, _>>=_}
 use Rattle.cbor.specs.declared.reading.Reading.{Reading}
 use Rattle.cbor.specs.Reading.{fault, view, headReading, placeReading, reading, unnumbered}

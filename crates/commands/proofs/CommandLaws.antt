@@ -15,7 +15,7 @@ use Rattle.rules.specs.Bytes.{Bytes, part, num, same}
 use Rattle.rules.specs.Commands.{run}
 use Rattle.rules.specs.Slots.{slotAt, imageAt, putImage}
 use Rattle.rules.specs.Step.{Env, State, out, withSlots, withUsed, unless, given, passes, sizeIs, slotNo, slot, image, filled, matches, fetches, copies, swaps, acts}
-use Rattle.rules.proofs.Effects.{same-number, image-length}
+use Rattle.theorems.proofs.Effects.{same-number, image-length}
 use Rattle.slots.specs.declared.params.Params.{Params}
 use Rattle.slots.specs.Params.{optional, meaning}
 use Rattle.commands.specs.Machine.{At, SourceAt}

@@ -11,8 +11,8 @@ use Rattle.rules.specs.Manifest.{Seq, Cmd, count, countCmd}
 use Rattle.rules.specs.Slots.{slotNames, slotOf}
 use Rattle.rules.specs.Step.{Env, State, Out, step}
 use Rattle.rules.specs.Run.{runSeq, runCmd}
-use Rattle.rules.proofs.Effects.{namedBy, Changes, Reaches, follow-law, seq-reaches, cmd-reaches, step-reaches}
-use Rattle.rules.proofs.SlotLaws.{names-same}
+use Rattle.theorems.proofs.Effects.{namedBy, Changes, Reaches, follow-law, seq-reaches, cmd-reaches, step-reaches}
+use Rattle.theorems.proofs.SlotLaws.{names-same}
 use Rattle.slots.specs.Params.{FitAll}
 use Rattle.commands.specs.Machine.{Host, Lent}
 

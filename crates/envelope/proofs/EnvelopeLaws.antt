@@ -18,8 +18,7 @@ use Rattle.rules.specs.Manifest.{Manifest}
 use Rattle.rules.specs.Check.{key, unread, inBytes, manifestAt, check}
 use Rattle.rules.proofs.AnswerLaws.{of-number, not-zero}
 use Rattle.rules.proofs.GotLaws.{both, split}
-use Rattle.rules.proofs.CheckLaws.{item-law}
-use Rattle.rules.proofs.ParamLaws.{bytes-after}
+use Rattle.rules.proofs.CheckLaws.{item-law, bytes-after}
 use Rattle.cbor.specs.declared.reading.Reading.{Reading}
 use Rattle.manifest.specs.declared.Body.{Body}
 use Rattle.envelope.specs.declared.report.Checked.the-variants.{Accepted}

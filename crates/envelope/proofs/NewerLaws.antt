@@ -18,7 +18,7 @@ use Rattle.rules.specs.Check.{key, unread, inBytes, manifestAt, check}
 use Rattle.rules.specs.Newer.{newerOf, newer}
 use Rattle.rules.proofs.GotLaws.{passed, split, split₂}
 use Rattle.rules.proofs.CheckLaws.{inBytes-law}
-use Rattle.rules.proofs.ManifestLaws.{sound}
+use Rattle.theorems.proofs.ManifestLaws.{sound}
 use Rattle.envelope.specs.declared.newest.Part.{Part}
 use Rattle.envelope.specs.declared.report.Checked.{Checked}
 use Rattle.envelope.specs.declared.report.Checked.the-variants.{Accepted, Refused}

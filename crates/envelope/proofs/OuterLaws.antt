@@ -9,8 +9,7 @@ use Rattle.rules.specs.Bytes.{Bytes}
 use Rattle.rules.specs.Got.{Got, refused, got, _>>=_}
 use Rattle.rules.specs.Cbor.{NUMBER, BYTES, MAP, NIL, Head, after, item, oneOf}
 use Rattle.rules.specs.Check.{key, unread}
-use Rattle.rules.proofs.CheckLaws.{one-of-law, one-of-kind}
-use Rattle.rules.proofs.ParamLaws.{bytes-after}
+use Rattle.rules.proofs.CheckLaws.{one-of-law, one-of-kind, bytes-after}
 use Rattle.cbor.specs.declared.reading.Reading.{Reading}
 use Rattle.cbor.specs.Reading.{fault, ends, headReading, placeReading, reading}
 use Rattle.envelope.specs.Outer.{outerAt}

@@ -13,7 +13,7 @@ use report::Report;
 use report::refused;
 use rules::answers::Refusal;
 use rules::controller::Controller;
-use rules::tables::tables;
+use tables::tables;
 
 mod newest;
 mod outer;

@@ -17,10 +17,9 @@ use Rattle.rules.specs.Bytes.{Bytes, spanAt, Span, span, part, bytesAt, same, m
 use Rattle.rules.specs.Got.{Got, refused, got, need, _>>=_}
 use Rattle.rules.specs.Cbor.{BYTES, ARRAY, Head, after, item}
 use Rattle.rules.specs.Check.{strings, identifier, identifiers, components}
-use Rattle.rules.proofs.CheckLaws.{Item, item-law}
+use Rattle.rules.proofs.CheckLaws.{Item, item-law, strings-law, bytes-after}
 use Rattle.rules.proofs.GotLaws.{passed, split, both}
-use Rattle.rules.proofs.ManifestLaws.{strings-law}
-use Rattle.rules.proofs.ParamLaws.{bytes-after, length-part}
+use Rattle.rules.proofs.BytesLaws.{length-part}
 use Rattle.cbor.specs.declared.reading.Reading.{Reading}
 use Rattle.identifiers.specs.declared.Repeat.{Repeat}
 use Rattle.identifiers.specs.declared.Repeat.the-variants.{At, Nothing}

@@ -12,9 +12,8 @@ use Rattle.rules.specs.Bytes.{Bytes, Span, span}
 use Rattle.rules.specs.Got.{Got, refused, got, need, _>>=_}
 use Rattle.rules.specs.Cbor.{BYTES, Head, after, item}
 use Rattle.rules.specs.Check.{inBytes, components}
-use Rattle.rules.proofs.CheckLaws.{item-law}
+use Rattle.rules.proofs.CheckLaws.{item-law, bytes-after}
 use Rattle.rules.proofs.GotLaws.{passed, split, split₂, both}
-use Rattle.rules.proofs.ParamLaws.{bytes-after}
 use Rattle.cbor.specs.declared.reading.Reading.{Reading}
 use Rattle.cbor.specs.Reading.{fault, headReading, reading}
 use Rattle.cbor.proofs.ReadingLaws.{stopped, went}

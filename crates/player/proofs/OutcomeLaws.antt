@@ -27,8 +27,8 @@ use Rattle.program.specs.Test.{TestedAs}
 use Rattle.player.specs.Known.{Known}
 use Rattle.player.specs.Step.{StepJob, stateOf, startAt, Ran}
 use Rattle.rules.specs.Step.{out}
-use Rattle.rules.proofs.Effects.{program-effects}
-use Rattle.rules.proofs.ProgramFaults.{Only97, program97}
+use Rattle.theorems.proofs.Effects.{program-effects}
+use Rattle.theorems.proofs.ProgramFaults.{Only97, program97}
 use Rattle.slots.proofs.SearchLaws.{names-count}
 
 module _ (p : Bytes) (t : Tested) (ids : List ℕ) (a : Known p t ids) where

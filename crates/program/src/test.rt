@@ -14,7 +14,7 @@ use numbers::wide;
 use records::records::test_records;
 use rules::answers::Group;
 use rules::controller::Controller;
-use rules::tables::tables;
+use tables::tables;
 
 // The group and the number, how many components and records there are, and where the first record is.
 pub struct Tested {

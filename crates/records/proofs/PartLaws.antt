@@ -9,7 +9,7 @@ use lib.Dec.{eqb}
 use lib.ListN.{length, getD, take, drop, length-drop}
 use lib.Seq.{drop-drop, drop-cons, take-take, take-nil}
 use Rattle.rules.specs.Bytes.{Bytes, part, same}
-use Rattle.rules.proofs.ParamLaws.{length-part}
+use Rattle.rules.proofs.BytesLaws.{length-part}
 
 module _ (p : Bytes) (at : ℕ) where
   pub part-drop : (i n : ℕ) → part (drop at p) i n ≡ part p (at + i) n

@@ -12,7 +12,7 @@ use numbers::two;
 use numbers::wide;
 use rules::answers::Group;
 use rules::tables::Listed;
-use rules::tables::look_up;
+use tables::look_up;
 
 pub const RECORD_BYTES: usize = 10;
 

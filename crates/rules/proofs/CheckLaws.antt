@@ -1,5 +1,5 @@
 -- What an accepted item, number, key or byte string tells of its place.
-use Prim.Native.Nat.{ℕ, _+_, _≤_, _<_}
+use Prim.Native.Nat.{ℕ, zero, suc, _+_, _≤_, _<_}
 use mathlib.Core.Path.{_≡_, refl, subst}
 use mathlib.Core.Bool.{Bool, true, false, _&&_, _||_, cond}
 use mathlib.Core.Logic.{_⊎_, inl, inr}
@@ -12,8 +12,14 @@ use Rattle.rules.specs.Limits.{limits}
 use Rattle.rules.specs.Bytes.{Bytes, Span}
 use Rattle.rules.specs.Got.{got}
 use Rattle.rules.specs.Cbor.{NUMBER, BYTES, TEXT, Head, head, known, more, least, value, after, whole, item, oneOf}
-use Rattle.rules.specs.Check.{Read, number, key, inBytes}
+use Rattle.rules.specs.Check.{Read, number, key, inBytes, strings}
 use Rattle.rules.proofs.GotLaws.{bound, and-true, passed, both, split, split₂}
+
+pub text-after : (h : Head) → h .kind ≡ TEXT → after h ≡ h .next + h .num
+text-after h e = rw e
+
+pub bytes-after : (h : Head) → h .kind ≡ BYTES → after h ≡ h .next + h .num
+bytes-after h e = rw e
 
 module _ (s : Bytes) where
   pub head-bounds : (e at : ℕ) (h : Head) → head s e at ≡ got h → (at < h .next) × (h .next ≤ e)
@@ -116,3 +122,12 @@ module _ (s : Bytes) where
       let (ea, ep) = both q₃ in
       let l : next ≡ after h = eqb-true _ _ t in
       rw (← ea, ← ep) (record { reads = rw (← l) at qr; up = i .up; mid = omega (arith, i .mid); fits = omega (arith, i .fits) })
+
+  pub strings-law : (k e at q : ℕ) → at ≤ e → strings s k e at ≡ got q → (at ≤ q) × (q ≤ e)
+  unfolding strings
+  strings-law zero e at q u q₀ = let eq : at ≡ q = cc in (omega arith, omega arith)
+  strings-law (suc k) e at q u q₀ =
+      split _ (item BYTES 0 (limits .number) s e at) _ q q₀ λ h qh q₁.
+      let i : Item BYTES 0 (limits .number) e at h = item-law BYTES 0 (limits .number) e at h qh in
+      let (a, b) = strings-law k e (after h) q (i .fits) q₁ in
+      (omega arith, b)

@@ -1,21 +1,14 @@
--- The tables of commands and parameters: what the proofs of the look-ups lean on, and for callers what a row's set of sections
--- says of each section. What holds of a whole table is one computed test.
-use Prim.Native.Nat.{ℕ, zero, suc, _+_, _/_, _%_, _≤_, _<_}
+-- What holds of each row of the table of commands, by one computed test, and what a row's set of sections says of each section.
+use Prim.Native.Nat.{ℕ, _/_, _%_}
 use mathlib.Core.Path.{_≡_, refl, sym, subst}
-use mathlib.Core.List.{List, [], _∷_, head-eq-of-cons-eq, tail-eq-of-cons-eq}
-use mathlib.Core.Bool.{Bool, true, false, not, _&&_, _||_, cond}
-use mathlib.Core.Option.{some, none}
-use native.Mathlib.Nat.{le-of-suc-le-suc, not-suc-le-zero}
-use native.Mathlib.Numerals.{add-one}
+use mathlib.Core.List.{List, [], _∷_}
+use mathlib.Core.Bool.{Bool, true, false, not, _&&_, _||_}
+use mathlib.Core.Option.{some}
 use native.Mathlib.Omega.{arith}
-use borrow.Author.Tests.{eqb-true, ltb-true, ne-eqb}
-use lib.Dec.{eqb, ltb}
-use lib.ListN.{length, getD, drop, set}
-use lib.Seq.{drop-cons}
-use Rattle.rules.specs.declared.tables.Listed.{Listed}
-use Rattle.rules.specs.declared.tables.Listed.the-variants as L
-use Rattle.rules.specs.Commands.{Row, commands, rowOf, among, isAllowed, ParamRow, params, paramOf}
-use Rattle.rules.specs.Tables.{weightOf, setOf, listed, known, argumentAt, knownAt, values, tableOf, byNumber}
+use borrow.Author.Tests.{eqb-true}
+use lib.Dec.{eqb}
+use Rattle.rules.specs.Commands.{Row, commands, rowOf, among, isAllowed}
+use Rattle.rules.specs.Tables.{weightOf, setOf}
 use Rattle.rules.proofs.GotLaws.{and-true}
 
 module _ {A : Type 0} where
@@ -23,57 +16,8 @@ module _ {A : Type 0} where
   all p [] = true
   all p (x ∷ xs) = p x && all p xs
 
-  both : (p : A → Bool) (x : A) (xs : List A) → all p (x ∷ xs) ≡ true → (p x ≡ true) × (all p xs ≡ true)
+  pub both : (p : A → Bool) (x : A) (xs : List A) → all p (x ∷ xs) ≡ true → (p x ≡ true) × (all p xs ≡ true)
   both p x xs t = and-true (p x) (all p xs) t
-
-  -- each row's place is below n, and so is that of row i
-  abbrev pub within : (A → ℕ) → ℕ → List A → Bool
-  within place n = all (λ x. ltb (place x) n)
-
-  pub below : (place : A → ℕ) (n : ℕ) (xs : List A) (i : ℕ) (d : A) → within place n xs ≡ true → i < length xs → place (getD xs i d) < n
-  below place n [] i d t h = absurd (not-suc-le-zero h)
-  below place n (x ∷ xs) zero d t h = ltb-true (place x) n (both (λ x. ltb (place x) n) x xs t .0)
-  below place n (x ∷ xs) (suc i) d t h = below place n xs i d (both (λ x. ltb (place x) n) x xs t .1) (le-of-suc-le-suc h)
-
-  -- two rules that give the same list of n values, at one of the n
-  pub agree : (f g : ℕ → A) (n i : ℕ) → values f n ≡ values g n → i < n → f i ≡ g i
-  agree f g zero i e h = absurd (not-suc-le-zero h)
-  agree f g (suc n) zero e h = head-eq-of-cons-eq e
-  agree f g (suc n) (suc i) e h = agree (λ k. f (suc k)) (λ k. g (suc k)) n i (tail-eq-of-cons-eq e) (le-of-suc-le-suc h)
-
-  -- the numbers t after a store for each row; and one of these stores
-  abbrev pub stored : (A → ℕ) → (A → ℕ) → List A → List ℕ → List ℕ
-  stored place value [] t = t
-  stored place value (x ∷ xs) t = stored place value xs (set t (place x) (value x))
-
-  pub turn : (place value : A → ℕ) (xs : List A) (t : List ℕ) (i : ℕ) (d : A) → i < length xs →
-      stored place value (drop i xs) t ≡ stored place value (drop (i + 1) xs) (set t (place (getD xs i d)) (value (getD xs i d)))
-  turn place value xs t i d h = rw (drop-cons xs i d h, add-one i)
-
--- the command of code c, from its entry e
-abbrev pub unpacked : ℕ → ℕ → Listed
-unpacked c e = cond (eqb e 0) L.Unlisted (L.Command (record { code = c; argument = argumentAt (e / 64); sections = e % 64 }))
-
-pub listed-at : (t : List ℕ) (c : ℕ) → t ≡ byNumber → c < 33 → unpacked c (getD t c 0) ≡ listed (rowOf c commands)
-unfolding tableOf byNumber
-listed-at t c e h = rw e (agree (λ k. unpacked k (getD byNumber k 0)) (λ k. listed (rowOf k commands)) 33 c refl h)
-
-pub known-at : (t : List ℕ) (k : ℕ) → t ≡ byNumber → k < 13 → knownAt (getD t (33 + k) 0) ≡ known (paramOf k params)
-unfolding tableOf byNumber
-known-at t k e h = rw e (agree (λ k. knownAt (getD byNumber (33 + k) 0)) (λ k. known (paramOf k params)) 13 k refl h)
-
--- a number that is not below n is in no table within n
-pub no-row : (n : ℕ) (rs : List Row) (c : ℕ) → within (λ r. r .number) n rs ≡ true → n ≤ c → rowOf c rs ≡ none
-no-row n [] c t h = refl
-no-row n (r ∷ rs) c t h =
-    let (b, bs) = both (λ x. ltb (x .number) n) r rs t in
-    rw (ne-eqb c (r .number) (λ e. omega (arith, ltb-true (r .number) n b)), rowOf) (no-row n rs c bs h)
-
-pub no-param : (n : ℕ) (rs : List ParamRow) (c : ℕ) → within (λ r. r .number) n rs ≡ true → n ≤ c → paramOf c rs ≡ none
-no-param n [] c t h = refl
-no-param n (r ∷ rs) c t h =
-    let (b, bs) = both (λ x. ltb (x .number) n) r rs t in
-    rw (ne-eqb c (r .number) (λ e. omega (arith, ltb-true (r .number) n b)), paramOf) (no-param n rs c bs h)
 
 -- a test that each row passes, at the row of a code; and one that each number passes, at one among them
 row-of : (p : Row → Bool) (rs : List Row) (c : ℕ) (r : Row) → all p rs ≡ true → rowOf c rs ≡ some r → p r ≡ true

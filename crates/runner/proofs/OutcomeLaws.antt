@@ -13,8 +13,8 @@ use Rattle.rules.specs.Got.{Got, refused, got, _>>=_}
 use Rattle.rules.specs.Manifest.{Manifest, names}
 use Rattle.rules.specs.Check.{check}
 use Rattle.rules.specs.Run.{Input, runAll, planOf, admit, numberAfter, report, envOf, runOf, runEnvelope}
-use Rattle.rules.proofs.Effects.{envelope-effects}
-use Rattle.rules.proofs.ManifestLaws.{Sound, sound}
+use Rattle.theorems.proofs.Effects.{envelope-effects}
+use Rattle.theorems.proofs.ManifestLaws.{Sound, sound}
 use Rattle.envelope.specs.declared.report.Checked.{Checked}
 use Rattle.envelope.specs.declared.report.Checked.the-variants as The
 use Rattle.envelope.specs.declared.report.Report.{Report}

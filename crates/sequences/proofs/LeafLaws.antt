@@ -17,8 +17,7 @@ use Rattle.rules.specs.Got.{Got, refused, got, need, found, _>>=_}
 use Rattle.rules.specs.Cbor.{NUMBER, BYTES, TEXT, ARRAY, MAP, FALSE, TRUE, NIL, Head, after, item, oneOf}
 use Rattle.rules.specs.Commands.{parameters, params, paramOf}
 use Rattle.rules.specs.Check.{Given, number, parameter, entries}
-use Rattle.rules.proofs.CheckLaws.{item-law}
-use Rattle.rules.proofs.ParamLaws.{bytes-after, text-after}
+use Rattle.rules.proofs.CheckLaws.{item-law, bytes-after, text-after}
 use Rattle.cbor.specs.Reading.{fault, ends, headReading, placeReading, reading, unnumbered}
 use Rattle.cbor.proofs.ReadingLaws.{Stopped, alike, head-place, number-place}
 use Rattle.cbor.specs.declared.reading.Reading.{Reading}

@@ -20,8 +20,7 @@ use Rattle.rules.proofs.TableLaws.{allowed-bit}
 use Rattle.rules.specs.Manifest.{Seq, then, Cmd, try, Alts, or, count, countCmd, countAlts}
 use Rattle.rules.specs.Check.{Read, nothing, number, inBytes, entries, alternativesAt, argument, command, commandsAt, sequenceAt}
 use Rattle.rules.proofs.GotLaws.{passed, split}
-use Rattle.rules.proofs.CheckLaws.{item-law}
-use Rattle.rules.proofs.ParamLaws.{bytes-after}
+use Rattle.rules.proofs.CheckLaws.{item-law, bytes-after}
 use Rattle.cbor.specs.Reading.{fault, ends, reading}
 use Rattle.cbor.specs.declared.reading.Reading.{Reading}
 use Rattle.cbor.proofs.ReadingLaws.{Stopped, alike, bind-assoc, reading-went}

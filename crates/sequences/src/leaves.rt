@@ -16,7 +16,7 @@ use rules::controller::Controller;
 use rules::tables::Argument;
 use rules::tables::Known;
 use rules::tables::Parameter;
-use rules::tables::look_up_parameter;
+use tables::look_up_parameter;
 
 // A number: the place after it, and its value.
 pub fn number(s: &[u8], e: usize, at: usize) -> Reading

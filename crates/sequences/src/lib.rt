@@ -16,7 +16,7 @@ use leaves::read_argument;
 use rules::answers::Refusal;
 use rules::controller::Controller;
 use rules::tables::Listed;
-use rules::tables::look_up;
+use tables::look_up;
 
 pub mod leaves;
 

@@ -6,7 +6,7 @@ use native.Mathlib.Omega.{arith}
 use lib.ListN.{length, set}
 use lib.Seq.{take-all}
 use Rattle.rules.specs.Bytes.{Bytes, part}
-use Rattle.rules.proofs.ParamLaws.{length-part}
+use Rattle.rules.proofs.BytesLaws.{length-part}
 
 -- an answer with its first byte, the status, made 1
 pub image-of-answer : (x : Bytes) → length x ≡ 37 → set x 0 1 ≡ 1 ∷ part x 1 36

@@ -14,7 +14,7 @@ use borrow.Author.Tests.{eq-eqb, ne-eqb, le-leb, lt-leb, leb-true}
 use Rattle.rules.specs.Bytes.{Bytes, Span, span, spanAt, bytesAt, part, same, member, indexOf, repeats, allIn}
 use Rattle.rules.specs.Limits.{limits}
 use Rattle.rules.specs.Slots.{slotBytes, slotAt, numbers, slotsIn, slotNames, slotOf, goodSlot, allGood, goodSlots}
-use Rattle.rules.proofs.ParamLaws.{length-part}
+use Rattle.rules.proofs.BytesLaws.{length-part}
 use Rattle.slots.specs.Slot.{Holds, Short, slotsFrom, namesFrom, namesAt, Found}
 
 -- the numbers from k on, before n

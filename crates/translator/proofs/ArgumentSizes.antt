@@ -10,8 +10,8 @@ use lib.ListN.{length}
 use borrow.Author.Tests.{ne-eqb, eqb-true, eqb-false}
 use Rattle.rules.specs.Bytes.{Bytes, part, be4}
 use Rattle.rules.specs.Program.{entry, paramBytes, argBytes}
-use Rattle.rules.proofs.OpLaws.{weight-is}
-use Rattle.rules.proofs.ParamLaws.{length-part}
+use Rattle.theorems.proofs.OpLaws.{weight-is}
+use Rattle.rules.proofs.BytesLaws.{length-part}
 use Rattle.slots.specs.Params.{optional, meaning, Fit}
 use Rattle.commands.specs.Op.{opOf}
 use Rattle.accepted.specs.declared.arguments.Args.{Args}

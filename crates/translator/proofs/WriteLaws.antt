@@ -16,7 +16,7 @@ use Rattle.rules.specs.Check.{sequenceAt}
 use Rattle.rules.specs.Run.{indexAfter, coerceAfter}
 use Rattle.rules.specs.Program.{Rec, does, jump, targetOf, argBytes, size, sizeCmd, sizeAlts, flatSeq, flatCmd, flatAlts, recBytes}
 use Rattle.rules.specs.ProgramSize.{argSize, argSizeCmd, argSizeAlts}
-use Rattle.rules.proofs.RunLaws.{length-seq, length-cmd}
+use Rattle.theorems.proofs.RunLaws.{length-seq, length-cmd}
 use Rattle.accepted.specs.Heads.{Headed}
 use Rattle.accepted.specs.Arguments.{isTrue, One}
 use Rattle.accepted.specs.Places.{SequenceAt}

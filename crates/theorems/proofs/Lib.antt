@@ -1,0 +1,11 @@
+pub mod OpLaws
+pub mod ParamLaws
+pub mod TreeLaws
+pub mod RoundTrip
+pub mod ManifestLaws
+pub mod RunLaws
+pub mod FlatLaws
+pub mod Demand3
+pub mod SlotLaws
+pub mod Effects
+pub mod ProgramFaults
