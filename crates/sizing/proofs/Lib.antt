@@ -1,0 +1,3 @@
+pub mod ArgumentSizes
+pub mod SequenceSizes
+pub mod CommandSizes

@@ -1,6 +1,0 @@
-pub mod FillLaws
-pub mod RecordLaws
-pub mod WriteLaws
-pub mod ArgumentSizes
-pub mod SequenceSizes
-pub mod CommandSizes
