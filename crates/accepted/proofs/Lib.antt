@@ -8,3 +8,4 @@ pub mod TryPlaces
 pub mod IdentifiersRead
 pub mod SectionsRead
 pub mod SectionPlaces
+pub mod AcceptedLaws

@@ -14,12 +14,10 @@ use Rattle.rules.specs.Manifest.{Manifest, names}
 use Rattle.rules.specs.Check.{check}
 use Rattle.rules.specs.Run.{Input, runAll, planOf, admit, numberAfter, report, envOf, runOf, runEnvelope}
 use Rattle.theorems.proofs.Effects.{envelope-effects}
-use Rattle.theorems.proofs.ManifestLaws.{Sound, sound}
 use Rattle.envelope.specs.declared.report.Checked.{Checked}
 use Rattle.envelope.specs.declared.report.Checked.the-variants as The
 use Rattle.envelope.specs.declared.report.Report.{Report}
 use Rattle.envelope.specs.Report.{reportOf}
-use Rattle.identifiers.proofs.IdentifierLaws.{span-laid}
 use Rattle.frame.specs.declared.answer.Answer.the-variants.{Refused, Ran}
 use Rattle.frame.specs.declared.answer.Ending.{Ending}
 use Rattle.runner.specs.declared.cycle.Run.{Run}
@@ -28,37 +26,13 @@ use Rattle.frame.specs.Answer.{stopOf, endingOf, Settles}
 use Rattle.runner.specs.Cycle.{outOf}
 use Rattle.runner.specs.Sections.{SectionsJob, SectionsRan}
 use Rattle.accepted.specs.Accepted.{Accepted}
-use Rattle.slots.proofs.SearchLaws.{names-laid}
-use Rattle.accepted.proofs.IdentifiersRead.{In, ids-in}
+use Rattle.accepted.proofs.AcceptedLaws.{known, named, refused-by}
 use Rattle.frame.proofs.FrameLaws.{refused-run, ran-run, trace-room, lent-start, state-start, settles-refused, settles-ran}
 
 module _ (s : Bytes) (number n : ℕ) (ids sections : List ℕ) (a : Accepted s number n ids sections) where
-  known : Sound s (a .manifest)
-  known = sound s (a .manifest) (a .checks)
-
-  counted : length (names s (a .manifest)) ≡ n
-  counted = length-map (a .manifest .ids) (bytesAt s) ∙ sym (a .count)
-
-  pub few : n ≤ 8
-  few = omega (arith, counted, known .some-ids)
-
-  pub number-small : number ≤ limits .number
-  number-small = omega (arith, a .numbered, known .number)
-
-  spans : (k : ℕ) → k < length (a .manifest .ids) → spanAt ids k ≡ getD (a .manifest .ids) k (span 0 0)
-  spans k h = ap (λ (l : List ℕ). spanAt l k) (a .names) ∙ span-laid (a .manifest .ids) (replicate 16 0) k h
-
-  pub inside : (k : ℕ) → k < n → (spanAt ids k .from ≤ spanAt ids k .to) × (spanAt ids k .to ≤ length s)
-  inside k h =
-      let l : k < length (a .manifest .ids) = omega (arith, a .count) in
-      subst (λ (p : Span). In s p) (sym (spans k l)) (ids-in s (a .manifest) (a .checks) k l)
-
-  named : namesAt s ids n ≡ names s (a .manifest)
-  named = ap (namesAt s ids) (a .count) ∙ names-laid s (a .manifest .ids) ids spans
-
   module _ (group : Group) (x : Input) (refusal : ℕ) (e : refusal ≡ stopOf (admit group number (namesAt s ids n) x)) where
     stops : refusal ≡ stopOf (admit group (a .manifest .number) (names s (a .manifest)) x)
-    stops = rw (← a .numbered, ← named) e
+    stops = rw (← a .numbered, ← named s number n ids sections a) e
 
     pub refused-answer : (refusal ≡ 0 → ⊥) → (r : Refusal) → r ≡ refusalOf refusal →
         Settles (x .device) (runEnvelope s group x) (record { answer = Refused r 0; number = x .device .number }) (x .slots) (x .slots) (x .trace) (x .trace)
@@ -77,8 +51,8 @@ module _ (s : Bytes) (number n : ℕ) (ids sections : List ℕ) (a : Accepted s 
             ready =
                 record {
                   env = envOf (names s (a .manifest)) x;
-                  lent = lent-start group (a .manifest .number) (names s (a .manifest)) x refusal stops z (known .some-ids .1) found (rw named at f) s;
-                  inside = known .some-ids .0;
+                  lent = lent-start group (a .manifest .number) (names s (a .manifest)) x refusal stops z (known s number n ids sections a .some-ids .1) found (rw (named s number n ids sections a) at f) s;
+                  inside = known s number n ids sections a .some-ids .0;
                 };
             among = length-map (a .manifest .ids) (bytesAt s);
           }
@@ -111,40 +85,11 @@ module _ (s : Bytes) (number n : ℕ) (ids sections : List ℕ) (a : Accepted s 
         answered ending after p q =
             settles-ran group (a .manifest .number) x (r .stop) (r .events) (r .used) _ slots′ trace′ (runEnvelope s group x) run-as ending after p (rw (← a .numbered) q)
 
--- what check reported
-differ : (k : Refusal) (p : ℕ) → _≡_ {A = Checked} (The.Refused k p) The.Accepted → ⊥
-differ k p q = let z : _≡_ {A = ℕ} 0 1 = cc in omega arith
+module _ (s : Bytes) (r : Report) (e : r ≡ reportOf (check s)) (k : Refusal) (p : ℕ) (h : r .answer ≡ The.Refused k p) where
+  not-run : (group : Group) (x : Input) → runEnvelope s group x ≡ refused k p
+  unfolding runEnvelope
+  not-run group x = rw (refused-by s r e k p h)
 
-module _ (s : Bytes) (r : Report) (e : r ≡ reportOf (check s)) where
-  pub accepted : r .answer ≡ The.Accepted → Accepted s (r .number) (r .components) (r .ids) (r .sections)
-  accepted h = go (check s) refl e
-    where
-      go : (y : Got Manifest) → check s ≡ y → r ≡ reportOf y → Accepted s (r .number) (r .components) (r .ids) (r .sections)
-      go (refused k p) q u = absurd (differ k p (ap (λ (z : Report). z .answer) (sym u) ∙ h))
-      go (got m) q u =
-          record {
-            manifest = m;
-            checks = q;
-            numbered = ap (λ (z : Report). z .number) u;
-            count = ap (λ (z : Report). z .components) u;
-            names = ap (λ (z : Report). z .ids) u;
-            places = ap (λ (z : Report). z .sections) u;
-          }
-
-  module _ (k : Refusal) (p : ℕ) (h : r .answer ≡ The.Refused k p) where
-    not-run : (group : Group) (x : Input) → runEnvelope s group x ≡ refused k p
-    unfolding runEnvelope
-    not-run group x = go (check s) e
-      where
-        go : (y : Got Manifest) → r ≡ reportOf y →
-            (y >>= λ m. runOf group (m .number) (names s m) (λ env st. runAll env (planOf group m) st) x) ≡ refused k p
-        go (refused k′ p′) u =
-            let f : _≡_ {A = Checked} (The.Refused k′ p′) (The.Refused k p) = ap (λ (z : Report). z .answer) (sym u) ∙ h in
-            let a : k′ ≡ k = cc in
-            let b : p′ ≡ p = cc in
-            rw (a, b)
-        go (got m) u = absurd (differ k p (sym h ∙ ap (λ (z : Report). z .answer) u))
-
-    pub refused-check : (group : Group) (x : Input) →
-        Settles (x .device) (runEnvelope s group x) (record { answer = Refused k p; number = x .device .number }) (x .slots) (x .slots) (x .trace) (x .trace)
-    refused-check group x = settles-refused x (runEnvelope s group x) k p (not-run group x)
+  pub refused-check : (group : Group) (x : Input) →
+      Settles (x .device) (runEnvelope s group x) (record { answer = Refused k p; number = x .device .number }) (x .slots) (x .slots) (x .trace) (x .trace)
+  refused-check group x = settles-refused x (runEnvelope s group x) k p (not-run group x)

@@ -174,15 +174,15 @@ module _ (s : Bytes) (a : List ℕ) where
   unfoldable pub leftAt : ℕ → ℕ → List Bytes
   leftAt i n = map (λ k. bytesAt s (spanAt a k)) (numbers (n - i) i)
 
-  left-turn : (i n : ℕ) → i < n → leftAt i n ≡ bytesAt s (spanAt a i) ∷ leftAt (i + 1) n
+  pub left-turn : (i n : ℕ) → i < n → leftAt i n ≡ bytesAt s (spanAt a i) ∷ leftAt (i + 1) n
   unfolding leftAt
   left-turn i n l = ap (map (λ k. bytesAt s (spanAt a k))) (numbers-turn i n l)
 
-  left-end : (i n : ℕ) → n ≤ i → leftAt i n ≡ []
+  pub left-end : (i n : ℕ) → n ≤ i → leftAt i n ≡ []
   unfolding leftAt
   left-end i n l = ap (map (λ k. bytesAt s (spanAt a k))) (numbers-end i n l)
 
-  left-all : (n : ℕ) → namesAt s a n ≡ leftAt 0 n
+  pub left-all : (n : ℕ) → namesAt s a n ≡ leftAt 0 n
   unfolding leftAt
   left-all n = let e : n - 0 ≡ n = omega arith in rw e
 

@@ -1,5 +1,6 @@
 use borrow.Author.Needs.{needs}
-use Rattle.runner.proofs.OutcomeLaws.{accepted, refused-check}
+use Rattle.accepted.proofs.AcceptedLaws.{accepted}
+use Rattle.runner.proofs.OutcomeLaws.{refused-check}
 use Rattle.runner.proofs.run.Statement.{statement}
 use Rattle.runner.proofs.run.Tie as tie
 

@@ -1,6 +1,7 @@
 use native.Mathlib.Omega.{arith}
 use borrow.Author.Needs.{needs}
-use Rattle.runner.proofs.OutcomeLaws.{few, inside, number-small, refused-answer, job, last-event, answered}
+use Rattle.accepted.proofs.AcceptedLaws.{few, inside, number-small}
+use Rattle.runner.proofs.OutcomeLaws.{refused-answer, job, last-event, answered}
 use Rattle.runner.proofs.run_checked.Statement.{statement}
 use Rattle.runner.proofs.run_checked.Tie as tie
 
