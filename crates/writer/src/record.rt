@@ -14,7 +14,7 @@ use slots::params::either;
 
 const HEAD_BYTES: usize = 10;
 
-const NO_TARGET: usize = 0xffff;
+pub const NO_TARGET: usize = 0xffff;
 
 const JUMP: usize = 0xff;
 

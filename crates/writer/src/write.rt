@@ -1,5 +1,6 @@
 // The records of sequences and commands, written to lent room.
 ghost use mathlib.Core.Path.{_≡_};
+ghost use Prim.Native.Nat.{_+_, _≤_};
 ghost use Rattle.rules.specs.Program.{flatSeq};
 ghost use mathlib.Core.Bool.{false, _&&_, cond};
 ghost use Rattle.accepted.specs.Arguments.{isTrue};
@@ -29,6 +30,14 @@ fn caught(own: bool, coerce: usize, beyond: usize, target: usize) -> usize
         }
     }
     target
+}
+
+// The record after a sequence of that many, the first of which has number n: there a failure under the sequence's coerce goes on.
+fn record_after(n: usize, records: usize) -> usize
+    requires { ⌜ n + records ≤ 1024 ⌝ }
+    ensures { λ r. ⌜ r ≡ n + records ⌝ }
+{
+    n + records
 }
 
 // The pen at the start of the sequence at `at`, where `now` writes.
@@ -89,7 +98,7 @@ pub fn write_command(s: &[u8], depth: usize, target: usize, pen: Pen, room: &mut
             depth,
             true,
             target,
-            pen.n + inner.records,
+            record_after(pen.n, inner.records),
             enter(pen, b.next, pen),
             room,
         );

@@ -22,6 +22,7 @@ use Rattle.sizing.proofs.sizes.size_command.Reads as size-command-reads
 use Rattle.sizing.proofs.sizes.size_sequence.Reads as size-sequence-reads
 use Rattle.writer.proofs.write.caught.Reads as caught-reads
 use Rattle.writer.proofs.write.enter.Reads as enter-reads
+use Rattle.writer.proofs.write.record_after.Reads as record-after-reads
 use Rattle.writer.proofs.write.+write_command+write_sequence.{statement}
 use Rattle.writer.proofs.write.+write_command+write_sequence.Tie.{close}
 
@@ -61,7 +62,7 @@ write-sequence-below t =
 
 -- what write-command knows of what it calls
 abbrev write-command-callees : ℕ → write-command-lts.Claims
-write-command-callees t = (open-reads.Asked, open-reads.Learnt, size-sequence-reads.Asked, size-sequence-reads.Learnt, enter-reads.Asked, enter-reads.Learnt, write-sequence-below t, write-sequence.Post, size-command-reads.Asked, size-command-reads.Learnt, put-jump-reads.Asked, put-jump-reads.Learnt, put-command-reads.Asked, put-command-reads.Learnt)
+write-command-callees t = (open-reads.Asked, open-reads.Learnt, size-sequence-reads.Asked, size-sequence-reads.Learnt, record-after-reads.Asked, record-after-reads.Learnt, enter-reads.Asked, enter-reads.Learnt, write-sequence-below t, write-sequence.Post, size-command-reads.Asked, size-command-reads.Learnt, put-jump-reads.Asked, put-jump-reads.Learnt, put-command-reads.Asked, put-command-reads.Learnt)
 
 -- what write-sequence knows of what it calls
 abbrev write-sequence-callees : ℕ → write-sequence-lts.Claims
@@ -83,17 +84,17 @@ write-command-open-requires-2 t c κs = sub-head _ _ _ _ (c .before .before .bef
 write-command-size-sequence-requires : (t : ℕ) → write-command-lts.Need-size-sequence-requires (write-command-callees t) (write-command-at t) write-command.Post write-command-Inv-loop write-command-μ-loop
 write-command-size-sequence-requires t c κs = sub-here _ _ _ _ (c .before .before .before .before .before .pre .1) _ _ (c .before .before .«open» .ensures (command-head _ _ _ _ (c .before .before .before .before .before .pre .1))) (c .before .if1 .taken) _ _ (c .open2 .ensures (sub-head _ _ _ _ (c .before .before .before .before .before .pre .1) _ _ (c .before .before .«open» .ensures (command-head _ _ _ _ (c .before .before .before .before .before .pre .1))) (c .before .if1 .taken)))
 
-write-command-add-write-sequence : (t : ℕ) → write-command-lts.Need-add-write-sequence (write-command-callees t) (write-command-at t) write-command.Post write-command-Inv-loop write-command-μ-loop
-write-command-add-write-sequence t c = omega (arith, sub-few _ _ _ _ (c .before .before .before .before .before .before .before .before .pre .1) _ _ (c .before .before .before .before .before .«open» .ensures (command-head _ _ _ _ (c .before .before .before .before .before .before .before .before .pre .1))) (c .before .before .before .before .if1 .taken) _ (c .before .before .size-sequence .ensures (sub-here _ _ _ _ (c .before .before .before .before .before .before .before .before .pre .1) _ _ (c .before .before .before .before .before .«open» .ensures (command-head _ _ _ _ (c .before .before .before .before .before .before .before .before .pre .1))) (c .before .before .before .before .if1 .taken) _ _ (c .before .before .before .open2 .ensures (sub-head _ _ _ _ (c .before .before .before .before .before .before .before .before .pre .1) _ _ (c .before .before .before .before .before .«open» .ensures (command-head _ _ _ _ (c .before .before .before .before .before .before .before .before .pre .1))) (c .before .before .before .before .if1 .taken)))) .records))
+write-command-record-after-requires : (t : ℕ) → write-command-lts.Need-record-after-requires (write-command-callees t) (write-command-at t) write-command.Post write-command-Inv-loop write-command-μ-loop
+write-command-record-after-requires t c κs = omega (arith, sub-few _ _ _ _ (c .before .before .before .before .before .before .pre .1) _ _ (c .before .before .before .«open» .ensures (command-head _ _ _ _ (c .before .before .before .before .before .before .pre .1))) (c .before .before .if1 .taken) _ (c .size-sequence .ensures (sub-here _ _ _ _ (c .before .before .before .before .before .before .pre .1) _ _ (c .before .before .before .«open» .ensures (command-head _ _ _ _ (c .before .before .before .before .before .before .pre .1))) (c .before .before .if1 .taken) _ _ (c .before .open2 .ensures (sub-head _ _ _ _ (c .before .before .before .before .before .before .pre .1) _ _ (c .before .before .before .«open» .ensures (command-head _ _ _ _ (c .before .before .before .before .before .before .pre .1))) (c .before .before .if1 .taken)))) .records))
 
 write-command-enter-requires : (t : ℕ) → write-command-lts.Need-enter-requires (write-command-callees t) (write-command-at t) write-command.Post write-command-Inv-loop write-command-μ-loop
 write-command-enter-requires t c κs = search needs
 
 write-command-write-sequence-requires : (t : ℕ) → write-command-lts.Need-write-sequence-requires (write-command-callees t) (write-command-at t) write-command.Post write-command-Inv-loop write-command-μ-loop
-write-command-write-sequence-requires t c κs = (omega (arith, c .before .before .before .before .before .before .before .before .before .before .pre .0), rw (c .before .enter .ensures) (sub-job _ _ _ _ (c .before .before .before .before .before .before .before .before .before .before .pre .1) _ _ (c .before .before .before .before .before .before .before .«open» .ensures (command-head _ _ _ _ (c .before .before .before .before .before .before .before .before .before .before .pre .1))) (c .before .before .before .before .before .before .if1 .taken) _ _ (c .before .before .before .before .before .open2 .ensures (sub-head _ _ _ _ (c .before .before .before .before .before .before .before .before .before .before .pre .1) _ _ (c .before .before .before .before .before .before .before .«open» .ensures (command-head _ _ _ _ (c .before .before .before .before .before .before .before .before .before .before .pre .1))) (c .before .before .before .before .before .before .if1 .taken)))))
+write-command-write-sequence-requires t c κs = (omega (arith, c .before .before .before .before .before .before .before .before .before .pre .0), rw (c .before .enter .ensures) (sub-job _ _ _ _ (c .before .before .before .before .before .before .before .before .before .pre .1) _ _ (c .before .before .before .before .before .before .«open» .ensures (command-head _ _ _ _ (c .before .before .before .before .before .before .before .before .before .pre .1))) (c .before .before .before .before .before .if1 .taken) _ _ (c .before .before .before .before .open2 .ensures (sub-head _ _ _ _ (c .before .before .before .before .before .before .before .before .before .pre .1) _ _ (c .before .before .before .before .before .before .«open» .ensures (command-head _ _ _ _ (c .before .before .before .before .before .before .before .before .before .pre .1))) (c .before .before .before .before .before .if1 .taken)))))
 
 write-command-add-enter : (t : ℕ) → write-command-lts.Need-add-enter (write-command-callees t) (write-command-at t) write-command.Post write-command-Inv-loop write-command-μ-loop
-write-command-add-enter t c = omega (arith, c .before .before .before .before .before .before .before .before .before .before .before .before .before .before .good .0, c .before .before .before .before .before .before .before .before .before .before .before .before .before .before .fits, sub-fits _ _ _ _ (c .before .before .before .before .before .before .before .before .before .before .before .before .before .before .pre .1) _ _ (c .before .before .before .before .before .before .before .before .before .before .before .«open» .ensures (command-head _ _ _ _ (c .before .before .before .before .before .before .before .before .before .before .before .before .before .before .pre .1))) (c .before .before .before .before .before .before .before .before .before .before .if1 .taken), (c .before .before .before .before .before .before .before .before .before .open2 .ensures (sub-head _ _ _ _ (c .before .before .before .before .before .before .before .before .before .before .before .before .before .before .pre .1) _ _ (c .before .before .before .before .before .before .before .before .before .before .before .«open» .ensures (command-head _ _ _ _ (c .before .before .before .before .before .before .before .before .before .before .before .before .before .before .pre .1))) (c .before .before .before .before .before .before .before .before .before .before .if1 .taken))) .0, (c .before .before .before .before .before .before .before .before .before .open2 .ensures (sub-head _ _ _ _ (c .before .before .before .before .before .before .before .before .before .before .before .before .before .before .pre .1) _ _ (c .before .before .before .before .before .before .before .before .before .before .before .«open» .ensures (command-head _ _ _ _ (c .before .before .before .before .before .before .before .before .before .before .before .before .before .before .pre .1))) (c .before .before .before .before .before .before .before .before .before .before .if1 .taken))) .1)
+write-command-add-enter t c = omega (arith, c .before .before .before .before .before .before .before .before .before .before .before .before .before .good .0, c .before .before .before .before .before .before .before .before .before .before .before .before .before .fits, sub-fits _ _ _ _ (c .before .before .before .before .before .before .before .before .before .before .before .before .before .pre .1) _ _ (c .before .before .before .before .before .before .before .before .before .before .«open» .ensures (command-head _ _ _ _ (c .before .before .before .before .before .before .before .before .before .before .before .before .before .pre .1))) (c .before .before .before .before .before .before .before .before .before .if1 .taken), (c .before .before .before .before .before .before .before .before .open2 .ensures (sub-head _ _ _ _ (c .before .before .before .before .before .before .before .before .before .before .before .before .before .pre .1) _ _ (c .before .before .before .before .before .before .before .before .before .before .«open» .ensures (command-head _ _ _ _ (c .before .before .before .before .before .before .before .before .before .before .before .before .before .pre .1))) (c .before .before .before .before .before .before .before .before .before .if1 .taken))) .0, (c .before .before .before .before .before .before .before .before .open2 .ensures (sub-head _ _ _ _ (c .before .before .before .before .before .before .before .before .before .before .before .before .before .pre .1) _ _ (c .before .before .before .before .before .before .before .before .before .before .«open» .ensures (command-head _ _ _ _ (c .before .before .before .before .before .before .before .before .before .before .before .before .before .pre .1))) (c .before .before .before .before .before .before .before .before .before .if1 .taken))) .1)
 
 write-command-enter-requires-2 : (t : ℕ) → write-command-lts.Need-enter-requires-2 (write-command-callees t) (write-command-at t) write-command.Post write-command-Inv-loop write-command-μ-loop
 write-command-enter-requires-2 t c κs = search needs
@@ -102,7 +103,7 @@ write-command-same-length : (t : ℕ) → write-command-lts.Need-same-length (wr
 write-command-same-length t c = search needs
 
 write-command-returns : (t : ℕ) → write-command-lts.Need-returns (write-command-callees t) (write-command-at t) write-command.Post write-command-Inv-loop write-command-μ-loop
-write-command-returns t c = λ j. rw (c .enter2 .ensures) (sub-wrote _ _ _ _ j _ _ (c .before .before .before .before .before .before .before .before .before .before .before .before .«open» .ensures (command-head _ _ _ _ j)) (c .before .before .before .before .before .before .before .before .before .before .before .if1 .taken) _ _ (c .before .before .before .before .before .before .before .before .before .before .open2 .ensures (sub-head _ _ _ _ j _ _ (c .before .before .before .before .before .before .before .before .before .before .before .before .«open» .ensures (command-head _ _ _ _ j)) (c .before .before .before .before .before .before .before .before .before .before .before .if1 .taken))) _ _ (c .before .before .before .before .before .before .before .before .before .size-sequence .ensures (sub-here _ _ _ _ j _ _ (c .before .before .before .before .before .before .before .before .before .before .before .before .«open» .ensures (command-head _ _ _ _ j)) (c .before .before .before .before .before .before .before .before .before .before .before .if1 .taken) _ _ (c .before .before .before .before .before .before .before .before .before .before .open2 .ensures (sub-head _ _ _ _ j _ _ (c .before .before .before .before .before .before .before .before .before .before .before .before .«open» .ensures (command-head _ _ _ _ j)) (c .before .before .before .before .before .before .before .before .before .before .before .if1 .taken)))) .records) _ _ ((rw (c .before .before .before .before .before .before .enter .ensures) at (c .before .before .before .before .write-sequence .ensures)) (sub-job _ _ _ _ j _ _ (c .before .before .before .before .before .before .before .before .before .before .before .before .«open» .ensures (command-head _ _ _ _ j)) (c .before .before .before .before .before .before .before .before .before .before .before .if1 .taken) _ _ (c .before .before .before .before .before .before .before .before .before .before .open2 .ensures (sub-head _ _ _ _ j _ _ (c .before .before .before .before .before .before .before .before .before .before .before .before .«open» .ensures (command-head _ _ _ _ j)) (c .before .before .before .before .before .before .before .before .before .before .before .if1 .taken))))))
+write-command-returns t c = λ j. rw (c .enter2 .ensures) (sub-wrote _ _ _ _ j _ _ (c .before .before .before .before .before .before .before .before .before .before .before .«open» .ensures (command-head _ _ _ _ j)) (c .before .before .before .before .before .before .before .before .before .before .if1 .taken) _ _ (c .before .before .before .before .before .before .before .before .before .open2 .ensures (sub-head _ _ _ _ j _ _ (c .before .before .before .before .before .before .before .before .before .before .before .«open» .ensures (command-head _ _ _ _ j)) (c .before .before .before .before .before .before .before .before .before .before .if1 .taken))) _ _ (c .before .before .before .before .before .before .before .before .size-sequence .ensures (sub-here _ _ _ _ j _ _ (c .before .before .before .before .before .before .before .before .before .before .before .«open» .ensures (command-head _ _ _ _ j)) (c .before .before .before .before .before .before .before .before .before .before .if1 .taken) _ _ (c .before .before .before .before .before .before .before .before .before .open2 .ensures (sub-head _ _ _ _ j _ _ (c .before .before .before .before .before .before .before .before .before .before .before .«open» .ensures (command-head _ _ _ _ j)) (c .before .before .before .before .before .before .before .before .before .before .if1 .taken)))) .records) _ _ ((rw (c .before .before .before .before .before .before .enter .ensures, c .before .before .before .before .before .before .before .record-after .ensures) at (c .before .before .before .before .write-sequence .ensures)) (sub-job _ _ _ _ j _ _ (c .before .before .before .before .before .before .before .before .before .before .before .«open» .ensures (command-head _ _ _ _ j)) (c .before .before .before .before .before .before .before .before .before .before .if1 .taken) _ _ (c .before .before .before .before .before .before .before .before .before .open2 .ensures (sub-head _ _ _ _ j _ _ (c .before .before .before .before .before .before .before .before .before .before .before .«open» .ensures (command-head _ _ _ _ j)) (c .before .before .before .before .before .before .before .before .before .before .if1 .taken))))))
 
 write-command-size-command-requires : (t : ℕ) → write-command-lts.Need-size-command-requires (write-command-callees t) (write-command-at t) write-command.Post write-command-Inv-loop write-command-μ-loop
 write-command-size-command-requires t c κs = command-here _ _ _ _ (c .before .before .before .before .before .pre .1)
@@ -122,11 +123,11 @@ write-command-open-requires-4 t c κs = choice-head _ _ _ _ _ _ _ _ _ _ _ _ _ (c
 write-command-size-sequence-requires-2 : (t : ℕ) → write-command-lts.Need-size-sequence-requires-2 (write-command-callees t) (write-command-at t) write-command.Post write-command-Inv-loop write-command-μ-loop
 write-command-size-sequence-requires-2 t c κs = choice-here _ _ _ _ _ _ _ _ _ _ _ _ _ (c .before .before .loop .inv .1 (c .before .before .before .before .before .before .before .before .before .before .before .before .pre .1)) _ _ (c .open4 .ensures (choice-head _ _ _ _ _ _ _ _ _ _ _ _ _ (c .before .before .loop .inv .1 (c .before .before .before .before .before .before .before .before .before .before .before .before .pre .1))))
 
+write-command-add-write-sequence : (t : ℕ) → write-command-lts.Need-add-write-sequence (write-command-callees t) (write-command-at t) write-command.Post write-command-Inv-loop write-command-μ-loop
+write-command-add-write-sequence t c = omega (arith, choice-few _ _ _ _ _ _ _ _ _ _ _ _ _ (c .before .before .before .before .before .loop .inv .1 (c .before .before .before .before .before .before .before .before .before .before .before .before .before .before .before .pre .1)) (c .before .before .before .before .loop-test .taken) _ (c .before .before .size-sequence2 .ensures (choice-here _ _ _ _ _ _ _ _ _ _ _ _ _ (c .before .before .before .before .before .loop .inv .1 (c .before .before .before .before .before .before .before .before .before .before .before .before .before .before .before .pre .1)) _ _ (c .before .before .before .open4 .ensures (choice-head _ _ _ _ _ _ _ _ _ _ _ _ _ (c .before .before .before .before .before .loop .inv .1 (c .before .before .before .before .before .before .before .before .before .before .before .before .before .before .before .pre .1))))) .records))
+
 write-command-add-write-sequence-2 : (t : ℕ) → write-command-lts.Need-add-write-sequence-2 (write-command-callees t) (write-command-at t) write-command.Post write-command-Inv-loop write-command-μ-loop
 write-command-add-write-sequence-2 t c = omega (arith, choice-few _ _ _ _ _ _ _ _ _ _ _ _ _ (c .before .before .before .before .before .loop .inv .1 (c .before .before .before .before .before .before .before .before .before .before .before .before .before .before .before .pre .1)) (c .before .before .before .before .loop-test .taken) _ (c .before .before .size-sequence2 .ensures (choice-here _ _ _ _ _ _ _ _ _ _ _ _ _ (c .before .before .before .before .before .loop .inv .1 (c .before .before .before .before .before .before .before .before .before .before .before .before .before .before .before .pre .1)) _ _ (c .before .before .before .open4 .ensures (choice-head _ _ _ _ _ _ _ _ _ _ _ _ _ (c .before .before .before .before .before .loop .inv .1 (c .before .before .before .before .before .before .before .before .before .before .before .before .before .before .before .pre .1))))) .records))
-
-write-command-add-write-sequence-3 : (t : ℕ) → write-command-lts.Need-add-write-sequence-3 (write-command-callees t) (write-command-at t) write-command.Post write-command-Inv-loop write-command-μ-loop
-write-command-add-write-sequence-3 t c = omega (arith, choice-few _ _ _ _ _ _ _ _ _ _ _ _ _ (c .before .before .before .before .before .loop .inv .1 (c .before .before .before .before .before .before .before .before .before .before .before .before .before .before .before .pre .1)) (c .before .before .before .before .loop-test .taken) _ (c .before .before .size-sequence2 .ensures (choice-here _ _ _ _ _ _ _ _ _ _ _ _ _ (c .before .before .before .before .before .loop .inv .1 (c .before .before .before .before .before .before .before .before .before .before .before .before .before .before .before .pre .1)) _ _ (c .before .before .before .open4 .ensures (choice-head _ _ _ _ _ _ _ _ _ _ _ _ _ (c .before .before .before .before .before .loop .inv .1 (c .before .before .before .before .before .before .before .before .before .before .before .before .before .before .before .pre .1))))) .records))
 
 write-command-enter-requires-3 : (t : ℕ) → write-command-lts.Need-enter-requires-3 (write-command-callees t) (write-command-at t) write-command.Post write-command-Inv-loop write-command-μ-loop
 write-command-enter-requires-3 t c κs = search needs
@@ -225,7 +226,7 @@ pub +write-command+write-sequence-spec : {M : Type 1} → statement M
     (write-command-open-requires t)
     (write-command-open-requires-2 t)
     (write-command-size-sequence-requires t)
-    (write-command-add-write-sequence t)
+    (write-command-record-after-requires t)
     (write-command-enter-requires t)
     (write-command-write-sequence-requires t)
     (write-command-add-enter t)
@@ -238,8 +239,8 @@ pub +write-command+write-sequence-spec : {M : Type 1} → statement M
     (write-command-loop-holds t)
     (write-command-open-requires-4 t)
     (write-command-size-sequence-requires-2 t)
+    (write-command-add-write-sequence t)
     (write-command-add-write-sequence-2 t)
-    (write-command-add-write-sequence-3 t)
     (write-command-enter-requires-3 t)
     (write-command-write-sequence-requires-2 t)
     (write-command-put-jump-requires t)
