@@ -1,0 +1,54 @@
+// Demand 3 over the jobs: an envelope is translated, its program is run, and the envelope itself is run.
+ghost use Rattle.agreement.specs.Agreement.{Agreed};
+use frame::answer::Answer;
+use frame::answer::Outcome;
+use player::run_program;
+use rules::answers::Group;
+use rules::controller::Controller;
+use runner::run;
+use translator::Translated;
+use translator::translate;
+
+// What each of the three jobs answered. Where the translation was refused, no program was run, and its answer is that refusal.
+pub struct Agreement {
+    pub translated: Translated,
+    pub program: Outcome,
+    pub envelope: Outcome,
+}
+
+// Translates the envelope s into the room, runs the program that is there on pslots and ptrace, and runs s on eslots and etrace.
+pub fn agree(
+    s: &[u8],
+    group: Group,
+    verdict: bool,
+    device: Controller,
+    answers: &[u8],
+    room: &mut [u8],
+    pslots: &mut [u8],
+    ptrace: &mut [u8],
+    eslots: &mut [u8],
+    etrace: &mut [u8],
+) -> Agreement
+    ensures { λ r. ⌜ Agreed (now (s .entry)) group verdict device (now (answers .entry)) (now (room .entry)) (now (room .exit)) (now (pslots .entry)) (now (pslots .exit)) (now (ptrace .entry)) (now (ptrace .exit)) (now (eslots .entry)) (now (eslots .exit)) (now (etrace .entry)) (now (etrace .exit)) r ⌝ }
+{
+    let envelope = run(s, group, verdict, device, eslots, answers, etrace);
+    let translated = translate(s, group, room);
+    match translated {
+        Translated::Refused(refusal, at) => Agreement {
+            translated: Translated::Refused(refusal, at),
+            program: Outcome {
+                answer: Answer::Refused(refusal, at),
+                number: device.number,
+            },
+            envelope,
+        },
+        Translated::Program(n) => {
+            let program = run_program(&room[0..n], verdict, device, pslots, answers, ptrace);
+            Agreement {
+                translated: Translated::Program(n),
+                program,
+                envelope,
+            }
+        }
+    }
+}
