@@ -3,6 +3,7 @@ use Prim.Native.Nat.{ℕ, _+_, _-_, _≤_, _<_}
 use mathlib.Core.Path.{_≡_, refl, sym, ap, _∙_}
 use mathlib.Core.Bool.{Bool, true, false, cond}
 use mathlib.Core.List.{[], _∷_}
+use mathlib.Core.Logic.{_⊎_, inl, inr}
 use mathlib.Core.Option.{some, none}
 use native.Mathlib.Omega.{arith}
 use lib.Dec.{eqb}
@@ -12,6 +13,7 @@ use Rattle.rules.specs.Bytes.{Bytes, part, be4}
 use Rattle.rules.specs.Program.{entry, paramBytes, argBytes}
 use Rattle.theorems.proofs.OpLaws.{weight-is}
 use Rattle.rules.proofs.BytesLaws.{length-part}
+use Rattle.tables.proofs.KindLaws.{Other}
 use Rattle.slots.specs.Params.{optional, meaning, Fit}
 use Rattle.commands.specs.Op.{opOf}
 use Rattle.accepted.specs.declared.arguments.Args.{Args}
@@ -88,20 +90,15 @@ module _ (s : Bytes) (c v n : ℕ) (a : Args) (f : Fit s n (paramsOf a)) (w : Wi
 pub argument-is : (s : Bytes) (c at : ℕ) (x : One s c at) (a : Args) → ReadAs s c at x a → argumentSize c a ≡ length (argBytes (x .op))
 argument-is s c at x a r = op-size s c (a .value) (x .n) a (r .fit) (r .within) (r .sixteen) ∙ ap (λ y. length (argBytes y)) (r .op)
 
--- by the ranges of codes
-pub sixteen-size : (c : ℕ) (a : Args) → 0 < c → c < 3 → 16 ≡ argumentSize c a
-sixteen-size c a l h = go (eqb c 1) refl
-  where
-    go : (b : Bool) → eqb c 1 ≡ b → 16 ≡ argumentSize c a
-    go true e = rw e
-    go false e = let d : c ≡ 1 → ⊥ = eqb-false c 1 e in let z : c ≡ 2 = omega (arith, d, l, h) in rw z
+-- by the codes of each kind
+pub sixteen-size : (c : ℕ) (a : Args) → (c ≡ 1) ⊎ (c ≡ 2) → 16 ≡ argumentSize c a
+sixteen-size c a (inl k) = rw k
+sixteen-size c a (inr k) = rw k
 
-pub parameters-size : (c : ℕ) (a : Args) → 19 ≤ c → c < 21 → parametersSize a ≡ argumentSize c a
-parameters-size c a l h = go (eqb c 19) refl
-  where
-    go : (b : Bool) → eqb c 19 ≡ b → parametersSize a ≡ argumentSize c a
-    go true e = let z : c ≡ 19 = eqb-true c 19 e in rw z
-    go false e = let d : c ≡ 19 → ⊥ = eqb-false c 19 e in let z : c ≡ 20 = omega (arith, d, l, h) in rw z
+pub parameters-size : (c : ℕ) (a : Args) → (c ≡ 19) ⊎ (c ≡ 20) → parametersSize a ≡ argumentSize c a
+parameters-size c a (inl k) = rw k
+parameters-size c a (inr k) = rw k
 
-pub no-size : (c : ℕ) (a : Args) → (c ≡ 1 → ⊥) → (c ≡ 2 → ⊥) → (c ≡ 19 → ⊥) → (c ≡ 20 → ⊥) → 0 ≡ argumentSize c a
-no-size c a d₁ d₂ d₁₉ d₂₀ = rw (ne-eqb c 1 d₁, ne-eqb c 2 d₂, ne-eqb c 19 d₁₉, ne-eqb c 20 d₂₀)
+pub no-size : (c : ℕ) (a : Args) → Other c → 0 ≡ argumentSize c a
+no-size c a (f, g) =
+    rw (ne-eqb c 1 (λ e. omega (arith, f (omega arith))), ne-eqb c 2 (λ e. omega (arith, f (omega arith))), ne-eqb c 19 (λ e. omega (arith, g (omega arith))), ne-eqb c 20 (λ e. omega (arith, g (omega arith))))

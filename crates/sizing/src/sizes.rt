@@ -5,7 +5,9 @@ ghost use Rattle.sizing.specs.Size.{parametersSize, argumentSize, most, 
 use accepted::arguments::Args;
 use accepted::arguments::read_one;
 use accepted::heads::open;
+use rules::tables::Argument;
 use slots::params::either;
+use tables::argument_of;
 
 // Records, the bytes of their arguments, and the place after what was read.
 pub struct Size {
@@ -27,15 +29,18 @@ fn parameters_size(a: Args) -> usize
     text + uri + source + digest + size
 }
 
-// How many bytes the argument of a command has in its record.
+// How many bytes the argument of a command has in its record, by its kind in the table.
 pub fn argument_size(code: usize, a: Args) -> usize
     requires { ⌜ argumentSize code a ≤ most ⌝ }
     ensures { λ r. ⌜ r ≡ argumentSize code a ⌝ }
 {
-    match code {
-        1 | 2 => 16,
-        19 | 20 => parameters_size(a),
-        _ => 0,
+    match argument_of(code) {
+        Argument::Sixteen => 16,
+        Argument::Parameters => parameters_size(a),
+        Argument::Nil => 0,
+        Argument::Index => 0,
+        Argument::Alternatives => 0,
+        Argument::Sequence => 0,
     }
 }
 

@@ -1,1 +1,2 @@
 pub mod LookUpLaws
+pub mod KindLaws

@@ -3,6 +3,7 @@ ghost use mathlib.Core.Path.{_≡_};
 ghost use mathlib.Core.List.{[], map};
 ghost use Rattle.rules.specs.declared.tables.Listed.the-variants as L;
 ghost use Rattle.rules.specs.Commands.{commands, rowOf, params, paramOf};
+ghost use Rattle.tables.specs.Kinds.{kindOf};
 ghost use Rattle.rules.specs.Tables.{asCommand, asParameterRow, listed, known, argumentNumber, argumentAt, parameterNumber, knownAt, packed, tableOf, byNumber};
 use rules::tables::Argument;
 use rules::tables::Command;
@@ -258,4 +259,15 @@ pub fn command_of(code: usize) -> Listed
     ensures { λ r. ⌜ r ≡ listed (rowOf code commands) ⌝ }
 {
     look_up(&tables(), code)
+}
+
+// What stands after the code of a command; nil where the code is not listed.
+pub fn argument_of(code: usize) -> Argument
+    ensures { λ r. ⌜ r ≡ kindOf code ⌝ }
+{
+    let row = command_of(code);
+    match row {
+        Listed::Command(command) => command.argument,
+        Listed::Unlisted => Argument::Nil,
+    }
 }

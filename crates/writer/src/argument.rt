@@ -10,6 +10,8 @@ ghost use Rattle.accepted.specs.Arguments.{paramsOf, Within};
 ghost use Rattle.writer.specs.Write.{Filled};
 use crate::bytes::copy;
 use accepted::arguments::Args;
+use rules::tables::Argument;
+use tables::argument_of;
 
 // The URI or the digest under that key: the n bytes of s from `from` on; 0 is unset.
 fn put_string(s: &[u8], key: u8, from: usize, n: usize, room: &mut [u8], to: usize) -> usize
@@ -68,17 +70,20 @@ fn put_parameters(s: &[u8], a: Args, room: &mut [u8], to: usize) -> usize
     put_size(a.size, room, r)
 }
 
-// The argument of the command of that code.
+// The argument of the command of that code, by its kind in the table.
 pub fn put_argument(s: &[u8], code: usize, a: Args, room: &mut [u8], to: usize) -> usize
     requires { ⌜ Within (now s) (paramsOf a) × Fit (now s) 256 (paramsOf a) × (code < 3 → a .value + 16 ≤ length (now s)) × IsCode (now s) code (a .value) (paramsOf a) × (to + length (argBytes (opOf (now s) code (a .value) (paramsOf a))) ≤ length (now room)) ⌝ }
     ensures { λ r. ⌜ Filled (argBytes (opOf (now (s .entry)) code (a .value) (paramsOf a))) to (now (room .entry)) r (now (room .exit)) ⌝ }
 {
-    match code {
-        1 | 2 => {
+    match argument_of(code) {
+        Argument::Sixteen => {
             copy(s, a.value, 16, room, to);
             to + 16
         }
-        19 | 20 => put_parameters(s, a, room, to),
-        _ => to,
+        Argument::Parameters => put_parameters(s, a, room, to),
+        Argument::Nil => to,
+        Argument::Index => to,
+        Argument::Alternatives => to,
+        Argument::Sequence => to,
     }
 }

@@ -1,31 +1,49 @@
-use mathlib.Core.Path.{_∙_}
+use mathlib.Core.Path.{sym, _∙_}
 use native.Mathlib.Omega.{arith}
+use borrow.Author.Needs.{needs}
+use Rattle.tables.proofs.KindLaws.{sixteen-codes, parameter-codes, nil-codes, index-codes, alternative-codes, sequence-codes}
 use Rattle.sizing.proofs.ArgumentSizes.{sixteen-size, parameters-size, no-size}
 use Rattle.sizing.proofs.sizes.argument_size.Statement.{statement}
 use Rattle.sizing.proofs.sizes.argument_size.Tie as tie
 
-parameters-size-requires : tie.Need-parameters-size-requires
-parameters-size-requires c κs =
-    omega (
-      arith,
-      c .before .before .before .before .pre,
-      parameters-size (c .before .before .before .before .args .code) (c .before .before .before .before .args .a) (omega (arith, c .before .if3)) (omega (arith, c .if4)),
-    )
+counts : tie.Need-parameters-size-requires
+counts c κs =
+    let d = c .before .before .before in
+    omega (arith, d .pre, parameters-size (d .args .code) (d .args .a) (parameter-codes _ (sym (c .before .before .argument-of .ensures) ∙ c .enum-told2 .given .1)))
 
-returns : tie.Need-returns
-returns c = sixteen-size (c .before .before .args .code) (c .before .before .args .a) (omega (arith, c .before .if1)) (omega (arith, c .if2))
+sixteen : tie.Need-returns
+sixteen c = let d = c .before .before .before in sixteen-size (d .args .code) (d .args .a) (sixteen-codes _ (sym (c .before .before .argument-of .ensures) ∙ c .enum-told .given .1))
 
-returns-2 : tie.Need-returns-2
-returns-2 c = c .parameters-size .ensures ∙ parameters-size (c .before .before .before .before .before .args .code) (c .before .before .before .before .before .args .a) (omega (arith, c .before .before .if3)) (omega (arith, c .before .if4))
+parameters : tie.Need-returns-2
+parameters c = let d = c .before .before .before .before in c .parameters-size .ensures ∙ parameters-size (d .args .code) (d .args .a) (parameter-codes _ (sym (c .before .before .before .argument-of .ensures) ∙ c .before .enum-told2 .given .1))
 
-returns-3 : tie.Need-returns-3
-returns-3 c = no-size (c .before .args .code) (c .before .args .a) (λ z. omega (arith, c .if1)) (λ z. omega (arith, c .if1)) (λ z. omega (arith, c .if1)) (λ z. omega (arith, c .if1))
+nil : tie.Need-returns-3
+nil c = let d = c .before .before .before in no-size (d .args .code) (d .args .a) (nil-codes _ (sym (c .before .before .argument-of .ensures) ∙ c .enum-told3 .given .1))
 
-returns-4 : tie.Need-returns-4
-returns-4 c = no-size (c .before .before .before .args .code) (c .before .before .before .args .a) (λ z. omega (arith, c .before .if2)) (λ z. omega (arith, c .before .if2)) (λ z. omega (arith, c .if3)) (λ z. omega (arith, c .if3))
+index : tie.Need-returns-4
+index c = let d = c .before .before .before in no-size (d .args .code) (d .args .a) (index-codes _ (sym (c .before .before .argument-of .ensures) ∙ c .enum-told4 .given .1))
 
-returns-5 : tie.Need-returns-5
-returns-5 c = no-size (c .before .before .before .before .args .code) (c .before .before .before .before .args .a) (λ z. omega (arith, c .before .if3)) (λ z. omega (arith, c .before .if3)) (λ z. omega (arith, c .if4)) (λ z. omega (arith, c .if4))
+alternatives : tie.Need-returns-5
+alternatives c = let d = c .before .before .before in no-size (d .args .code) (d .args .a) (alternative-codes _ (sym (c .before .before .argument-of .ensures) ∙ c .enum-told5 .given .1))
+
+sequence : tie.Need-returns-6
+sequence c = let d = c .before .before .before in no-size (d .args .code) (d .args .a) (sequence-codes _ (sym (c .before .before .argument-of .ensures) ∙ c .enum-told6 .given .1))
 
 pub argument-size-spec : {M : Type 1} → statement M
-argument-size-spec = tie.close (tie.spec parameters-size-requires returns returns-2 returns-3 returns-4 returns-5)
+argument-size-spec =
+    tie.close
+    (tie.spec
+    (λ c κs. search needs)
+    (λ c. search needs)
+    (λ c. search needs)
+    counts
+    (λ c. search needs)
+    (λ c. search needs)
+    (λ c. search needs)
+    (λ c. search needs)
+    sixteen
+    parameters
+    nil
+    index
+    alternatives
+    sequence)
