@@ -1,6 +1,6 @@
 -- Whether the section of a number is there and the group's, and the sections that are left after it.
 use Prim.Native.Nat.{ℕ, _+_, _*_, _<_}
-use mathlib.Core.Path.{_≡_, refl, sym}
+use mathlib.Core.Path.{_≡_, refl, sym, _∙_}
 use mathlib.Core.List.{List}
 use mathlib.Core.Bool.{Bool, true, false, cond}
 use mathlib.Core.Logic.{_⊎_, inl, inr}
@@ -16,6 +16,10 @@ use Rattle.rules.specs.Run.{sectionsOf}
 use Rattle.accepted.specs.Sections.{keyOf}
 use Rattle.accepted.proofs.SectionsRead.{Rest, Here, rest-none, rest-some}
 
+-- a test has one answer
+pub one-answer : {A : Type 0} (b : Bool) → b ≡ true → b ≡ false → A
+one-answer b t f = let z : _≡_ {A = Bool} true false = sym t ∙ f in let y : _≡_ {A = ℕ} 0 1 = cc in absurd (omega arith)
+
 abbrev pub Wanted : Group → List ℕ → ℕ → Bool → Type 0
 Wanted group places k w = w ≡ cond (eqb (getD places (2 * k + 1) 0) 0) false (among (keyOf k) (sectionsOf group))
 
@@ -28,7 +32,7 @@ module _ (s : Bytes) (n : ℕ) (group : Group) (places : List ℕ) (k m : ℕ) (
   taken w = go (eqb (getD places (2 * k + 1) 0) 0) refl
     where
       go : (b : Bool) → eqb (getD places (2 * k + 1) 0) 0 ≡ b → Taken
-      go true e = let y : _≡_ {A = Bool} true false = rw e at w in let z : _≡_ {A = ℕ} 0 1 = cc in absurd (omega arith)
+      go true e = one-answer true refl (rw e at w)
       go false e = let x = rest-some s n places k m rest h (eqb-false _ 0 e) r in (x, rw (x .key) (sym (rw e at w)))
 
   -- section k is not there, or not the group's

@@ -44,7 +44,8 @@ nonJumps-append [] ys = omega arith
 nonJumps-append (does op i p t ∷ xs) ys = omega (arith, nonJumps-append xs ys)
 nonJumps-append (jump t ∷ xs) ys = nonJumps-append xs ys
 
-bytes : List Rec → ℕ
+-- how many bytes records have
+unfoldable pub bytes : List Rec → ℕ
 bytes rs = length (flat (map recBytes rs))
 
 bytes-append : (xs ys : List Rec) → bytes (xs ++ ys) ≡ bytes xs + bytes ys
@@ -68,7 +69,7 @@ bytes-none = refl
 mutual
   unfolding flatSeq size count argSize
 
-  sum-seq : (a : Seq) (own : Bool) (i : ℕ) (c : Bool) (t z k : ℕ) →
+  pub sum-seq : (a : Seq) (own : Bool) (i : ℕ) (c : Bool) (t z k : ℕ) →
       (nonJumps (flatSeq a own i c t z k) ≤ count a) × (bytes (flatSeq a own i c t z k) ≡ 10 * size a + argSize a)
   sum-seq end own i c t z k = (omega arith, bytes-none)
   sum-seq (then x xs) own i c t z k =
@@ -78,7 +79,7 @@ mutual
       let r′ = sum-seq xs own (indexAfter x i) (coerceAfter x c) t z (k + sizeCmd x) in
       (omega (arith, r .0, r′ .0, nonJumps-append f f′), omega (arith, r .1, r′ .1, bytes-append f f′))
 
-  sum-cmd : (x : Cmd) (i t k : ℕ) → (nonJumps (flatCmd x i t k) ≤ countCmd x) × (bytes (flatCmd x i t k) ≡ 10 * sizeCmd x + argSizeCmd x)
+  pub sum-cmd : (x : Cmd) (i t k : ℕ) → (nonJumps (flatCmd x i t k) ≤ countCmd x) × (bytes (flatCmd x i t k) ≡ 10 * sizeCmd x + argSizeCmd x)
   sum-cmd (one p op b) i t k = (omega arith, omega (arith, bytes-does op (component op i) p (targetOf op t)))
   sum-cmd (sub s) i t k = let r = sum-seq s true i false t (k + size s) k in (omega (arith, r .0), r .1)
   sum-cmd (try a) i t k = let r = sum-alts a i t (k + sizeAlts a) k in (omega (arith, r .0), r .1)

@@ -2,7 +2,7 @@
 use Prim.Native.Nat.{ℕ, _+_, _*_, _≤_, _<_}
 use mathlib.Core.Path.{_≡_, refl, sym, ap, _∙_}
 use mathlib.Core.List.{List, [], _∷_}
-use mathlib.Core.Bool.{Bool, true, false}
+use mathlib.Core.Bool.{true, false}
 use mathlib.Core.Logic.{inl, inr}
 use native.Mathlib.Omega.{arith}
 use lib.ListN.{length, getD, replicate}
@@ -16,10 +16,6 @@ use Rattle.manifest.specs.Sections.{placed}
 use Rattle.accepted.specs.Places.{SequenceAt}
 use Rattle.accepted.proofs.SectionsRead.{Rest, Here, rest-start, rest-end}
 use Rattle.accepted.proofs.SectionPlaces as Places
-
--- a test has one answer
-pub one-answer : {A : Type 0} (b : Bool) → b ≡ true → b ≡ false → A
-one-answer b t f = let z : _≡_ {A = Bool} true false = sym t ∙ f in let y : _≡_ {A = ℕ} 0 1 = cc in absurd (omega arith)
 
 module _ (s : Bytes) (n : ℕ) (group : Group) (places : List ℕ) where
   -- the sections from number k on

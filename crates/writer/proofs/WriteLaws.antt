@@ -17,6 +17,7 @@ use Rattle.rules.specs.Run.{indexAfter, coerceAfter}
 use Rattle.rules.specs.Program.{Rec, does, jump, targetOf, argBytes, size, sizeCmd, sizeAlts, flatSeq, flatCmd, flatAlts, recBytes}
 use Rattle.rules.specs.ProgramSize.{argSize, argSizeCmd, argSizeAlts}
 use Rattle.theorems.proofs.RunLaws.{length-seq, length-cmd}
+use Rattle.theorems.proofs.FlatLaws.{bytes, sum-seq, sum-cmd}
 use Rattle.accepted.specs.Heads.{Headed}
 use Rattle.accepted.specs.Arguments.{isTrue, One}
 use Rattle.accepted.specs.Places.{SequenceAt}
@@ -28,53 +29,27 @@ use Rattle.accepted.proofs.TryPlaces.{AltsAt, Choice, choice}
 use Rattle.writer.specs.declared.write.Pen.{Pen}
 use Rattle.sizing.specs.Size.{most, SequenceHere, CommandHere}
 use Rattle.writer.specs.Write.{written, SequenceJob, CommandJob, LeafJob, Wrote, CommandWrote, JumpWrote}
-
--- bytes put one after the other
-pub put-put : (a b r : Bytes) (to : ℕ) → put (put r to a) (to + length a) b ≡ put r to (a ++ b)
-put-put [] b r to = ap (λ (k : ℕ). put r k b) (omega arith)
-put-put (x ∷ a) b r to = ap (λ (k : ℕ). put (put r to (x ∷ a)) k b) (omega arith) ∙ put-put a b (set r to x) (suc to)
+use Rattle.writer.proofs.FillLaws.{put-append}
 
 pub written-append : (a b : List Rec) → written (a ++ b) ≡ written a ++ written b
 unfolding written
 written-append [] b = refl
 written-append (x ∷ a) b = ap (λ (w : Bytes). recBytes x ++ w) (written-append a b) ∙ sym (append-assoc (recBytes x) (written a) (written b))
 
-bytes-does : (op : Op) (i p t : ℕ) → length (written (does op i p t ∷ [])) ≡ 10 + length (argBytes op)
-unfolding written recBytes
-bytes-does op i p t = omega (arith, length-append (argBytes op) [])
-
 bytes-jump : (t : ℕ) → length (written (jump t ∷ [])) ≡ 10
 unfolding written recBytes
 bytes-jump t = refl
 
-bytes-none : length (written []) ≡ 0
-unfolding written
-bytes-none = refl
-
 length-written : (a b : List Rec) → length (written (a ++ b)) ≡ length (written a) + length (written b)
 length-written a b = ap length (written-append a b) ∙ length-append (written a) (written b)
 
-mutual
-  unfolding flatSeq size argSize
+pub bytes-seq : (a : Seq) (own : Bool) (i : ℕ) (c : Bool) (t z k : ℕ) → length (written (flatSeq a own i c t z k)) ≡ 10 * size a + argSize a
+unfolding written bytes
+bytes-seq a own i c t z k = sum-seq a own i c t z k .1
 
-  pub bytes-seq : (a : Seq) (own : Bool) (i : ℕ) (c : Bool) (t z k : ℕ) → length (written (flatSeq a own i c t z k)) ≡ 10 * size a + argSize a
-  bytes-seq end own i c t z k = bytes-none
-  bytes-seq (then x xs) own i c t z k =
-      let f : List Rec = flatCmd x i (cond (own && c) z t) k in
-      let f′ : List Rec = flatSeq xs own (indexAfter x i) (coerceAfter x c) t z (k + sizeCmd x) in
-      omega (arith, bytes-cmd x i (cond (own && c) z t) k, bytes-seq xs own (indexAfter x i) (coerceAfter x c) t z (k + sizeCmd x), length-written f f′)
-
-  pub bytes-cmd : (x : Cmd) (i t k : ℕ) → length (written (flatCmd x i t k)) ≡ 10 * sizeCmd x + argSizeCmd x
-  bytes-cmd (one p op b) i t k = omega (arith, bytes-does op (component op i) p (targetOf op t))
-  bytes-cmd (sub s) i t k = bytes-seq s true i false t (k + size s) k
-  bytes-cmd (try a) i t k = bytes-alts a i t (k + sizeAlts a) k
-
-  pub bytes-alts : (a : Alts) (i t z k : ℕ) → length (written (flatAlts a i t z k)) ≡ 10 * sizeAlts a + argSizeAlts a
-  bytes-alts (last s) i t z k = bytes-seq s false i false t z k
-  bytes-alts (or s a) i t z k =
-      let f : List Rec = flatSeq s false i false (k + size s + 1) z k in
-      let f′ : List Rec = flatAlts a i t z (k + size s + 1) in
-      omega (arith, bytes-seq s false i false (k + size s + 1) z k, bytes-alts a i t z (k + size s + 1), length-written f (jump z ∷ f′), length-written (jump z ∷ []) f′, bytes-jump z)
+bytes-cmd : (x : Cmd) (i t k : ℕ) → length (written (flatCmd x i t k)) ≡ 10 * sizeCmd x + argSizeCmd x
+unfolding written bytes
+bytes-cmd x i t k = sum-cmd x i t k .1
 
 -- nothing written
 pub wrote-none : (pen now : Pen) (room : Bytes) → now .to ≡ pen .to → now .n ≡ pen .n → Wrote [] pen room now room
@@ -86,7 +61,7 @@ pub wrote-then : (a b : List Rec) (pen : Pen) (room : Bytes) (now : Pen) (room�
     Wrote a pen room now room′ → Wrote b at room′ r room″ → Wrote (a ++ b) pen room r room″
 wrote-then a b pen room now room′ at r room″ e e′ w v =
     record {
-      filled = v .filled ∙ rw (e, w .to, w .filled, written-append a b) (put-put (written a) (written b) room (pen .to));
+      filled = v .filled ∙ rw (e, w .to, w .filled, written-append a b) (put-append room (pen .to) (written a) (written b));
       to = omega (arith, v .to, e, w .to, length-written a b);
       n = omega (arith, v .n, e′, w .n, length-append a b);
     }
