@@ -168,13 +168,9 @@ module _ (p : Bytes) (at next : ℕ) (s : at ≡ next → ⊥) where
   pub source-set : (x : ℕ) → at + 3 ≤ length p → x ≡ getD p (at + 2) 0 → x + 1 ≡ sourceIn p at next
   source-set x l e = rw (ne-eqb at next s) (omega (arith, num-1 p (at + 2) (omega arith)))
 
-  pub size-set : (x y : ℕ) → at + 6 ≤ length p → x ≡ getD p (at + 2) 0 * 256 + getD p (at + 2 + 1) 0 → y ≡ getD p (at + 4) 0 * 256 + getD p (at + 4 + 1) 0 →
-      x * 65536 + y + 1 ≡ sizeIn p at next
-  size-set x y l e f =
-      let a : at + 2 + 2 ≡ at + 4 = omega arith in
-      let b : at + 2 + 3 ≡ at + 4 + 1 = omega arith in
-      let q = rw (a, b) at (num-4 p (at + 2) (omega arith)) in
-      rw (ne-eqb at next s) (omega (arith, q))
+  pub size-set : (x : ℕ) → at + 6 ≤ length p →
+      x ≡ ((getD p (at + 2) 0 * 256 + getD p (at + 2 + 1) 0) * 256 + getD p (at + 2 + 2) 0) * 256 + getD p (at + 2 + 3) 0 → x + 1 ≡ sizeIn p at next
+  size-set x l e = rw (ne-eqb at next s) (omega (arith, num-4 p (at + 2) (omega arith)))
 
 module _ (p : Bytes) (at to key lo hi r : ℕ) (s : Step p at to key lo hi r) where
   pub step-length : (at ≡ r → ⊥) → at + 2 ≤ r

@@ -6,7 +6,7 @@ ghost use lib.ListN.{length};
 ghost use Rattle.rules.specs.Bytes.{part};
 ghost use Rattle.rules.specs.ProgramTest as Rule;
 ghost use Rattle.records.specs.Records.{nextIn, placeIn, lengthIn, sourceIn, sizeIn, ParamsAre};
-use numbers::two;
+use numbers::four;
 use numbers::wide;
 use rules::controller::Controller;
 
@@ -100,7 +100,7 @@ fn size_of(p: &[u8], at: usize, next: usize) -> usize
     if at == next {
         return 0;
     }
-    two(p, at + 2) * 65536 + two(p, at + 4) + 1
+    four(p, at + 2) + 1
 }
 
 // The parameters from `from` to `to`, for n components.

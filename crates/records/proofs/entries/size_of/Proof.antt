@@ -9,9 +9,7 @@ unset : tie.Need-returns
 unset c = rw (eq-eqb _ _ (c .if1 .taken))
 
 set : tie.Need-returns-2
-set c =
-    size-set _ _ _ (c .before .before .if1 .left) _ _ (c .before .before .before .before .pre (c .before .before .if1 .left)) (c .before .two .ensures .0)
-    (c .two2 .ensures .0)
+set c = size-set _ _ _ (c .before .if1 .left) _ (c .before .before .before .pre (c .before .if1 .left)) (c .four .ensures .0)
 
 pub size-of-spec : {M : Type 1} → statement M
 size-of-spec =
@@ -20,9 +18,5 @@ size-of-spec =
     unset
     (λ c. omega (arith, c .before .before .pre (c .if1 .left)))
     (λ c κs. omega (arith, c .before .before .pre (c .if1 .left)))
-    (λ c. search needs)
-    (λ c. omega (arith, c .before .before .before .pre (c .before .if1 .left)))
-    (λ c κs. omega (arith, c .before .before .before .pre (c .before .if1 .left)))
-    (λ c. search needs)
     (λ c. search needs)
     set)
