@@ -26,6 +26,12 @@ pub struct Done {
     pub stop: usize,
 }
 
+fn ended(stop: usize, events: usize, used: usize) -> Done
+    ensures { λ r. ⌜ r ≡ record { events = events; used = used; stop = stop } ⌝ }
+{
+    Done { events, used, stop }
+}
+
 // The command of that code at component i, whose slot has number k, its event aside.
 fn act(
     s: &[u8],
@@ -48,63 +54,23 @@ fn act(
 {
     let p = load(words, i);
     match code {
-        1 => Done {
-            events,
-            used,
-            stop: equal_sixteen(s, value, vendor),
-        },
-        2 => Done {
-            events,
-            used,
-            stop: equal_sixteen(s, value, class),
-        },
-        3 => Done {
-            events,
-            used,
-            stop: matches(s, p, slots, k),
-        },
-        12 => Done {
-            events,
-            used,
-            stop: 0,
-        },
-        14 => Done {
-            events,
-            used,
-            stop: 33,
-        },
+        1 => ended(equal_sixteen(s, value, vendor), events, used),
+        2 => ended(equal_sixteen(s, value, class), events, used),
+        3 => ended(matches(s, p, slots, k), events, used),
+        12 => ended(0, events, used),
+        14 => ended(33, events, used),
         19 => {
             store(words, i, over(p, given));
-            Done {
-                events,
-                used,
-                stop: 0,
-            }
+            ended(0, events, used)
         }
         20 => {
             store(words, i, over(given, p));
-            Done {
-                events,
-                used,
-                stop: 0,
-            }
+            ended(0, events, used)
         }
         21 => fetch(p, answers, events, used, slots, k),
-        22 => Done {
-            events,
-            used,
-            stop: copy(p, found, slots, k),
-        },
-        23 => Done {
-            events,
-            used,
-            stop: runs(slots, k),
-        },
-        _ => Done {
-            events,
-            used,
-            stop: swap(p, found, slots, k),
-        },
+        22 => ended(copy(p, found, slots, k), events, used),
+        23 => ended(runs(slots, k), events, used),
+        _ => ended(swap(p, found, slots, k), events, used),
     }
 }
 

@@ -40,69 +40,78 @@ swap-requires c κs =
 returns : tie.Need-returns
 unfolding opOf acts
 returns c =
-    (refl, c .equal-sixteen .ensures .0, λ env trace h l f. rw (c .before .match .keys1, h .vendors) (c .equal-sixteen .ensures .1 _), λ n f g. f)
+    rw (c .ended .ensures)
+    (refl, c .before .equal-sixteen .ensures .0, λ env trace h l f. rw (c .before .before .match .keys1, h .vendors) (c .before .equal-sixteen .ensures .1 _), λ n f g. f)
 
 returns-2 : tie.Need-returns-2
 unfolding opOf acts
 returns-2 c =
-    (refl, c .equal-sixteen2 .ensures .0, λ env trace h l f. rw (c .before .match .keys2, h .classes) (c .equal-sixteen2 .ensures .1 _), λ n f g. f)
+    rw (c .ended2 .ensures)
+    (refl, c .before .equal-sixteen2 .ensures .0, λ env trace h l f. rw (c .before .before .match .keys2, h .classes) (c .before .equal-sixteen2 .ensures .1 _), λ n f g. f)
 
 returns-3 : tie.Need-returns-3
 unfolding opOf acts
-returns-3 c = (
-  refl,
-  c .matches .ensures .0,
-  λ env trace h l f. rw (c .before .before .match .keys3) (c .matches .ensures .1 env _ _ (is-at _ env _ _ _ _ _ _ trace _ _ _ h l _ (c .before .before .before .load .ensures) _ (c .before .before .before .before .before .before .before .before .pre .1))),
-  λ n f g. f,
-)
+returns-3 c =
+    rw (c .ended3 .ensures) (
+      refl,
+      c .before .matches .ensures .0,
+      λ env trace h l f. rw (c .before .before .before .match .keys3) (c .before .matches .ensures .1 env _ _ (is-at _ env _ _ _ _ _ _ trace _ _ _ h l _ (c .before .before .before .before .load .ensures) _ (c .before .before .before .before .before .before .before .before .before .pre .1))),
+      λ n f g. f,
+    )
 
 returns-4 : tie.Need-returns-4
 unfolding opOf acts
-returns-4 c = (refl, search needs, λ env trace h l f. rw (c .match .keys4), λ n f g. f)
+returns-4 c =
+    rw (c .ended4 .ensures)
+    (refl, search needs, λ env trace h l f. rw (c .before .match .keys4), λ n f g. f)
 
 returns-5 : tie.Need-returns-5
 unfolding opOf acts
-returns-5 c = (refl, search needs, λ env trace h l f. rw (c .match .keys5), λ n f g. f)
+returns-5 c =
+    rw (c .ended5 .ensures)
+    (refl, search needs, λ env trace h l f. rw (c .before .match .keys5), λ n f g. f)
 
 returns-6 : tie.Need-returns-6
 unfolding opOf acts
 returns-6 c =
-    let start = c .before .before .before .before .before .before .before .before .before in
-    let w : length (start .args .words .now) ≡ 40 = c .before .before .store-arg .given .0 .1 in
-    let p = c .before .before .before .before .load .result in (
+    rw (c .ended6 .ensures)
+    (let start = c .before .before .before .before .before .before .before .before .before .before in
+    let w : length (start .args .words .now) ≡ 40 = c .before .before .before .store-arg .given .0 .1 in
+    let p = c .before .before .before .before .before .load .result in (
       refl,
       search needs,
       λ env trace h l f.
           rw (
-            c .before .before .before .match .keys6,
-            c .store .ensures,
-            set-params _ env _ _ _ _ _ _ trace _ (start .args .events) (start .args .used) h l p (c .before .before .before .before .load .ensures) w (start .args .given) _ (c .before .over .ensures),
+            c .before .before .before .before .match .keys6,
+            c .before .store .ensures,
+            set-params _ env _ _ _ _ _ _ trace _ (start .args .events) (start .args .used) h l p (c .before .before .before .before .before .load .ensures) w (start .args .given) _ (c .before .before .over .ensures),
           ),
       λ n f g.
-          rw (c .store .ensures)
+          rw (c .before .store .ensures)
           (fit-stored _ n _ _ _ w (start .pre .0) f
-          (rw (c .before .over .ensures) (fit-over _ n p _ (rw (c .before .before .before .before .load .ensures) (f _ (start .pre .0))) g))),
-    )
+          (rw (c .before .before .over .ensures) (fit-over _ n p _ (rw (c .before .before .before .before .before .load .ensures) (f _ (start .pre .0))) g))),
+    ))
 
 returns-7 : tie.Need-returns-7
 unfolding opOf acts
 returns-7 c =
-    let start = c .before .before .before .before .before .before .before .before .before in
-    let w : length (start .args .words .now) ≡ 40 = c .before .before .store-arg2 .given .0 .1 in
-    let p = c .before .before .before .before .load .result in (
+    rw (c .ended7 .ensures)
+    (let start = c .before .before .before .before .before .before .before .before .before .before in
+    let w : length (start .args .words .now) ≡ 40 = c .before .before .before .store-arg2 .given .0 .1 in
+    let p = c .before .before .before .before .before .load .result in (
       refl,
       search needs,
       λ env trace h l f.
           rw (
-            c .before .before .before .match .keys7,
-            c .store2 .ensures,
-            override-params _ env _ _ _ _ _ _ trace _ (start .args .events) (start .args .used) h l p (c .before .before .before .before .load .ensures) w (start .args .given) _ (c .before .over2 .ensures),
+            c .before .before .before .before .match .keys7,
+            c .before .store2 .ensures,
+            override-params _ env _ _ _ _ _ _ trace _ (start .args .events) (start .args .used) h l p (c .before .before .before .before .before .load .ensures) w (start .args .given) _ (c .before .before .over2 .ensures),
           ),
       λ n f g.
-          rw (c .store2 .ensures)
+          rw (c .before .store2 .ensures)
           (fit-stored _ n _ _ _ w (start .pre .0) f
-          (rw (c .before .over2 .ensures) (fit-over _ n _ p g (rw (c .before .before .before .before .load .ensures) (f _ (start .pre .0)))))),
-    )
+          (rw (c .before .before .over2 .ensures) (fit-over _ n _ p g (rw (c .before .before .before .before .before .load .ensures) (f _ (start .pre .0)))))),
+    ))
 
 returns-8 : tie.Need-returns-8
 unfolding opOf acts
@@ -119,33 +128,36 @@ returns-8 c =
 returns-9 : tie.Need-returns-9
 unfolding opOf acts
 returns-9 c =
-    let d = c .before .before .copy .ensures in
-    let e = c .before .before .before .before .before .load .ensures in (
+    rw (c .ended8 .ensures)
+    (let d = c .before .before .before .copy .ensures in
+    let e = c .before .before .before .before .before .before .load .ensures in (
       refl,
       d .0,
       λ env trace h l f.
-          rw (c .before .before .before .before .match .keys9)
-          (d .1 _ env _ _ (is-at _ env _ _ _ _ _ _ trace _ _ _ h l _ e _ (c .before .before .before .before .before .before .before .before .before .before .pre .1)) (source-at _ env _ _ _ _ _ _ trace _ _ _ h l _ e f)),
+          rw (c .before .before .before .before .before .match .keys9)
+          (d .1 _ env _ _ (is-at _ env _ _ _ _ _ _ trace _ _ _ h l _ e _ (c .before .before .before .before .before .before .before .before .before .before .before .pre .1)) (source-at _ env _ _ _ _ _ _ trace _ _ _ h l _ e f)),
       λ n f g. f,
-    )
+    ))
 
 returns-10 : tie.Need-returns-10
 unfolding opOf acts
-returns-10 c = (
-  refl,
-  c .runs .ensures .0,
-  λ env trace h l f.
-      let a = is-at _ env _ _ _ _ _ _ trace _ _ _ h l _ (c .before .before .before .load .ensures) _ (c .before .before .before .before .before .before .before .before .pre .1) in
-      rw (c .before .before .match .keys10) (c .runs .ensures .1 env _ _ (a .lent) (a .number)),
-  λ n f g. f,
-)
+returns-10 c =
+    rw (c .ended9 .ensures) (
+      refl,
+      c .before .runs .ensures .0,
+      λ env trace h l f.
+          let a = is-at _ env _ _ _ _ _ _ trace _ _ _ h l _ (c .before .before .before .before .load .ensures) _ (c .before .before .before .before .before .before .before .before .before .pre .1) in
+          rw (c .before .before .before .match .keys10) (c .before .runs .ensures .1 env _ _ (a .lent) (a .number)),
+      λ n f g. f,
+    )
 
 returns-11 : tie.Need-returns-11
 unfolding opOf acts
 returns-11 c =
-    let d = c .before .before .swap .ensures in
-    let e = c .before .before .before .before .before .load .ensures in
-    let r = c .before .before .before .before .match .rest in (
+    rw (c .ended10 .ensures)
+    (let d = c .before .before .before .swap .ensures in
+    let e = c .before .before .before .before .before .before .load .ensures in
+    let r = c .before .before .before .before .before .match .rest in (
       refl,
       d .0,
       λ env trace h l f.
@@ -161,9 +173,9 @@ returns-11 c =
             ne-eqb _ _ (r .0 .1),
             ne-eqb _ _ (r .1),
           )
-          (d .1 _ env _ _ (is-at _ env _ _ _ _ _ _ trace _ _ _ h l _ e _ (c .before .before .before .before .before .before .before .before .before .before .pre .1)) (source-at _ env _ _ _ _ _ _ trace _ _ _ h l _ e f)),
+          (d .1 _ env _ _ (is-at _ env _ _ _ _ _ _ trace _ _ _ h l _ e _ (c .before .before .before .before .before .before .before .before .before .before .before .pre .1)) (source-at _ env _ _ _ _ _ _ trace _ _ _ h l _ e f)),
       λ n f g. f,
-    )
+    ))
 
 pub act-spec : {M : Type 1} → statement M
 act-spec =
@@ -171,16 +183,26 @@ act-spec =
     (tie.spec
     (λ c κs. search needs)
     equal-sixteen-requires
+    (λ c κs. search needs)
     equal-sixteen-requires-2
+    (λ c κs. search needs)
     matches-requires
+    (λ c κs. search needs)
+    (λ c κs. search needs)
+    (λ c κs. search needs)
+    (λ c κs. search needs)
+    (λ c κs. search needs)
     (λ c κs. search needs)
     (λ c κs. search needs)
     (λ c κs. search needs)
     (λ c κs. search needs)
     fetch-requires
     copy-requires
+    (λ c κs. search needs)
     runs-requires
+    (λ c κs. search needs)
     swap-requires
+    (λ c κs. search needs)
     returns
     returns-2
     (λ c. search needs)
