@@ -19,6 +19,7 @@ use Rattle.envelope.specs.declared.report.Checked.{Checked}
 use Rattle.envelope.specs.declared.report.Checked.the-variants as The
 use Rattle.envelope.specs.declared.report.Report.{Report}
 use Rattle.envelope.specs.Report.{reportOf}
+use Rattle.envelope.proofs.EnvelopeLaws.{differ}
 use Rattle.identifiers.proofs.IdentifierLaws.{span-laid}
 use Rattle.slots.specs.Slot.{namesAt}
 use Rattle.slots.proofs.SearchLaws.{names-laid}
@@ -54,9 +55,6 @@ module _ (s : Bytes) (number n : ℕ) (ids sections : List ℕ) (a : Accepted s 
   named = ap (namesAt s ids) (a .count) ∙ names-laid s (a .manifest .ids) ids spans
 
 -- what check reported
-differ : (k : Refusal) (p : ℕ) → _≡_ {A = Checked} (The.Refused k p) The.Accepted → ⊥
-differ k p q = let z : _≡_ {A = ℕ} 0 1 = cc in omega arith
-
 module _ (s : Bytes) (r : Report) (e : r ≡ reportOf (check s)) where
   pub accepted : r .answer ≡ The.Accepted → Accepted s (r .number) (r .components) (r .ids) (r .sections)
   accepted h = go (check s) refl e

@@ -3,11 +3,9 @@ use Prim.Native.Nat.{ℕ, _+_, _-_, _≤_, _<_}
 use mathlib.Core.Path.{_≡_, refl, sym, ap, _∙_}
 use mathlib.Core.Bool.{Bool}
 use mathlib.Core.Option.{Option, some, none}
-use native.Mathlib.Omega.{arith}
 use lib.Dec.{ltb}
 use lib.ListN.{length}
 use borrow.Author.Tests.{ltb-true}
-use Rattle.rules.specs.declared.answers.Refusal.{Refusal}
 use Rattle.rules.specs.declared.answers.Refusal.the-variants.{NotAllowed, NoSuchComponent, TooManyCommands, UnknownCommand}
 use Rattle.rules.specs.Limits.{limits}
 use Rattle.rules.specs.Bytes.{Bytes, part}
@@ -16,17 +14,9 @@ use Rattle.rules.specs.Cbor.{BYTES, MAP, NIL, item}
 use Rattle.rules.specs.Commands.{Op, Params, sixteen, nil, below, parameters, Row, commands, rowOf, isAllowed}
 use Rattle.rules.specs.Manifest.{Seq, Cmd, one}
 use Rattle.rules.specs.Check.{Read, nothing, number, entries, argument, command, sequenceAt}
-use Rattle.rules.proofs.TableLaws.{each-row}
-use Rattle.rules.proofs.GotLaws.{passed, both, split, split₂}
+use Rattle.rules.proofs.TableLaws.{each-row, _&_}
+use Rattle.rules.proofs.GotLaws.{passed, both, split, split₂, found-is}
 use Rattle.accepted.specs.Arguments.{One}
-
-pub found-is : {A : Type 0} (o : Option A) (r : Refusal) (p : ℕ) (a : A) → found o r p ≡ got a → o ≡ some a
-found-is none r p a e = let z : _≡_ {A = ℕ} 0 1 = cc in absurd (omega arith)
-found-is (some b) r p a e = let f : b ≡ a = cc in ap some f
-
-infixr 5 _&_
-pub _&_ : {A B : Type 0} → A → B → A × B
-a & b = (a, b)
 
 pub form-of : (c : ℕ) (r x : Row) → rowOf c commands ≡ some r → rowOf c commands ≡ some x → r .form ≡ x .form
 form-of c r x p q = let same : r ≡ x = cc in rw same

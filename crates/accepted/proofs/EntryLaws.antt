@@ -18,13 +18,13 @@ use Rattle.rules.specs.Got.{got, found}
 use Rattle.rules.specs.Cbor.{BYTES, TEXT, FALSE, TRUE, Head, after, item, oneOf}
 use Rattle.rules.specs.Commands.{ParamRow, params, paramOf}
 use Rattle.rules.specs.Check.{Given, give, nothing, number, parameter, entries}
-use Rattle.rules.proofs.GotLaws.{passed, both, split, split₂}
+use Rattle.rules.proofs.GotLaws.{passed, both, split, split₂, found-is}
+use Rattle.rules.proofs.TableLaws.{_&_}
 use Rattle.rules.proofs.CheckLaws.{item-law, number-law, one-of-kind, bytes-after, text-after}
 use Rattle.accepted.specs.declared.arguments.Args.{Args}
 use Rattle.slots.specs.Params.{meaning, Fit}
 use Rattle.accepted.specs.Heads.{Headed}
 use Rattle.accepted.specs.Arguments.{paramsOf, coerceOf, givenOf, Within, bareAt, overGiven, EntryAt, EntryPut}
-use Rattle.accepted.proofs.ArgumentLaws.{_&_, found-is}
 use Rattle.accepted.proofs.HeadLaws.{one-of-whole, item-headed, number-headed, flag-at}
 
 -- what holds of each parameter and its key holds of the parameter of a key

@@ -24,8 +24,8 @@ use Rattle.slots.specs.Params.{meaning, Fit}
 use Rattle.commands.specs.Op.{opOf}
 use Rattle.accepted.specs.Heads.{Headed}
 use Rattle.accepted.specs.Arguments.{paramsOf, isTrue, coerceOf, givenOf, Within, bareAt, Entries, One, ReadAs}
-use Rattle.rules.proofs.TableLaws.{each-row}
-use Rattle.accepted.proofs.ArgumentLaws.{_&_, form-of}
+use Rattle.rules.proofs.TableLaws.{each-row, _&_}
+use Rattle.accepted.proofs.ArgumentLaws.{form-of}
 use Rattle.accepted.proofs.EntryLaws.{Opens, fit-bare, within-bare}
 use Rattle.accepted.proofs.HeadLaws.{flag-at, item-whole, item-headed, number-headed}
 

@@ -1,14 +1,14 @@
 -- What a command does, by the tests that it makes on the way.
 use Prim.Native.Nat.{ℕ, _+_, _-_, _*_, _≤_}
-use mathlib.Core.Path.{_≡_, refl, sym, ap, _∙_}
+use mathlib.Core.Path.{_≡_, refl, ap, _∙_}
 use mathlib.Core.List.{List, [], _∷_}
-use mathlib.Core.Bool.{Bool, true, false, _&&_, not}
+use mathlib.Core.Bool.{true, _&&_}
 use native.Mathlib.Nat.{add-zero}
 use native.Mathlib.Omega.{arith}
 use lib.Dec.{ltb, leb, eqb}
 use lib.ListN.{length, getD, set, take, drop}
 use lib.Seq.{getD-take, getD-drop, take-take, drop-drop}
-use borrow.Author.Tests.{eq-eqb, ne-eqb, lt-ltb, le-ltb, not-true, not-false}
+use borrow.Author.Tests.{eq-eqb, ne-eqb, lt-ltb, le-ltb}
 use Rattle.rules.specs.declared.answers.Failure.the-variants.{BadStatus, TooLarge, NothingToCopy, NothingToRun}
 use Rattle.rules.specs.Answers.{endOf}
 use Rattle.rules.specs.Bytes.{Bytes, part, num, same}
@@ -20,13 +20,6 @@ use Rattle.slots.specs.declared.params.Params.{Params}
 use Rattle.slots.specs.Params.{optional, meaning}
 use Rattle.commands.specs.Machine.{At, SourceAt}
 use Rattle.slots.proofs.ImageLaws.{answer-image}
-
--- a test `!r`, where r is x
-pub fails : {r x : Bool} → r ≡ x → not r ≡ true → x ≡ false
-fails {r} e t = sym e ∙ not-true r t
-
-pub holds : {r x : Bool} → r ≡ x → not r ≡ false → x ≡ true
-holds {r} e t = sym e ∙ not-false r t
 
 -- the status and the size of an answer
 status : (b : Bytes) (at : ℕ) → getD (part b at 37) 0 0 ≡ getD b at 0

@@ -7,7 +7,7 @@ use lib.ListN.{length, getD, set}
 use Rattle.rules.specs.Answers.{resultNumber}
 use Rattle.rules.specs.Bytes.{Bytes, be2}
 use Rattle.rules.specs.Commands as Rules
-use Rattle.rules.specs.Commands.{Op, vendor, class, imageMatch, setIndex, abort, setParams, overrideParams, fetch, copy, run, swap, code}
+use Rattle.rules.specs.Commands.{Op, vendor, class, run, code}
 use Rattle.rules.specs.Step.{Env, State, Out, out, withEvent, slotNo, paramsOf, acts, step}
 use Rattle.slots.specs.declared.params.Params.{Params}
 use Rattle.slots.specs.Params.{wordsAt, stored, meaning, overWords, paramsIn, FitAll}
@@ -49,16 +49,3 @@ pub step-is : (env : Env) (op : Op) (i place : ℕ) (st : State) (o : Out) → o
     step env op i place st ≡ out (o .end) (withEvent (o .state) (0x53 ∷ 0x54 ∷ code op ∷ i ∷ be2 place ++ (resultNumber (o .end) ∷ 0 ∷ [])))
 unfolding step
 step-is env op i place st o e = rw e
-
-pub code-small : (op : Op) → code op < 256
-code-small (vendor b) = omega arith
-code-small (class b) = omega arith
-code-small imageMatch = omega arith
-code-small (setIndex k) = omega arith
-code-small abort = omega arith
-code-small (setParams p) = omega arith
-code-small (overrideParams p) = omega arith
-code-small fetch = omega arith
-code-small copy = omega arith
-code-small run = omega arith
-code-small swap = omega arith

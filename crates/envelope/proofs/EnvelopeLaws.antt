@@ -21,7 +21,8 @@ use Rattle.rules.proofs.GotLaws.{both, split}
 use Rattle.rules.proofs.CheckLaws.{item-law, bytes-after}
 use Rattle.cbor.specs.declared.reading.Reading.{Reading}
 use Rattle.manifest.specs.declared.Body.{Body}
-use Rattle.envelope.specs.declared.report.Checked.the-variants.{Accepted}
+use Rattle.envelope.specs.declared.report.Checked.{Checked}
+use Rattle.envelope.specs.declared.report.Checked.the-variants.{Accepted, Refused}
 use Rattle.envelope.specs.declared.report.Report.{Report}
 use Rattle.cbor.specs.Reading.{reading}
 use Rattle.manifest.specs.Body.{bodyOf}
@@ -196,3 +197,7 @@ module _ (s : Bytes) where
                 (reportOf (x >>= λ m. need (eqb (m .1) (o .at + o .value)) NotCbor (m .1) >>= λ _. need (eqb (m .1) (length s)) NotCbor (m .1) >>= λ _. got (m .0)))
             go (refused c d) t (u, k) = absurd (not-zero c (ap (λ (z : Body). z .stop) (sym u) ∙ h))
             go (got m) t (u, k) = over m u (manifest-part s (o .at + o .value) (o .at) (m .0) (m .1) t) (k .0) (k .1)
+
+-- a refused report is not an accepted one
+pub differ : (k : Refusal) (p : ℕ) → _≡_ {A = Checked} (Refused k p) Accepted → ⊥
+differ k p q = let z : _≡_ {A = ℕ} 0 1 = cc in omega arith

@@ -20,15 +20,12 @@ use Rattle.rules.proofs.GotLaws.{passed, split, split₂}
 use Rattle.rules.proofs.CheckLaws.{inBytes-law}
 use Rattle.theorems.proofs.ManifestLaws.{sound}
 use Rattle.envelope.specs.declared.newest.Part.{Part}
-use Rattle.envelope.specs.declared.report.Checked.{Checked}
 use Rattle.envelope.specs.declared.report.Checked.the-variants.{Accepted, Refused}
 use Rattle.envelope.specs.declared.report.Report.{Report}
 use Rattle.envelope.specs.Report.{reportOf}
 use Rattle.envelope.specs.Newer.{PartOf, Handed, partIn}
 use Rattle.manifest.proofs.ManifestLaws.{manifest-part}
-
-differ : (k : Refusal) (p : ℕ) → _≡_ {A = Checked} (Refused k p) Accepted → ⊥
-differ k p q = let z : _≡_ {A = ℕ} 0 1 = cc in absurd (omega arith)
+use Rattle.envelope.proofs.EnvelopeLaws.{differ}
 
 module _ (s : Bytes) (r : Report) (e : r ≡ reportOf (check s)) where
   -- what a report says of the part

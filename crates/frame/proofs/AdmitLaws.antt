@@ -1,11 +1,11 @@
 -- The tests of a run, one after the other.
 use Prim.Native.Nat.{ℕ, _%_, _≤_, _<_}
-use mathlib.Core.Path.{_≡_, sym, _∙_}
+use mathlib.Core.Path.{_≡_}
 use mathlib.Core.List.{List}
-use mathlib.Core.Bool.{Bool, true, false, not}
+use mathlib.Core.Bool.{true, false}
 use native.Mathlib.Omega.{arith}
 use lib.ListN.{length}
-use borrow.Author.Tests.{not-true, not-false, ne-eqb, eq-eqb, lt-leb, le-leb}
+use borrow.Author.Tests.{ne-eqb, eq-eqb, lt-leb, le-leb}
 use Rattle.rules.specs.declared.answers.Group.{Group}
 use Rattle.rules.specs.Limits.{limits}
 use Rattle.rules.specs.Bytes.{Bytes, allIn}
@@ -14,12 +14,6 @@ use Rattle.rules.specs.Run.{Input, mayStart, numberFits, admit}
 use Rattle.frame.specs.Answer.{stopOf}
 
 -- a test and its negation, as code has them
-pub holds : (r t : Bool) → r ≡ t → not r ≡ false → t ≡ true
-holds r t e n = sym e ∙ not-false r n
-
-pub fails : (r t : Bool) → r ≡ t → not r ≡ true → t ≡ false
-fails r t e n = sym e ∙ not-true r n
-
 -- the answer, and what holds where it is 0
 abbrev pub Stops : ℕ → Group → ℕ → List Bytes → Input → Type 0 → Type 0
 Stops r group number ids x P = (r ≡ stopOf (admit group number ids x)) × (r ≡ 0 → P)

@@ -85,7 +85,7 @@ module _ (group : Group) (number : ℕ) (ids : List Bytes) (x : Input) where
 
 -- a run of any body, by the number that its tests gave
 module _ (group : Group) (number : ℕ) (ids : List Bytes) (x : Input) (refusal : ℕ) (e : refusal ≡ stopOf (admit group number ids x)) where
-  pub refused-run : (body : Env → State → Out) → (refusal ≡ 0 → ⊥) → runOf group number ids body x ≡ refused (refusalOf refusal) 0
+  refused-run : (body : Env → State → Out) → (refusal ≡ 0 → ⊥) → runOf group number ids body x ≡ refused (refusalOf refusal) 0
   unfolding runOf
   refused-run body d =
       let y : admit group number ids x ≡ refused (refusalOf refusal) 0 = by-number _ (admit-zero group number ids x) refusal e d in
@@ -101,7 +101,7 @@ module _ (group : Group) (number : ℕ) (ids : List Bytes) (x : Input) (refusal 
     pub trace-room : limits .trace ≤ length (x .trace)
     trace-room = facts .trace
 
-    pub ran-run : (body : Env → State → Out) (o : Out) → o ≡ body (envOf ids x) (startState ids x) → runOf group number ids body x ≡ got (report group number x o)
+    ran-run : (body : Env → State → Out) (o : Out) → o ≡ body (envOf ids x) (startState ids x) → runOf group number ids body x ≡ got (report group number x o)
     unfolding runOf
     ran-run body o q = rw (admitted, q)
 
@@ -134,9 +134,25 @@ pub settles-refused : (x : Input) (g : Got Ran) (k : Refusal) (p : ℕ) → g �
     Settles (x .device) g (record { answer = The.Refused k p; number = x .device .number }) (x .slots) (x .slots) (x .trace) (x .trace)
 settles-refused x g k p q = rw q (refl, refl, refl)
 
-pub settles-ran : (group : Group) (number : ℕ) (x : Input) (stop events used : ℕ) (ps : List Params) (slots trace : Bytes) (g : Got Ran) →
+settles-ran : (group : Group) (number : ℕ) (x : Input) (stop events used : ℕ) (ps : List Params) (slots trace : Bytes) (g : Got Ran) →
     g ≡ got (report group number x (out (endOf stop) (state ps slots trace events used))) → (ending : Ending) (after : ℕ) → ending ≡ endingOf stop events used trace →
     after ≡ numberAfter group (endOf stop) number (x .device .number) →
     Settles (x .device) g (record { answer = The.Ran ending; number = after }) (x .slots) slots (x .trace) trace
 unfolding report
 settles-ran group number x stop events used ps slots trace g q ending after p w = rw (q, p, w, finished-law stop) (refl, refl, refl)
+
+-- the answer of a job that is a run of that body
+module _ (group : Group) (number : ℕ) (ids : List Bytes) (x : Input) (body : Env → State → Out) (job : Got Ran) (is : job ≡ runOf group number ids body x)
+    (refusal : ℕ) (e : refusal ≡ stopOf (admit group number ids x)) where
+  pub refused-answer : (refusal ≡ 0 → ⊥) → (r : Refusal) → r ≡ refusalOf refusal →
+      Settles (x .device) job (record { answer = The.Refused r 0; number = x .device .number }) (x .slots) (x .slots) (x .trace) (x .trace)
+  refused-answer d r q = settles-refused x job r 0 (is ∙ rw q (refused-run group number ids x refusal e body d))
+
+  module _ (z : refusal ≡ 0) (stop events used : ℕ) (ps : List Params) (slots trace : Bytes)
+      (goes : out (endOf stop) (state ps slots trace events used) ≡ body (envOf ids x) (startState ids x)) where
+    pub run-as : job ≡ got (report group number x (out (endOf stop) (state ps slots trace events used)))
+    run-as = is ∙ ran-run group number ids x refusal e z body _ goes
+
+    pub answered : (ending : Ending) (after : ℕ) → ending ≡ endingOf stop events used trace → after ≡ numberAfter group (endOf stop) number (x .device .number) →
+        Settles (x .device) job (record { answer = The.Ran ending; number = after }) (x .slots) slots (x .trace) trace
+    answered ending after p w = settles-ran group number x stop events used ps slots trace job run-as ending after p w

@@ -2,14 +2,14 @@
 use Prim.Native.Nat.{ℕ, zero, suc, _+_, _-_, _*_, _≤_, _<_}
 use mathlib.Core.Path.{_≡_, refl, sym, ap, subst, _∙_}
 use mathlib.Core.List.{List, [], _∷_, _++_, map, append-assoc, append-nil}
-use mathlib.Core.Bool.{Bool, true, false, _&&_, _||_, not}
+use mathlib.Core.Bool.{Bool, true, false, _||_, not}
 use native.Mathlib.Omega.{arith}
 use native.Mathlib.Numerals.{add-one}
 use native.Mathlib.Nat.{add-zero, zero-add}
-use lib.Dec.{leb, eqb}
+use lib.Dec.{leb}
 use lib.ListN.{length, getD, drop, set, length-append, List·getD-append}
 use lib.Seq.{getD-append-seam, drop-cons}
-use borrow.Author.Tests.{le-leb, lt-leb, eq-eqb, ne-eqb}
+use borrow.Author.Tests.{le-leb, lt-leb}
 use Rattle.rules.specs.declared.answers.Refusal.{Refusal}
 use Rattle.rules.specs.declared.answers.Refusal.the-variants.{Malformed, RepeatedIdentifier}
 use Rattle.rules.specs.Limits.{limits}
@@ -20,6 +20,7 @@ use Rattle.rules.specs.Check.{strings, identifier, identifiers, components}
 use Rattle.rules.proofs.CheckLaws.{Item, item-law, strings-law, bytes-after}
 use Rattle.rules.proofs.GotLaws.{passed, split, both}
 use Rattle.rules.proofs.BytesLaws.{length-part}
+use Rattle.rules.proofs.SameLaws.{same-lengths, sameFrom, same-start}
 use Rattle.cbor.specs.declared.reading.Reading.{Reading}
 use Rattle.identifiers.specs.declared.Repeat.{Repeat}
 use Rattle.identifiers.specs.declared.Repeat.the-variants.{At, Nothing}
@@ -155,51 +156,12 @@ module _ (s : Bytes) (e p : ℕ) where
         let k : after a ≡ h .at + h .value = omega (arith, bytes-after a (item-law s BYTES 0 (limits .number) e p a g .is)) in
         strings-turn n l ∙ rw (g, k)
 
-and-false : (b : Bool) → (b && false) ≡ false
-and-false true = refl
-and-false false = refl
+module _ (s : Bytes) (a n b m : ℕ) where
+  pub same-unlike : (a + n ≤ length s) × (b + m ≤ length s) → (n ≡ m → ⊥) → same (part s a n) (part s b m) ≡ false
+  same-unlike (f, g) d = same-lengths (part s a n) (part s b m) (λ q. d (omega (arith, length-part s a n f, length-part s b m g)))
 
-same-lengths : (x y : Bytes) → (length x ≡ length y → ⊥) → same x y ≡ false
-same-lengths [] [] d = absurd (d refl)
-same-lengths [] (y ∷ ys) d = refl
-same-lengths (x ∷ xs) [] d = refl
-same-lengths (x ∷ xs) (y ∷ ys) d = rw (same-lengths xs ys (λ q. d (ap suc q))) (and-false (eqb x y))
-
-module _ (s : Bytes) where
-  part-cons : (at n : ℕ) → 0 < n → at < length s → part s at n ≡ getD s at 0 ∷ part s (at + 1) (n - 1)
-  part-cons at zero l h = absurd (omega arith)
-  part-cons at (suc n) l h = let k : suc n - 1 ≡ n = omega arith in rw (k, add-one, drop-cons s at 0 h)
-
-  module _ (a n b : ℕ) where
-    pub same-unlike : (m : ℕ) → (a + n ≤ length s) × (b + m ≤ length s) → (n ≡ m → ⊥) → same (part s a n) (part s b m) ≡ false
-    same-unlike m (f, g) d = same-lengths (part s a n) (part s b m) (λ q. d (omega (arith, length-part s a n f, length-part s b m g)))
-
-    -- what is left of both after k bytes
-    unfoldable pub sameFrom : ℕ → Bool
-    sameFrom k = same (part s (a + k) (n - k)) (part s (b + k) (n - k))
-
-    pub same-start : (m : ℕ) → n ≡ m → same (part s a n) (part s b m) ≡ sameFrom 0
-    unfolding sameFrom
-    same-start m q = let u : n - 0 ≡ n = omega arith in rw (u, add-zero a, add-zero b, ← q)
-
-    pub same-end : (k : ℕ) → n ≤ k → sameFrom k ≡ true
-    unfolding sameFrom
-    same-end k l = let z : n - k ≡ 0 = omega arith in rw z
-
-    module _ (k : ℕ) (l : k < n) (f : (a + n ≤ length s) × (b + n ≤ length s)) where
-      same-turn : sameFrom k ≡ (eqb (getD s (a + k) 0) (getD s (b + k) 0) && sameFrom (k + 1))
-      unfolding sameFrom
-      same-turn =
-          let u : a + (k + 1) ≡ a + k + 1 = omega arith in
-          let v : b + (k + 1) ≡ b + k + 1 = omega arith in
-          let w : n - (k + 1) ≡ n - k - 1 = omega arith in
-          rw (u, v, w, part-cons (a + k) (n - k) (omega arith) (omega arith), part-cons (b + k) (n - k) (omega arith) (omega arith))
-
-      pub same-stop : (getD s (a + k) 0 ≡ getD s (b + k) 0 → ⊥) → sameFrom k ≡ false
-      same-stop d = same-turn ∙ rw (ne-eqb _ _ d)
-
-      pub same-next : getD s (a + k) 0 ≡ getD s (b + k) 0 → sameFrom k ≡ sameFrom (k + 1)
-      same-next q = same-turn ∙ rw (eq-eqb _ _ q)
+  pub same-alike : n ≡ m → same (part s a n) (part s b m) ≡ sameFrom s a s b n 0
+  same-alike q = rw (← q) (same-start s a s b n)
 
 module _ (s : Bytes) (e at : ℕ) where
   forward : (h : Head) (next : ℕ) → item ARRAY 1 (limits .parts) s e at ≡ got h → strings s (h .num) e (h .next) ≡ got next → (at < next) × (next ≤ e)

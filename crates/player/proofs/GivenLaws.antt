@@ -11,7 +11,7 @@ use Rattle.rules.specs.Bytes.{Bytes, part, same}
 use Rattle.rules.specs.Commands.{Op, vendor, class, imageMatch, setIndex, abort, setParams, overrideParams, fetch, copy, run, swap, Params, Form, sixteen, nil, below, alternatives, parameters, sequence, commands, code}
 use Rattle.rules.specs.Got.{Got, got}
 use Rattle.rules.specs.ProgramTest.{paramsIn, opIn}
-use Rattle.rules.proofs.TableLaws.{each-row}
+use Rattle.rules.proofs.TableLaws.{each-row, _&_}
 use Rattle.rules.proofs.GotLaws.{passed, split}
 use Rattle.slots.specs.declared.params.Params as Words
 use Rattle.slots.specs.Params.{meaning}
@@ -20,10 +20,6 @@ use Rattle.records.specs.declared.entries.Entries.{Entries}
 use Rattle.records.specs.Records.{wordsOf, ParamsAre}
 use Rattle.player.specs.Step.{ArgumentAt, valueOf, GivenAs}
 use Rattle.records.proofs.PartLaws.{length-to}
-
-infixr 5 _&_
-_&_ : {A B : Type 0} → A → B → A × B
-a & b = (a, b)
 
 value-is : {A : Type 0} (a b : A) → _≡_ {A = Got A} (got a) (got b) → b ≡ a
 value-is a b e = let f : a ≡ b = cc in sym f

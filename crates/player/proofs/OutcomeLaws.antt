@@ -14,13 +14,14 @@ use Rattle.rules.specs.Got.{Got, refused, got}
 use Rattle.rules.specs.Program.{Program}
 use Rattle.rules.specs.ProgramTest.{programIn}
 use Rattle.rules.specs.ProgramRun.{exec, runProgram}
-use Rattle.rules.specs.Run.{Input, admit, numberAfter, report, startState, envOf}
+use Rattle.rules.specs.Run.{Input, admit, numberAfter, report, startState, envOf, runOf}
 use Rattle.slots.specs.Slot.{namesAt, Found}
 use Rattle.commands.specs.Machine.{stateAt}
 use Rattle.frame.specs.declared.answer.Answer.the-variants as The
 use Rattle.frame.specs.declared.answer.Ending.{Ending}
 use Rattle.frame.specs.Answer.{stopOf, endingOf, Settles}
-use Rattle.frame.proofs.FrameLaws.{refused-run, ran-run, trace-room, lent-start, state-start, settles-refused, settles-ran}
+use Rattle.frame.proofs.FrameLaws.{trace-room, lent-start, state-start, settles-refused}
+use Rattle.frame.proofs.FrameLaws as Frame
 use Rattle.player.specs.declared.step.Walk.{Walk}
 use Rattle.program.specs.declared.test.Tested.{Tested}
 use Rattle.program.specs.Test.{TestedAs}
@@ -48,12 +49,13 @@ module _ (p : Bytes) (t : Tested) (ids : List ℕ) (a : Known p t ids) where
     stops : refusal ≡ stopOf (admit (a .program .group) (a .program .number) (a .program .ids) x)
     stops = rw (← a .stands .group, ← a .stands .number, ← a .stands .names) e
 
+    is-run : runProgram p x ≡ runOf (a .program .group) (a .program .number) (a .program .ids) (λ env st. exec env (a .program .records) 0 0 st) x
+    unfolding runProgram
+    is-run = rw (a .tests)
+
     pub refused-answer : (refusal ≡ 0 → ⊥) → (r : Refusal) → r ≡ refusalOf refusal →
         Settles (x .device) (runProgram p x) (record { answer = The.Refused r 0; number = x .device .number }) (x .slots) (x .slots) (x .trace) (x .trace)
-    unfolding runProgram
-    refused-answer d r q =
-        settles-refused x (runProgram p x) r 0
-        (rw (a .tests, refused-run (a .program .group) (a .program .number) (a .program .ids) x refusal stops (λ env st. exec env (a .program .records) 0 0 st) d, q))
+    refused-answer = Frame.refused-answer (a .program .group) (a .program .number) (a .program .ids) x _ (runProgram p x) is-run refusal stops
 
     module _ (z : refusal ≡ 0) (found : List ℕ) (f : Found (namesAt p ids (t .components)) (x .slots) (replicate 8 0) found) where
       unfoldable whole : StepJob p (t .components) (t .records) (startAt (t .from)) (x .device .vendor) (x .device .class) found (x .answers) (x .slots) (replicate 40 0) (x .trace)
@@ -94,20 +96,16 @@ module _ (p : Bytes) (t : Tested) (ids : List ℕ) (a : Known p t ids) where
             ∙ ap (λ (n : ℕ). exec (envOf (a .program .ids) x) (a .program .records) 0 0 (stateAt p n (replicate 40 0) (x .slots) (x .trace) 0 0)) (sym counted)
             ∙ ap (exec (envOf (a .program .ids) x) (a .program .records) 0 0) (state-start p (a .program .ids) x)
 
-        run-as : runProgram p x ≡ got (report (a .program .group) (a .program .number) x (out (endOf (r .stop)) (stateOf p (t .components) words′ slots′ trace′ r)))
-        unfolding runProgram
-        run-as = rw (a .tests) (ran-run (a .program .group) (a .program .number) (a .program .ids) x refusal stops z (λ env st. exec env (a .program .records) 0 0 st) _ done)
-
         pub last-event : (0 < r .stop → 0 < r .events) × (8 * r .events ≤ length trace′)
         unfolding report
         last-event =
-            let f = program-effects p (a .program) x _ (a .tests) run-as in
+            let f = program-effects p (a .program) x _ (a .tests) (Frame.run-as (a .program .group) (a .program .number) (a .program .ids) x _ (runProgram p x) is-run refusal stops z (r .stop) (r .events) (r .used) _ slots′ trace′ done) in
             (ran .late, omega (arith, f .fits, f .trace-length, trace-room (a .program .group) (a .program .number) (a .program .ids) x refusal stops z))
 
         pub answered : (ending : Ending) (after : ℕ) → ending ≡ endingOf (r .stop) (r .events) (r .used) trace′ → after ≡ numberAfter (t .group) (endOf (r .stop)) (t .number) (x .device .number) →
             Settles (x .device) (runProgram p x) (record { answer = The.Ran ending; number = after }) (x .slots) slots′ (x .trace) trace′
         answered ending after q w =
-            settles-ran (a .program .group) (a .program .number) x (r .stop) (r .events) (r .used) _ slots′ trace′ (runProgram p x) run-as ending after q
+            Frame.answered (a .program .group) (a .program .number) (a .program .ids) x _ (runProgram p x) is-run refusal stops z (r .stop) (r .events) (r .used) _ slots′ trace′ done ending after q
             (rw (← a .stands .group, ← a .stands .number) w)
 
 -- what the test answered

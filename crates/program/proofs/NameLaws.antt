@@ -1,7 +1,7 @@
 -- The identifiers of a program, one after the other, by their places.
 use Prim.Native.Nat.{ℕ, zero, suc, _+_, _-_, _*_, _≤_, _<_}
 use mathlib.Core.Path.{_≡_, refl, sym, ap, subst, _∙_}
-use mathlib.Core.List.{List, [], _∷_, _++_, append-assoc, append-nil}
+use mathlib.Core.List.{List, [], _∷_, _++_, append-nil}
 use mathlib.Core.Bool.{Bool, true, false, _&&_}
 use native.Mathlib.Omega.{arith}
 use native.Mathlib.Nat.{add-zero}
@@ -16,7 +16,7 @@ use Rattle.rules.specs.Limits.{limits}
 use Rattle.rules.specs.Bytes.{Bytes, Span, part, span, spanAt, bytesAt}
 use Rattle.rules.specs.Got.{Got, refused, got, _>>=_}
 use Rattle.rules.specs.ProgramTest.{need, bad, marked, idsIn}
-use Rattle.rules.proofs.GotLaws.{and-true, passed, split₂, both}
+use Rattle.rules.proofs.GotLaws.{and-true, passed, split₂, both, after, after-more, after-none}
 use Rattle.slots.specs.Slot.{namesAt}
 use Rattle.slots.proofs.SearchLaws.{name-at, names-count}
 use Rattle.records.proofs.PartLaws.{rest-at, same-3}
@@ -138,18 +138,6 @@ ids-leave p (suc k) at xs q h e =
     let l : Leaves p (at + 4 + size p at) q = ids-leave p k (at + 4 + size p at) ys q (fits p at t) (e₂ ∙ ap (λ (x : Bytes). got (ys, x)) (both e₃ .1)) in
     record { up = omega (arith, l .up); fits = l .fits; rest = l .rest }
 
--- identifiers before the others
-abbrev after : List Bytes → Got (List Bytes × Bytes) → Got (List Bytes × Bytes)
-after xs g = g >>= λ a. got (xs ++ a .0, a .1)
-
-after-onto : (xs : List Bytes) (x : Bytes) (g : Got (List Bytes × Bytes)) → after xs (onto x g) ≡ after (xs ++ (x ∷ [])) g
-after-onto xs x (refused r q) = refl
-after-onto xs x (got a) = rw append-assoc
-
-after-none : (g : Got (List Bytes × Bytes)) → after [] g ≡ g
-after-none (refused r q) = refl
-after-none (got a) = refl
-
 -- one more place in the array
 pub names-more : (s : Bytes) (a b : List ℕ) (k : ℕ) → ((j : ℕ) → j < k → spanAt b j ≡ spanAt a j) →
     namesAt s b (k + 1) ≡ namesAt s a k ++ (bytesAt s (spanAt b k) ∷ [])
@@ -215,7 +203,7 @@ module _ (p : Bytes) (at n : ℕ) (places : List ℕ) where
           let here : spanAt new k ≡ span (next + 4) r = rw (from, to) in
           let names : namesAt p new (k + 1) ≡ namesAt p places k ++ (part p (next + 4) (r - (next + 4)) ∷ []) = names-more p places new k kept ∙ ap (λ (x : Span). namesAt p places k ++ (bytesAt p x ∷ [])) here in
           record {
-            all = f .all ∙ rw (left, g, names) (after-onto (namesAt p places k) (part p (next + 4) (r - (next + 4))) (idsIn (n - (k + 1)) (drop r p)));
+            all = f .all ∙ rw (left, g, names) (after-more (namesAt p places k) (part p (next + 4) (r - (next + 4))) (idsIn (n - (k + 1)) (drop r p)));
             here = v;
             within =
                 below-more (λ j. Lies p (spanAt new j)) k (λ j h. subst (Lies p) (sym (kept j h)) (f .within j h)) (omega arith, omega arith);

@@ -7,7 +7,7 @@ use native.Mathlib.Omega.{arith}
 use native.Mathlib.Numerals.{add-one}
 use Rattle.rules.specs.Bytes.{Bytes, spanAt, bytesAt, same, member, repeats}
 use Rattle.rules.specs.Slots.{numbers}
-use Rattle.rules.proofs.BytesLaws.{same-sym}
+use Rattle.rules.proofs.SameLaws.{same-sym}
 use Rattle.slots.specs.Slot.{namesAt}
 use Rattle.identifiers.specs.declared.Repeat.{Repeat}
 use Rattle.identifiers.specs.declared.Repeat.the-variants.{At, Nothing}

@@ -1,31 +1,26 @@
 -- A record that the program test has read, by its bytes.
 use Prim.Native.Nat.{ℕ, _+_, _-_, _≤_, _<_}
-use mathlib.Core.Path.{_≡_, refl, sym, ap, _∙_}
+use mathlib.Core.Path.{_≡_, refl, sym, _∙_}
 use mathlib.Core.List.{[], _∷_}
 use mathlib.Core.Bool.{Bool, true, false, _&&_, _||_}
-use mathlib.Core.Option.{Option, some, none}
+use mathlib.Core.Option.{some, none}
 use native.Mathlib.Omega.{arith}
 use lib.Dec.{ltb, leb, eqb}
 use lib.ListN.{length, getD, take, drop}
 use borrow.Author.Tests.{leb-true, ltb-true, eqb-true, eq-eqb}
 use Rattle.rules.specs.declared.answers.Group.{Group}
-use Rattle.rules.specs.declared.answers.Refusal.{Refusal}
 use Rattle.rules.specs.declared.answers.Refusal.the-variants.{BadProgram}
 use Rattle.rules.specs.Bytes.{Bytes, part, num, same}
 use Rattle.rules.specs.Commands.{Op, Row, rowOf, commands}
 use Rattle.rules.specs.Got.{Got, got, found}
 use Rattle.rules.specs.Program.{Rec, does, jump, NONE, targetOf}
 use Rattle.rules.specs.ProgramTest.{opIn, groupAllows, recordIn}
-use Rattle.rules.proofs.GotLaws.{and-true, passed, split, both}
+use Rattle.rules.proofs.GotLaws.{and-true, passed, split, both, found-is}
 
 pick : {A : Type 0} (C : Type 0) (b : Bool) (x y : Got A) (v : A) → (elim b as (λ _. Got A) [ true ↦ x | false ↦ y ]) ≡ got v →
     (b ≡ true → x ≡ got v → C) → (b ≡ false → y ≡ got v → C) → C
 pick C true x y v e f g = f refl e
 pick C false x y v e f g = g refl e
-
-found-is : {A : Type 0} (o : Option A) (r : Refusal) (p : ℕ) (a : A) → found o r p ≡ got a → o ≡ some a
-found-is none r p a e = let z : _≡_ {A = ℕ} 0 1 = cc in absurd (omega arith)
-found-is (some b) r p a e = let f : b ≡ a = cc in ap some f
 
 or-left : (a b : Bool) → (a || b) ≡ true → (a ≡ true → ⊥) → b ≡ true
 or-left true b e n = absurd (n refl)

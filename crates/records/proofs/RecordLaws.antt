@@ -22,7 +22,7 @@ use Rattle.rules.specs.Program.{does, NONE, targetOf}
 use Rattle.rules.specs.ProgramTest.{need, paramsIn, opIn, groupAllows, recordIn}
 use Rattle.rules.proofs.BytesLaws.{num-2}
 use Rattle.rules.proofs.GotLaws.{passed, split}
-use Rattle.rules.proofs.TableLaws.{each-row}
+use Rattle.rules.proofs.TableLaws.{each-row, _&_, listed-some, listed-none}
 use Rattle.records.specs.Records.{accepted, nextIn, jumpFits, commandAt, recordAt}
 use Rattle.records.proofs.PartLaws.{part-drop, rest-at, same-2}
 
@@ -128,20 +128,8 @@ module _ (p : Bytes) (at size total n : ℕ) where
         jump-on h = rw (eq-eqb _ _ i, ← q, eq-eqb x 0 z, eq-eqb size 0 s, ← e, lt-ltb n t h)
 
 -- what a look-up of a command found
-listed-some : (o : Option Row) (c : Command) → listed o ≡ L.Command c → (r : Row) × (o ≡ some r) × (asCommand r ≡ c)
-listed-some none c e = let z : _≡_ {A = ℕ} 0 1 = cc in absurd (omega arith)
-listed-some (some r) c e = let f : asCommand r ≡ c = cc in (r, refl, f)
-
-listed-none : (o : Option Row) → listed o ≡ L.Unlisted → o ≡ none
-listed-none none e = refl
-listed-none (some r) e = let z : _≡_ {A = ℕ} 0 1 = cc in absurd (omega arith)
-
 no : true ≡ false → ⊥
 no e = let z : _≡_ {A = ℕ} 0 1 = cc in omega arith
-
-infixr 5 _&_
-_&_ : {A B : Type 0} → A → B → A × B
-a & b = (a, b)
 
 -- the command that a row makes has the row's code
 module _ (comps i : ℕ) (q : Bytes) (op : Op) where

@@ -1,7 +1,7 @@
 -- The records of a program, one after the other, by their places.
 use Prim.Native.Nat.{ℕ, suc, _+_, _-_, _≤_, _<_}
 use mathlib.Core.Path.{_≡_, refl, sym, ap, _∙_}
-use mathlib.Core.List.{List, [], _∷_, _++_, append-assoc, append-nil}
+use mathlib.Core.List.{List, [], _∷_, _++_, append-nil}
 use mathlib.Core.Bool.{Bool, true, false, cond}
 use native.Mathlib.Omega.{arith}
 use lib.Dec.{eqb}
@@ -14,6 +14,7 @@ use Rattle.rules.specs.Commands.{commands}
 use Rattle.rules.specs.Got.{Got, refused, got, _>>=_}
 use Rattle.rules.specs.Program.{Rec, does, jump}
 use Rattle.rules.specs.ProgramTest.{recordIn, recordsIn, nonJumps}
+use Rattle.rules.proofs.GotLaws.{after, after-more, after-none}
 use Rattle.records.specs.Records.{nextIn, recordsAre}
 use Rattle.records.proofs.PartLaws.{rest-at}
 use Rattle.records.proofs.ReadRecord.{Kind, record-read}
@@ -60,18 +61,6 @@ module _ (g : Group) (comps total n : ℕ) where
       let k′ : q ≡ drop (at + 10 + len) p = k ∙ rw (drop-drop 10 at p, drop-drop len (at + 10) p) in
       let m : length p - length q ≡ at + 10 + len = ap (λ (x : Bytes). length p - length x) k′ ∙ rest-at p (at + 10 + len) l in
       record { up = omega arith; fits = omega arith; rest = k′ ∙ ap (λ (x : ℕ). drop x p) (sym m); kind = counted r _ _ _ _ _ _ w ∙ ap weight (getD-drop at p 2 0) }
-
--- records before the others
-abbrev after : List Rec → Got (List Rec × Bytes) → Got (List Rec × Bytes)
-after rs g = g >>= λ a. got (rs ++ a .0, a .1)
-
-after-more : (rs : List Rec) (r : Rec) (g : Got (List Rec × Bytes)) → after rs (g >>= λ a. got (r ∷ a .0, a .1)) ≡ after (rs ++ (r ∷ [])) g
-after-more rs r (refused x q) = refl
-after-more rs r (got a) = rw append-assoc
-
-after-none : (g : Got (List Rec × Bytes)) → after [] g ≡ g
-after-none (refused r q) = refl
-after-none (got a) = refl
 
 count-more : (rs : List Rec) (r : Rec) → nonJumps (rs ++ (r ∷ [])) ≡ nonJumps rs + nonJumps (r ∷ [])
 count-more [] r = omega arith

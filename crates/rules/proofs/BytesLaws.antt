@@ -1,32 +1,20 @@
--- Parts of bytes, equal bytes, and big-endian numbers, which grow by their next byte.
-use Prim.Native.Nat.{ℕ, _+_, _*_, _≤_, _<_}
-use mathlib.Core.Path.{_≡_, refl, sym}
+-- Parts of bytes, and big-endian numbers, which grow by their next byte.
+use Prim.Native.Nat.{ℕ, zero, suc, _+_, _-_, _*_, _≤_, _<_}
+use mathlib.Core.Path.{_≡_, refl}
 use mathlib.Core.List.{[], _∷_, _++_}
-use mathlib.Core.Bool.{Bool, true, false, _&&_}
 use native.Mathlib.Omega.{arith}
 use native.Mathlib.Numerals.{add-one}
 use native.Mathlib.Nat.{add-zero}
-use lib.Dec.{eqb}
 use lib.ListN.{length, getD, drop, length-take, length-drop}
-use lib.Seq.{take-suc, getD-drop}
-use borrow.Author.Tests.{eqb-true, eqb-false, ne-eqb, eq-eqb}
-use Rattle.rules.specs.Bytes.{Bytes, part, same, num, numFrom}
+use lib.Seq.{take-suc, getD-drop, drop-cons}
+use Rattle.rules.specs.Bytes.{Bytes, part, num, numFrom}
 
 pub length-part : (s : Bytes) (at k : ℕ) → at + k ≤ length s → length (part s at k) ≡ k
 length-part s at k h = simp (length-take, length-drop) (omega arith)
 
-eqb-sym : (x y : ℕ) → eqb x y ≡ false → eqb y x ≡ false
-eqb-sym x y e = ne-eqb y x (λ q. eqb-false x y e (sym q))
-
-pub same-sym : (x y : Bytes) → same x y ≡ same y x
-same-sym [] [] = refl
-same-sym [] (y ∷ ys) = refl
-same-sym (x ∷ xs) [] = refl
-same-sym (x ∷ xs) (y ∷ ys) = go (eqb x y) refl (same-sym xs ys)
-  where
-    go : (b : Bool) → eqb x y ≡ b → same xs ys ≡ same ys xs → (eqb x y && same xs ys) ≡ (eqb y x && same ys xs)
-    go true e ih = rw (e, eq-eqb y x (sym (eqb-true x y e))) ih
-    go false e ih = rw (e, eqb-sym x y e)
+pub part-cons : (s : Bytes) (at n : ℕ) → 0 < n → at < length s → part s at n ≡ getD s at 0 ∷ part s (at + 1) (n - 1)
+part-cons s at zero l h = absurd (omega arith)
+part-cons s at (suc n) l h = let k : suc n - 1 ≡ n = omega arith in rw (k, add-one, drop-cons s at 0 h)
 
 num-snoc : (n : ℕ) (xs : Bytes) (b : ℕ) → numFrom n (xs ++ (b ∷ [])) ≡ numFrom n xs * 256 + b
 num-snoc n [] b = refl

@@ -7,4 +7,5 @@ pub mod GotLaws
 pub mod CheckLaws
 pub mod TableLaws
 pub mod BytesLaws
+pub mod SameLaws
 pub mod CborLaws

@@ -3,12 +3,14 @@ use Prim.Native.Nat.{ℕ, _/_, _%_}
 use mathlib.Core.Path.{_≡_, refl, sym, subst}
 use mathlib.Core.List.{List, [], _∷_}
 use mathlib.Core.Bool.{Bool, true, false, not, _&&_, _||_}
-use mathlib.Core.Option.{some}
+use mathlib.Core.Option.{Option, some, none}
 use native.Mathlib.Omega.{arith}
 use borrow.Author.Tests.{eqb-true}
 use lib.Dec.{eqb}
+use Rattle.rules.specs.declared.tables.Command.{Command}
+use Rattle.rules.specs.declared.tables.Listed.the-variants as L
 use Rattle.rules.specs.Commands.{Row, commands, rowOf, among, isAllowed}
-use Rattle.rules.specs.Tables.{weightOf, setOf}
+use Rattle.rules.specs.Tables.{weightOf, setOf, asCommand, listed}
 use Rattle.rules.proofs.GotLaws.{and-true}
 
 module _ {A : Type 0} where
@@ -63,6 +65,20 @@ each-row P (x ∷ xs) c r t e = go (eqb c (x .number)) refl (each-row P xs c r (
         let s : x ≡ r = cc in
         subst (λ (y : Row). P c y) s (subst (λ (k : ℕ). P k x) (sym (eqb-true c (x .number) h)) (t .0))
     go false h next q = next q
+
+-- one proof for each row, in the order of the table
+infixr 5 _&_
+pub _&_ : {A B : Type 0} → A → B → A × B
+a & b = (a, b)
+
+-- what a look-up answered
+pub listed-some : (o : Option Row) (c : Command) → listed o ≡ L.Command c → (r : Row) × (o ≡ some r) × (asCommand r ≡ c)
+listed-some none c e = let z : _≡_ {A = ℕ} 0 1 = cc in absurd (omega arith)
+listed-some (some r) c e = let f : asCommand r ≡ c = cc in (r, refl, f)
+
+pub listed-none : (o : Option Row) → listed o ≡ L.Unlisted → o ≡ none
+listed-none none e = refl
+listed-none (some r) e = let z : _≡_ {A = ℕ} 0 1 = cc in absurd (omega arith)
 
 -- a row's set of sections as a number has the bit of each section that the row allows
 abbrev pub sections : List ℕ

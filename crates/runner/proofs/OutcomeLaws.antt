@@ -12,7 +12,7 @@ use Rattle.rules.specs.Bytes.{Bytes, Span, span, bytesAt, spanAt}
 use Rattle.rules.specs.Got.{Got, refused, got, _>>=_}
 use Rattle.rules.specs.Manifest.{Manifest, names}
 use Rattle.rules.specs.Check.{check}
-use Rattle.rules.specs.Run.{Input, runAll, planOf, admit, numberAfter, report, envOf, runOf, runEnvelope}
+use Rattle.rules.specs.Run.{Input, runAll, planOf, admit, numberAfter, report, startState, envOf, runOf, runEnvelope}
 use Rattle.theorems.proofs.Effects.{envelope-effects}
 use Rattle.envelope.specs.declared.report.Checked.{Checked}
 use Rattle.envelope.specs.declared.report.Checked.the-variants as The
@@ -27,19 +27,21 @@ use Rattle.runner.specs.Cycle.{outOf}
 use Rattle.runner.specs.Sections.{SectionsJob, SectionsRan}
 use Rattle.accepted.specs.Accepted.{Accepted}
 use Rattle.accepted.proofs.AcceptedLaws.{known, named, refused-by}
-use Rattle.frame.proofs.FrameLaws.{refused-run, ran-run, trace-room, lent-start, state-start, settles-refused, settles-ran}
+use Rattle.frame.proofs.FrameLaws.{trace-room, lent-start, state-start, settles-refused}
+use Rattle.frame.proofs.FrameLaws as Frame
 
 module _ (s : Bytes) (number n : ℕ) (ids sections : List ℕ) (a : Accepted s number n ids sections) where
   module _ (group : Group) (x : Input) (refusal : ℕ) (e : refusal ≡ stopOf (admit group number (namesAt s ids n) x)) where
     stops : refusal ≡ stopOf (admit group (a .manifest .number) (names s (a .manifest)) x)
     stops = rw (← a .numbered, ← named s number n ids sections a) e
 
+    is-run : runEnvelope s group x ≡ runOf group (a .manifest .number) (names s (a .manifest)) (λ env st. runAll env (planOf group (a .manifest)) st) x
+    unfolding runEnvelope
+    is-run = rw (a .checks)
+
     pub refused-answer : (refusal ≡ 0 → ⊥) → (r : Refusal) → r ≡ refusalOf refusal →
         Settles (x .device) (runEnvelope s group x) (record { answer = Refused r 0; number = x .device .number }) (x .slots) (x .slots) (x .trace) (x .trace)
-    unfolding runEnvelope
-    refused-answer d r q =
-        settles-refused x (runEnvelope s group x) r 0
-        (rw (a .checks, refused-run group (a .manifest .number) (names s (a .manifest)) x refusal stops (λ env st. runAll env (planOf group (a .manifest)) st) d, q))
+    refused-answer = Frame.refused-answer group (a .manifest .number) (names s (a .manifest)) x _ (runEnvelope s group x) is-run refusal stops
 
     module _ (z : refusal ≡ 0) (found : List ℕ) (f : Found (namesAt s ids n) (x .slots) (replicate 8 0) found) where
       unfoldable whole : SectionsJob s sections (x .device .vendor) (x .device .class) found (x .answers) (x .slots) (replicate 40 0) (x .trace)
@@ -67,23 +69,20 @@ module _ (s : Bytes) (number n : ℕ) (ids sections : List ℕ) (a : Accepted s 
         unfolding whole
         ran = d whole
 
-        run-as : runEnvelope s group x ≡ got (report group (a .manifest .number) x (outOf s (length (names s (a .manifest))) words′ slots′ trace′ r))
-        unfolding runEnvelope
-        run-as =
-            rw (a .checks)
-            (ran-run group (a .manifest .number) (names s (a .manifest)) x refusal stops z (λ env st. runAll env (planOf group (a .manifest)) st) _
-            (ran .goes ∙ ap (runAll (envOf (names s (a .manifest)) x) (planOf group (a .manifest))) (state-start s (names s (a .manifest)) x)))
+        goes : outOf s (length (names s (a .manifest))) words′ slots′ trace′ r ≡ runAll (envOf (names s (a .manifest)) x) (planOf group (a .manifest)) (startState (names s (a .manifest)) x)
+        goes = ran .goes ∙ ap (runAll (envOf (names s (a .manifest)) x) (planOf group (a .manifest))) (state-start s (names s (a .manifest)) x)
 
         pub last-event : (0 < r .stop → 0 < r .events) × (8 * r .events ≤ length trace′)
         unfolding report
         last-event =
-            let f = envelope-effects s group (a .manifest) x _ (a .checks) run-as in
+            let f = envelope-effects s group (a .manifest) x _ (a .checks) (Frame.run-as group (a .manifest .number) (names s (a .manifest)) x _ (runEnvelope s group x) is-run refusal stops z (r .stop) (r .events) (r .used) _ slots′ trace′ goes) in
             (ran .late, omega (arith, f .fits, f .trace-length, trace-room group (a .manifest .number) (names s (a .manifest)) x refusal stops z))
 
         pub answered : (ending : Ending) (after : ℕ) → ending ≡ endingOf (r .stop) (r .events) (r .used) trace′ → after ≡ numberAfter group (endOf (r .stop)) number (x .device .number) →
             Settles (x .device) (runEnvelope s group x) (record { answer = Ran ending; number = after }) (x .slots) slots′ (x .trace) trace′
         answered ending after p q =
-            settles-ran group (a .manifest .number) x (r .stop) (r .events) (r .used) _ slots′ trace′ (runEnvelope s group x) run-as ending after p (rw (← a .numbered) q)
+            Frame.answered group (a .manifest .number) (names s (a .manifest)) x _ (runEnvelope s group x) is-run refusal stops z (r .stop) (r .events) (r .used) _ slots′ trace′ goes ending after p
+            (rw (← a .numbered) q)
 
 module _ (s : Bytes) (r : Report) (e : r ≡ reportOf (check s)) (k : Refusal) (p : ℕ) (h : r .answer ≡ The.Refused k p) where
   not-run : (group : Group) (x : Input) → runEnvelope s group x ≡ refused k p

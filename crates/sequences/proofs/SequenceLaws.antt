@@ -2,7 +2,7 @@
 use Prim.Native.Nat.{ℕ, zero, suc, _+_, _-_, _/_, _%_, _≤_, _<_}
 use mathlib.Core.Path.{_≡_, refl, sym, ap, _∙_}
 use mathlib.Core.Bool.{true, false}
-use mathlib.Core.Option.{Option, some, none}
+use mathlib.Core.Option.{some, none}
 use native.Mathlib.Omega.{arith}
 use native.Mathlib.Nat.{add-assoc, add-zero}
 use lib.Dec.{ltb, eqb}
@@ -16,7 +16,7 @@ use Rattle.rules.specs.Commands.{Row, Form, sixteen, nil, below, alternatives, 
 use Rattle.rules.specs.declared.tables.Command.{Command}
 use Rattle.rules.specs.declared.tables.Listed.the-variants as L
 use Rattle.rules.specs.Tables.{kindOf, weightOf, asCommand, listed}
-use Rattle.rules.proofs.TableLaws.{allowed-bit}
+use Rattle.rules.proofs.TableLaws.{allowed-bit, listed-some, listed-none}
 use Rattle.rules.specs.Manifest.{Seq, then, Cmd, try, Alts, or, count, countCmd, countAlts}
 use Rattle.rules.specs.Check.{Read, nothing, number, inBytes, entries, alternativesAt, argument, command, commandsAt, sequenceAt}
 use Rattle.rules.proofs.GotLaws.{passed, split}
@@ -158,14 +158,6 @@ module _ (s : Bytes) (deeper : ℕ → Read Seq) where
       plus c (got t) = ap (λ (j : ℕ). got (j, t .1)) (sym (add-assoc m (countCmd c) (count (t .0))))
 
 -- what a look-up of a command found
-pub listed-some : (o : Option Row) (c : Command) → listed o ≡ L.Command c → (r : Row) × (o ≡ some r) × (asCommand r ≡ c)
-listed-some none c e = let z : _≡_ {A = ℕ} 0 1 = cc in absurd (omega arith)
-listed-some (some r) c e = let f : asCommand r ≡ c = cc in (r, refl, f)
-
-pub listed-none : (o : Option Row) → listed o ≡ L.Unlisted → o ≡ none
-listed-none none e = refl
-listed-none (some r) e = let z : _≡_ {A = ℕ} 0 1 = cc in absurd (omega arith)
-
 -- the start of a command, by the tests in their order
 module _ (s : Bytes) (n section m e at : ℕ) where
   pub open-stop : (r : Reading) → Stopped (number s e at) r → r ≡ reading (λ k. k) (opening s n section m e at)

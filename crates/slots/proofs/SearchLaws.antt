@@ -2,7 +2,7 @@
 use Prim.Native.Nat.{ℕ, zero, suc, _+_, _-_, _*_, _/_, _%_, _≤_, _<_}
 use mathlib.Core.Path.{_≡_, refl, sym, ap, _∙_}
 use mathlib.Core.List.{List, [], _∷_, map}
-use mathlib.Core.Bool.{Bool, true, false, _&&_, not, and-false}
+use mathlib.Core.Bool.{Bool, true, false, _&&_, not}
 use native.Mathlib.Omega.{arith}
 use native.Mathlib.Numerals.{add-one}
 use native.Mathlib.Nat.{add-zero, zero-add}
@@ -15,6 +15,7 @@ use Rattle.rules.specs.Bytes.{Bytes, Span, span, spanAt, bytesAt, part, same, m
 use Rattle.rules.specs.Limits.{limits}
 use Rattle.rules.specs.Slots.{slotBytes, slotAt, numbers, slotsIn, slotNames, slotOf, goodSlot, allGood, goodSlots}
 use Rattle.rules.proofs.BytesLaws.{length-part}
+use Rattle.rules.proofs.SameLaws.{same-lengths}
 use Rattle.slots.specs.Slot.{Holds, Short, slotsFrom, namesFrom, namesAt, Found}
 
 -- the numbers from k on, before n
@@ -34,12 +35,6 @@ numbers-at (suc n) k zero l = sym (add-zero k)
 numbers-at (suc n) k (suc i) l = numbers-at n (suc k) i (omega arith) ∙ omega arith
 
 -- identifiers of different lengths are not the same
-pub same-lengths : (x y : Bytes) → (length x ≡ length y → ⊥) → same x y ≡ false
-same-lengths [] [] d = absurd (d refl)
-same-lengths [] (y ∷ ys) d = refl
-same-lengths (x ∷ xs) [] d = refl
-same-lengths (x ∷ xs) (y ∷ ys) d = rw (same-lengths xs ys (λ q. d (ap suc q))) (and-false (eqb x y))
-
 module _ (b : Bytes) (k : ℕ) (short : getD b (slotBytes * k) 0 ≤ limits .identifier) where
   pub id-part : slotAt b k .id ≡ part b (slotBytes * k + 1) (getD b (slotBytes * k) 0)
   unfolding slotAt

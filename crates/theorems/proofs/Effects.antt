@@ -28,7 +28,7 @@ use Rattle.rules.specs.Run.{on, next, indexAfter, coerceAfter, runSeq, runCmd, 
 use Rattle.rules.specs.Program.{Rec, does, jump, Program, NONE}
 use Rattle.rules.specs.ProgramTest.{marked, groupIn, idsIn, recordsIn, nonJumps, programIn}
 use Rattle.rules.specs.ProgramRun.{exec, runProgram}
-use Rattle.rules.proofs.GotLaws.{passed, split, split₂}
+use Rattle.rules.proofs.GotLaws.{passed, split, split₂, or-false}
 use Rattle.theorems.proofs.ManifestLaws.{sound}
 use Rattle.theorems.proofs.FlatLaws.{counts, chosen-law}
 use Rattle.theorems.proofs.SlotLaws.{drop-put-past, other-kept, fixed-kept, length-kept, number-kept}
@@ -75,10 +75,6 @@ pub record Changes (st st′ : State) (slots : List ℕ) (n : ℕ) : Type 0 wher
   pub slots-length : length (st′ .slots) ≡ length (st .slots)
   pub fixed : (c : ℕ) → part (st′ .slots) (slotBytes * c) imageFrom ≡ part (st .slots) (slotBytes * c) imageFrom
   pub others : (c : ℕ) → among c slots ≡ false → part (st′ .slots) (slotBytes * c) slotBytes ≡ part (st .slots) (slotBytes * c) slotBytes
-
-or-false : (a b : Bool) → (a || b) ≡ false → (a ≡ false) × (b ≡ false)
-or-false true b e = let z : _≡_ {A = ℕ} 0 1 = cc in absurd (omega arith)
-or-false false b e = (refl, e)
 
 among-append : (c : ℕ) (xs ys : List ℕ) → among c (xs ++ ys) ≡ false → (among c xs ≡ false) × (among c ys ≡ false)
 among-append c [] ys h = (refl, h)

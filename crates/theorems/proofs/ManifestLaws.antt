@@ -2,7 +2,7 @@
 use Prim.Native.Nat.{ℕ, zero, suc, _+_, _-_, _*_, _≤_, _<_}
 use mathlib.Core.Path.{_≡_, refl, _∙_, subst}
 use mathlib.Core.List.{List, [], _∷_, _++_, map, map-append}
-use mathlib.Core.Bool.{Bool, true, false, _||_, not}
+use mathlib.Core.Bool.{false, not}
 use native.Mathlib.Omega.{arith}
 use lib.Dec.{leb, eqb}
 use lib.ListN.{length, length-append, length-map}
@@ -15,15 +15,12 @@ use Rattle.rules.specs.Cbor.{NUMBER, ARRAY, MAP, item}
 use Rattle.rules.specs.Manifest.{count, Section, countAll, Manifest, names}
 use Rattle.rules.specs.Check.{number, key, inBytes, strings, identifier, identifiers, components, sequenceAt, sectionAt, commonSeq, commonAt, sectionsAt, manifestAt, unread, check}
 use Rattle.rules.specs.ProgramSize.{argSize}
-use Rattle.rules.proofs.GotLaws.{passed, both, split, split₂}
+use Rattle.rules.proofs.GotLaws.{passed, both, split, split₂, or-false}
 use Rattle.rules.proofs.CheckLaws.{Item, item-law, number-law, key-law, inBytes-law, strings-law}
 use Rattle.theorems.proofs.RoundTrip.{GoodIds}
-use Rattle.rules.proofs.BytesLaws.{length-part, same-sym}
+use Rattle.rules.proofs.BytesLaws.{length-part}
+use Rattle.rules.proofs.SameLaws.{same-sym}
 use Rattle.theorems.proofs.TreeLaws.{GoodSeq, Tree, seq-tree}
-
-or-false : (a b : Bool) → (a || b) ≡ false → (a ≡ false) × (b ≡ false)
-or-false true b e = let z : _≡_ {A = ℕ} 0 1 = cc in absurd (omega arith)
-or-false false b e = (refl, e)
 
 member-append : (x id : Bytes) (xs : List Bytes) → member x xs ≡ false → same x id ≡ false → member x (xs ++ (id ∷ [])) ≡ false
 member-append x id [] h e = rw e

@@ -11,6 +11,7 @@ use Rattle.rules.specs.Limits.{limits}
 use Rattle.rules.specs.Bytes.{Bytes, be4}
 use Rattle.rules.specs.Commands.{Params, unset, orElse, over, Op, vendor, class, imageMatch, setIndex, abort, setParams, overrideParams, fetch, copy, run, swap, code, component, Form, sixteen, nil, below, alternatives, parameters, sequence, Allowed, anywhere, only, Row, commands, rowOf}
 use Rattle.rules.specs.Program.{entry, paramBytes, argBytes}
+use Rattle.rules.proofs.TableLaws.{_&_}
 
 -- parameters within their ranges, for n components
 pub record Fit (n : ℕ) (p : Params) : Type 0 where
@@ -141,10 +142,6 @@ abbrev RowsOk : List Row → Type 0
 RowsOk [] = Unit {0}
 RowsOk (r ∷ rs) = RowOk (r .form) (r .allowed) × RowsOk rs
 
-infixr 5 _&_
-_&_ : {A B : Type 0} → A → B → A × B
-a & b = (a, b)
-
 table-ok : RowsOk commands
 table-ok =
     (λ n b h. (h, refl, h))
@@ -173,3 +170,16 @@ row-ok c r e = find commands table-ok e
             (rowOf c xs ≡ some r → RowOk (r .form) (r .allowed)) → RowOk (r .form) (r .allowed)
         go true e′ k = let f : x ≡ r = cc in subst (λ (y : Row). RowOk (y .form) (y .allowed)) f (h .0)
         go false e′ k = k e′
+
+pub code-small : (op : Op) → code op < 256
+code-small (vendor b) = omega arith
+code-small (class b) = omega arith
+code-small imageMatch = omega arith
+code-small (setIndex k) = omega arith
+code-small abort = omega arith
+code-small (setParams p) = omega arith
+code-small (overrideParams p) = omega arith
+code-small fetch = omega arith
+code-small copy = omega arith
+code-small run = omega arith
+code-small swap = omega arith

@@ -2,12 +2,10 @@
 use Prim.Native.Nat.{ℕ, zero, suc, _+_, _-_, _*_, _/_, _%_, _≤_, _<_}
 use mathlib.Core.Path.{_≡_, refl, ap, _∙_}
 use mathlib.Core.Bool.{true}
-use mathlib.Core.Option.{Option, some, none}
 use native.Mathlib.Omega.{arith}
 use lib.Dec.{ltb, eqb}
 use lib.ListN.{length}
 use borrow.Author.Tests.{ltb-true}
-use Rattle.rules.specs.declared.answers.Refusal.{Refusal}
 use Rattle.rules.specs.declared.answers.Refusal.the-variants.{Malformed, NoSuchComponent, NotAllowed, TooManyCommands, UnknownCommand}
 use Rattle.rules.specs.Limits.{limits}
 use Rattle.rules.specs.Bytes.{Bytes, part, Span}
@@ -18,14 +16,10 @@ use Rattle.rules.specs.Manifest.{Seq, end, then, Cmd, one, sub, try, Alts, last
 use Rattle.rules.specs.Check.{Read, nothing, number, inBytes, entries, alternativesAt, argument, command, commandsAt, sequenceAt}
 use Rattle.rules.specs.ProgramSize.{argSize, argSizeCmd, argSizeAlts}
 use Rattle.rules.proofs.BytesLaws.{length-part}
-use Rattle.rules.proofs.GotLaws.{passed, both, split, split₂}
+use Rattle.rules.proofs.GotLaws.{passed, both, split, split₂, found-is}
 use Rattle.rules.proofs.CheckLaws.{Item, item-law, number-law, inBytes-law, bytes-after}
 use Rattle.theorems.proofs.OpLaws.{GoodOp, rowFor, fit-unset, RowOk, row-ok}
 use Rattle.theorems.proofs.ParamLaws.{Entries, entries-law}
-
-found-is : {A : Type 0} (o : Option A) (r : Refusal) (p : ℕ) (a : A) → found o r p ≡ got a → o ≡ some a
-found-is none r p a e = let z : _≡_ {A = ℕ} 0 1 = cc in absurd (omega arith)
-found-is (some b) r p a e = let f : b ≡ a = cc in ap some f
 
 abbrev pub jumps : Alts → ℕ
 jumps (last s) = 0

@@ -30,7 +30,8 @@ use Rattle.sizing.specs.Size.{most}
 use Rattle.writer.specs.Write.{written, Filled}
 use Rattle.translator.specs.Sections.{SectionsHere, SectionsSized, SectionsJob}
 use Rattle.translator.specs.Translate.{Translates, startBytes}
-use Rattle.writer.proofs.FillLaws.{put-append, filled-length, length-part}
+use Rattle.rules.proofs.BytesLaws.{length-part}
+use Rattle.writer.proofs.FillLaws.{put-append, filled-length}
 
 id-short : (ids : List Bytes) (k : ℕ) → GoodIds ids → k < length ids → length (getD ids k []) ≤ limits .identifier
 id-short [] k g h = absurd (omega arith)

@@ -5,11 +5,12 @@ use mathlib.Core.List.{[], _∷_, _++_}
 use native.Mathlib.Omega.{arith}
 use native.Mathlib.Nat.{add-zero, add-suc, suc-add}
 use borrow.Author.Tests.{eq-eqb, ne-eqb}
-use lib.ListN.{length, getD, set, length-append, length-drop, length-set}
-use lib.Seq.{set-comm, length-sets, getD-take, getD-drop, length-take-le}
+use lib.ListN.{length, getD, set, length-append, length-set}
+use lib.Seq.{set-comm, length-sets, getD-take, getD-drop}
 use Rattle.rules.specs.Bytes.{Bytes, put, part}
 use Rattle.rules.specs.Program.{entry}
 use Rattle.slots.specs.Params.{optional}
+use Rattle.rules.proofs.BytesLaws.{length-part}
 use Rattle.slots.proofs.ByteLoops.{putFrom, put-next}
 use Rattle.writer.specs.Write.{Filled}
 
@@ -40,9 +41,6 @@ filled-length b to room p room₁ f = rw (f .filled) (length-sets room to b)
 
 pub length-kept : (room : Bytes) (i x k y to : ℕ) (b room′ : Bytes) → room′ ≡ put (set (set room i x) k y) to b → length room′ ≡ length room
 length-kept room i x k y to b room′ e = rw (e, length-sets (set (set room i x) k y) to b, length-set (set room i x) k y) (length-set room i x)
-
-pub length-part : (s : Bytes) (from n : ℕ) → from + n ≤ length s → length (part s from n) ≡ n
-length-part s from n l = length-take-le n _ (simp length-drop (omega arith))
 
 pub part-next : (s : Bytes) (from n to : ℕ) (room : Bytes) (i : ℕ) → i < n → from + n ≤ length s →
     putFrom to (part s from n) i room ≡ putFrom to (part s from n) (i + 1) (set room (to + i) (getD s (from + i) 0))

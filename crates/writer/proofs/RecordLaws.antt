@@ -17,10 +17,12 @@ use Rattle.slots.specs.Params.{optional, meaning, Fit}
 use Rattle.commands.specs.Op.{opOf, IsCode}
 use Rattle.accepted.specs.declared.arguments.Args.{Args}
 use Rattle.accepted.specs.Arguments.{paramsOf, ReadAs}
+use Rattle.theorems.proofs.OpLaws.{code-small}
 use Rattle.accepted.proofs.OneLaws.{one-plain, coerce-after}
 use Rattle.writer.specs.declared.write.Pen.{Pen}
 use Rattle.writer.specs.Write.{Filled, headBytes, written, JumpWrote, LeafJob, CommandWrote}
-use Rattle.writer.proofs.FillLaws.{put-before, filled-then, length-part}
+use Rattle.rules.proofs.BytesLaws.{length-part}
+use Rattle.writer.proofs.FillLaws.{put-before, filled-then}
 
 -- the entries of the parameters
 module _ (s : Bytes) (p : Params) where
@@ -79,19 +81,6 @@ no-bytes fetch c k i j = refl
 no-bytes copy c k i j = refl
 no-bytes run c k i j = refl
 no-bytes swap c k i j = refl
-
-code-small : (op : Op) → code op < 256
-code-small (vendor b) = omega arith
-code-small (class b) = omega arith
-code-small imageMatch = omega arith
-code-small (setIndex n) = omega arith
-code-small abort = omega arith
-code-small (setParams p) = omega arith
-code-small (overrideParams p) = omega arith
-code-small fetch = omega arith
-code-small copy = omega arith
-code-small run = omega arith
-code-small swap = omega arith
 
 -- a record is its head and its argument
 head-length : (c i p t n : ℕ) → length (headBytes c i p t n) ≡ 10

@@ -1,7 +1,8 @@
 use borrow.Author.Needs.{needs}
 use borrow.Author.Tests.{eq-eqb, ne-eqb, not-true, not-false}
 use Rattle.rules.specs.Step.{passes}
-use Rattle.commands.proofs.CommandLaws.{fails, holds, match-unset, match-set}
+use Rattle.rules.proofs.GotLaws.{holds, fails}
+use Rattle.commands.proofs.CommandLaws.{match-unset, match-set}
 use Rattle.commands.proofs.conditions.matches.Statement.{statement}
 use Rattle.commands.proofs.conditions.matches.Tie as tie
 
@@ -15,7 +16,7 @@ returns-2 : tie.Need-returns-2
 unfolding passes
 returns-2 c = (
   search needs,
-  λ env i st a. rw (match-set _ _ env i st _ _ a (c .before .before .if1 .left), fails (c .before .present .ensures) (c .if2 .taken)),
+  λ env i st a. rw (match-set _ _ env i st _ _ a (c .before .before .if1 .left), fails _ _ (c .before .present .ensures) (c .if2 .taken)),
 )
 
 returns-3 : tie.Need-returns-3
@@ -26,7 +27,7 @@ returns-3 c =
       λ env i st a.
           rw (
             match-set _ _ env i st _ _ a (b .before .before .if1 .left),
-            holds (b .before .present .ensures) (b .if2 .left),
+            holds _ _ (b .before .present .ensures) (b .if2 .left),
             ← c .before .same-parts .ensures,
             not-true (c .before .same-parts .result) (c .if3 .taken),
           ),
@@ -41,7 +42,7 @@ returns-4 c =
       λ env i st a.
           rw (
             match-set _ _ env i st _ _ a (b .before .before .if1 .left),
-            holds (b .before .present .ensures) (b .if2 .left),
+            holds _ _ (b .before .present .ensures) (b .if2 .left),
             ← d .same-parts .ensures,
             not-false (d .same-parts .result) (c .before .if3 .left),
             eq-eqb _ _ (c .if4 .taken),
@@ -57,7 +58,7 @@ returns-5 c =
       λ env i st a.
           rw (
             match-set _ _ env i st _ _ a (b .before .before .if1 .left),
-            holds (b .before .present .ensures) (b .if2 .left),
+            holds _ _ (b .before .present .ensures) (b .if2 .left),
             ← d .same-parts .ensures,
             not-false (d .same-parts .result) (c .before .before .before .if3 .left),
             ne-eqb _ _ (c .before .before .if4 .left),
@@ -75,7 +76,7 @@ returns-6 c =
       λ env i st a.
           rw (
             match-set _ _ env i st _ _ a (b .before .before .if1 .left),
-            holds (b .before .present .ensures) (b .if2 .left),
+            holds _ _ (b .before .present .ensures) (b .if2 .left),
             ← d .same-parts .ensures,
             not-false (d .same-parts .result) (c .before .before .before .if3 .left),
             ne-eqb _ _ (c .before .before .if4 .left),

@@ -2,7 +2,8 @@ use native.Mathlib.Omega.{arith}
 use borrow.Author.Needs.{needs}
 use borrow.Author.Tests.{le-leb, lt-leb}
 use Rattle.rules.specs.Step.{unless}
-use Rattle.commands.proofs.CommandLaws.{fails, holds, copy-unset, copy-set}
+use Rattle.rules.proofs.GotLaws.{holds, fails}
+use Rattle.commands.proofs.CommandLaws.{copy-unset, copy-set}
 use Rattle.commands.proofs.images.copy.Statement.{statement}
 use Rattle.commands.proofs.images.copy.Tie as tie
 
@@ -16,7 +17,7 @@ returns-2 : tie.Need-returns-2
 unfolding unless
 returns-2 c = (
   search needs,
-  λ s env i st a h. rw (copy-set s _ env i st _ _ a (c .before .before .before .before .before .before .args .found .now) h (c .before .before .before .before .if1 .left), fails (c .before .present .ensures) (c .if2 .taken)),
+  λ s env i st a h. rw (copy-set s _ env i st _ _ a (c .before .before .before .before .before .before .args .found .now) h (c .before .before .before .before .if1 .left), fails _ _ (c .before .present .ensures) (c .if2 .taken)),
 )
 
 size-requires : tie.Need-size-requires
@@ -29,7 +30,7 @@ returns-3 c = (
   λ s env i st a h.
       rw (
         copy-set s _ env i st _ _ a (c .before .before .before .before .before .before .before .before .before .before .before .args .found .now) h (c .before .before .before .before .before .before .before .before .before .if1 .left),
-        holds (c .before .before .before .before .before .before .present .ensures) (c .before .before .before .before .before .if2 .left),
+        holds _ _ (c .before .before .before .before .before .before .present .ensures) (c .before .before .before .before .before .if2 .left),
         ← c .before .size .ensures,
         ← c .before .before .before .capacity .ensures,
         lt-leb _ _ (c .if3 .taken),
@@ -46,7 +47,7 @@ returns-4 c = (
   λ s env i st a h.
       rw (
         copy-set s _ env i st _ _ a (c .before .before .before .before .before .before .before .before .before .before .before .before .before .before .before .before .before .args .found .now) h (c .before .before .before .before .before .before .before .before .before .before .before .before .before .before .before .if1 .left),
-        holds (c .before .before .before .before .before .before .before .before .before .before .before .before .present .ensures) (c .before .before .before .before .before .before .before .before .before .before .before .if2 .left),
+        holds _ _ (c .before .before .before .before .before .before .before .before .before .before .before .before .present .ensures) (c .before .before .before .before .before .before .before .before .before .before .before .if2 .left),
         ← c .before .before .before .before .before .before .before .size .ensures,
         ← c .before .before .before .before .before .before .before .before .before .capacity .ensures,
         le-leb _ _ (c .before .before .before .before .before .before .if3 .left),

@@ -5,7 +5,8 @@ use Rattle.slots.specs.Slot.{Holds}
 use borrow.Author.Needs.{needs}
 use borrow.Author.Tests.{le-leb, lt-leb}
 use Rattle.rules.specs.Step.{unless}
-use Rattle.commands.proofs.CommandLaws.{fails, holds, swap-unset, swap-set}
+use Rattle.rules.proofs.GotLaws.{holds, fails}
+use Rattle.commands.proofs.CommandLaws.{swap-unset, swap-set}
 use Rattle.commands.proofs.images.swap.Statement.{statement}
 use Rattle.commands.proofs.images.swap.Tie as tie
 
@@ -16,7 +17,7 @@ returns-2 : tie.Need-returns-2
 unfolding unless
 returns-2 c = (
   search needs,
-  λ s env i st a h. rw (swap-set s _ env i st _ _ a (c .before .before .before .before .before .before .args .found .now) h (c .before .before .before .before .if1 .left), fails (c .before .present .ensures) (c .if2 .taken)),
+  λ s env i st a h. rw (swap-set s _ env i st _ _ a (c .before .before .before .before .before .before .args .found .now) h (c .before .before .before .before .if1 .left), fails _ _ (c .before .present .ensures) (c .if2 .taken)),
 )
 
 present-requires-2 : tie.Need-present-requires-2
@@ -29,8 +30,8 @@ returns-3 c = (
   λ s env i st a h.
       rw (
         swap-set s _ env i st _ _ a (c .before .before .before .before .before .before .before .before .before .args .found .now) h (c .before .before .before .before .before .before .before .if1 .left),
-        holds (c .before .before .before .before .present .ensures) (c .before .before .before .if2 .left),
-        fails (c .before .present2 .ensures) (c .if3 .taken),
+        holds _ _ (c .before .before .before .before .present .ensures) (c .before .before .before .if2 .left),
+        fails _ _ (c .before .present2 .ensures) (c .if3 .taken),
       ),
 )
 
@@ -44,8 +45,8 @@ returns-4 c = (
   λ s env i st a h.
       rw (
         swap-set s _ env i st _ _ a (c .before .before .before .before .before .before .before .before .before .before .before .before .before .before .args .found .now) h (c .before .before .before .before .before .before .before .before .before .before .before .before .if1 .left),
-        holds (c .before .before .before .before .before .before .before .before .before .present .ensures) (c .before .before .before .before .before .before .before .before .if2 .left),
-        holds (c .before .before .before .before .before .before .present2 .ensures) (c .before .before .before .before .before .if3 .left),
+        holds _ _ (c .before .before .before .before .before .before .before .before .before .present .ensures) (c .before .before .before .before .before .before .before .before .if2 .left),
+        holds _ _ (c .before .before .before .before .before .before .present2 .ensures) (c .before .before .before .before .before .if3 .left),
         ← c .before .size .ensures,
         ← c .before .before .before .capacity .ensures,
         lt-leb _ _ (c .if4 .taken),
@@ -62,8 +63,8 @@ returns-5 c = (
   λ s env i st a h.
       rw (
         swap-set s _ env i st _ _ a (c .before .before .before .before .before .before .before .before .before .before .before .before .before .before .before .before .before .before .before .args .found .now) h (c .before .before .before .before .before .before .before .before .before .before .before .before .before .before .before .before .before .if1 .left),
-        holds (c .before .before .before .before .before .before .before .before .before .before .before .before .before .before .present .ensures) (c .before .before .before .before .before .before .before .before .before .before .before .before .before .if2 .left),
-        holds (c .before .before .before .before .before .before .before .before .before .before .before .present2 .ensures) (c .before .before .before .before .before .before .before .before .before .before .if3 .left),
+        holds _ _ (c .before .before .before .before .before .before .before .before .before .before .before .before .before .before .present .ensures) (c .before .before .before .before .before .before .before .before .before .before .before .before .before .if2 .left),
+        holds _ _ (c .before .before .before .before .before .before .before .before .before .before .before .present2 .ensures) (c .before .before .before .before .before .before .before .before .before .before .if3 .left),
         ← c .before .before .before .before .before .before .size .ensures,
         ← c .before .before .before .before .before .before .before .before .capacity .ensures,
         le-leb _ _ (c .before .before .before .before .before .if4 .left),
@@ -89,8 +90,8 @@ returns-6 c = (
   λ s env i st a h.
       rw (
         swap-set s _ env i st _ _ a (c .before .before .before .before .before .before .before .before .before .before .before .before .before .before .before .before .before .before .before .before .before .before .before .before .before .before .before .before .before .before .before .args .found .now) h (c .before .before .before .before .before .before .before .before .before .before .before .before .before .before .before .before .before .before .before .before .before .before .before .before .before .before .before .before .before .if1 .left),
-        holds (c .before .before .before .before .before .before .before .before .before .before .before .before .before .before .before .before .before .before .before .before .before .before .before .before .before .before .present .ensures) (c .before .before .before .before .before .before .before .before .before .before .before .before .before .before .before .before .before .before .before .before .before .before .before .before .before .if2 .left),
-        holds (c .before .before .before .before .before .before .before .before .before .before .before .before .before .before .before .before .before .before .before .before .before .before .before .present2 .ensures) (c .before .before .before .before .before .before .before .before .before .before .before .before .before .before .before .before .before .before .before .before .before .before .if3 .left),
+        holds _ _ (c .before .before .before .before .before .before .before .before .before .before .before .before .before .before .before .before .before .before .before .before .before .before .before .before .before .before .present .ensures) (c .before .before .before .before .before .before .before .before .before .before .before .before .before .before .before .before .before .before .before .before .before .before .before .before .before .if2 .left),
+        holds _ _ (c .before .before .before .before .before .before .before .before .before .before .before .before .before .before .before .before .before .before .before .before .before .before .before .present2 .ensures) (c .before .before .before .before .before .before .before .before .before .before .before .before .before .before .before .before .before .before .before .before .before .before .if3 .left),
         ← c .before .before .before .before .before .before .before .before .before .before .before .before .before .before .before .before .before .before .size .ensures,
         ← c .before .before .before .before .before .before .before .before .before .before .before .before .before .before .before .before .before .before .before .before .capacity .ensures,
         le-leb _ _ (c .before .before .before .before .before .before .before .before .before .before .before .before .before .before .before .before .before .if4 .left),

@@ -2,7 +2,8 @@ use mathlib.Core.Path.{refl}
 use native.Mathlib.Omega.{arith}
 use borrow.Author.Needs.{needs}
 use Rattle.commands.specs.Op.{opOf}
-use Rattle.commands.proofs.PerformLaws.{step-is, code-small}
+use Rattle.theorems.proofs.OpLaws.{code-small}
+use Rattle.commands.proofs.PerformLaws.{step-is}
 use Rattle.commands.proofs.perform.perform.Statement.{statement}
 use Rattle.commands.proofs.perform.perform.Tie as tie
 

@@ -1,7 +1,8 @@
 use borrow.Author.Needs.{needs}
 use borrow.Author.Tests.{not-true, not-false}
 use Rattle.slots.proofs.SearchLaws.{good-short}
-use Rattle.frame.proofs.AdmitLaws.{holds, fails, no-verdict, no-start, wrong-number, bad-slots, no-slot, bad-answers, short-trace, admitted}
+use Rattle.rules.proofs.GotLaws.{holds, fails}
+use Rattle.frame.proofs.AdmitLaws.{no-verdict, no-start, wrong-number, bad-slots, no-slot, bad-answers, short-trace, admitted}
 use Rattle.frame.proofs.admit.admit.Statement.{statement}
 use Rattle.frame.proofs.admit.admit.Tie as tie
 

@@ -5,7 +5,8 @@ use mathlib.Core.Bool.{_&&_}
 use mathlib.Core.Logic.{⊎-elim}
 use native.Mathlib.Omega.{arith}
 use Rattle.rules.specs.Bytes as Bytes
-use Rattle.slots.proofs.ByteLoops.{sameFrom, same-start, same-end, same-stop, same-next}
+use Rattle.rules.proofs.SameLaws.{sameFrom, same-start}
+use Rattle.slots.proofs.ByteLoops.{flag-end, flag-stop, flag-next}
 use Rattle.slots.proofs.bytes.same_parts.Statement.{statement}
 use Rattle.slots.proofs.bytes.same_parts.Tie as tie
 
@@ -24,11 +25,11 @@ loop-again c =
     let p = l .before .pre in (
       omega arith,
       l .loop .inv .1
-          ∙ ⊎-elim (λ w. same-stop _ _ _ _ _ _ (omega arith) p (l .loop .same) (c .if1 .same) (w .0 .taken) (w .1)) (λ w. same-next _ _ _ _ _ _ (omega arith) p (l .loop .same) (c .if1 .same) (w .0 .left) (w .1)) (c .if1 .came),
+          ∙ ⊎-elim (λ w. flag-stop _ _ _ _ _ _ (omega arith) p (l .loop .same) (c .if1 .same) (w .0 .taken) (w .1)) (λ w. flag-next _ _ _ _ _ _ (omega arith) p (l .loop .same) (c .if1 .same) (w .0 .left) (w .1)) (c .if1 .came),
     )
 
 returns : tie.Need-returns Inv-loop μ-loop
-returns c = sym (c .before .loop .inv .1 ∙ same-end _ _ _ _ _ _ _ (omega arith))
+returns c = sym (c .before .loop .inv .1 ∙ flag-end _ _ _ _ _ _ _ (omega arith))
 
 pub same-parts-spec : {M : Type 1} → statement M
 same-parts-spec =

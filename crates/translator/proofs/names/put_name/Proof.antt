@@ -5,7 +5,7 @@ use lib.ListN.{length, length-set}
 use lib.Seq.{length-sets}
 use borrow.Author.Needs.{needs}
 use Rattle.rules.specs.Bytes.{part}
-use Rattle.writer.proofs.FillLaws.{length-part}
+use Rattle.rules.proofs.BytesLaws.{length-part}
 use Rattle.translator.proofs.names.put_name.Statement.{statement}
 use Rattle.translator.proofs.names.put_name.Tie as tie
 

@@ -3,8 +3,9 @@ use mathlib.Core.Logic.{⊎-elim}
 use native.Mathlib.Omega.{arith}
 use borrow.Author.Needs.{needs}
 use Rattle.accepted.specs.Arguments.{paramsOf}
+use Rattle.rules.proofs.BytesLaws.{length-part}
 use Rattle.tables.proofs.KindLaws.{sixteen-codes, parameter-codes, nil-codes, index-codes, alternative-codes, sequence-codes}
-use Rattle.writer.proofs.FillLaws.{length-part, filled-none}
+use Rattle.writer.proofs.FillLaws.{filled-none}
 use Rattle.writer.proofs.RecordLaws.{sixteen-bytes, sixteen-filled, params-bytes, no-bytes}
 use Rattle.writer.proofs.argument.put_argument.Statement.{statement}
 use Rattle.writer.proofs.argument.put_argument.Tie as tie

@@ -4,7 +4,8 @@ use native.Mathlib.Omega.{arith}
 use lib.ListN.{length, length-set}
 use borrow.Author.Needs.{needs}
 use Rattle.rules.specs.Bytes.{part}
-use Rattle.writer.proofs.FillLaws.{unset-filled, set-fits, set-filled, length-part, length-kept}
+use Rattle.rules.proofs.BytesLaws.{length-part}
+use Rattle.writer.proofs.FillLaws.{unset-filled, set-fits, set-filled, length-kept}
 use Rattle.writer.proofs.argument.put_string.Statement.{statement}
 use Rattle.writer.proofs.argument.put_string.Tie as tie
 use Rattle.writer.proofs.argument.put_string.Reads as reads

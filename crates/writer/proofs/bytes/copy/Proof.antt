@@ -7,7 +7,8 @@ use lib.ListN.{length, length-set}
 use lib.Seq.{sets}
 use Rattle.rules.specs.Bytes.{part}
 use Rattle.slots.proofs.ByteLoops.{putFrom, put-start, put-end}
-use Rattle.writer.proofs.FillLaws.{part-next, length-part}
+use Rattle.rules.proofs.BytesLaws.{length-part}
+use Rattle.writer.proofs.FillLaws.{part-next}
 use Rattle.writer.proofs.bytes.copy.Statement.{statement}
 use Rattle.writer.proofs.bytes.copy.Tie as tie
 
