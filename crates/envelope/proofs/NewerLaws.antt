@@ -1,9 +1,10 @@
 -- The newer of two envelopes by their ranks, and that a manifest's part lies in its envelope.
 use Prim.Native.Nat.{ℕ, _+_, _≤_, _<_}
 use mathlib.Core.Path.{_≡_, refl, sym, ap, _∙_}
+use mathlib.Core.Bool.{Bool, true, false, cond}
 use mathlib.Core.List.{List}
 use native.Mathlib.Omega.{arith}
-use lib.Dec.{leb, eqb}
+use lib.Dec.{ltb, leb, eqb}
 use lib.ListN.{length}
 use borrow.Author.Tests.{lt-ltb, le-ltb}
 use denote.Ref.{RefT}
@@ -15,15 +16,16 @@ use Rattle.rules.specs.Got.{Got, refused, got}
 use Rattle.rules.specs.Cbor.{MAP, item}
 use Rattle.rules.specs.Manifest.{Manifest}
 use Rattle.rules.specs.Check.{key, unread, inBytes, manifestAt, check}
-use Rattle.rules.specs.Newer.{newerOf, newer}
+use Rattle.rules.specs.Newer.{Newer, inFirst, inSecond, newerOf, newer}
 use Rattle.rules.proofs.GotLaws.{passed, split, split₂}
 use Rattle.rules.proofs.CheckLaws.{inBytes-law}
 use Rattle.theorems.proofs.ManifestLaws.{sound}
 use Rattle.envelope.specs.declared.newest.Part.{Part}
+use Rattle.envelope.specs.declared.newest.Newest.{Newest}
 use Rattle.envelope.specs.declared.report.Checked.the-variants.{Accepted, Refused}
 use Rattle.envelope.specs.declared.report.Report.{Report}
 use Rattle.envelope.specs.Report.{reportOf}
-use Rattle.envelope.specs.Newer.{PartOf, Handed, partIn}
+use Rattle.envelope.specs.Newer.{PartOf, Handed, partIn, newestOf}
 use Rattle.manifest.proofs.ManifestLaws.{manifest-part}
 use Rattle.envelope.proofs.EnvelopeLaws.{differ}
 
@@ -73,31 +75,72 @@ within : (s : Bytes) (x : Got Manifest) → check s ≡ x → (partIn x .from �
 within s (refused k p) q = (omega arith, omega arith)
 within s (got m) q = lies s m q
 
-module _ (s : Bytes) (p : Part) (e : p ≡ partIn (check s)) where
-  pub ordered : p .from ≤ p .to
-  ordered = rw e (within s (check s) refl .0)
+-- by the ranks
+second-newer : (x y : Got Manifest) → partIn x .rank < partIn y .rank → _≡_ {A = Newest} (record { second = 1; from = partIn y .from; to = partIn y .to }) (newestOf (newerOf x y))
+second-newer (refused n p) (refused m q) l = absurd (omega arith)
+second-newer (refused n p) (got y) l = refl
+second-newer (got x) (refused m q) l = absurd (omega arith)
+second-newer (got x) (got y) l = rw (lt-ltb (x .number) (y .number) (omega arith))
 
-  pub inside : p .to ≤ length s
-  inside = rw e (within s (check s) refl .1)
+first-newer : (x y : Got Manifest) → partIn y .rank ≤ partIn x .rank → _≡_ {A = Newest} (record { second = 0; from = partIn x .from; to = partIn x .to }) (newestOf (newerOf x y))
+first-newer (refused n p) (refused m q) l = refl
+first-newer (refused n p) (got y) l = absurd (omega arith)
+first-newer (got x) (refused m q) l = refl
+first-newer (got x) (got y) l = rw (le-ltb (x .number) (y .number) (omega arith))
 
-module _ (a b r : RefT (List ℕ)) where
-  chosen-second : (x y : Got Manifest) → partIn x .rank < partIn y .rank → PartOf b (span (partIn y .from) (partIn y .to)) r → Handed (newerOf x y) a b r
-  chosen-second (refused n p) (refused m q) l h = absurd (omega arith)
-  chosen-second (refused n p) (got y) l h = h
-  chosen-second (got x) (refused m q) l h = absurd (omega arith)
-  chosen-second (got x) (got y) l h = rw (lt-ltb (x .number) (y .number) (omega arith)) h
+module _ (a b : Bytes) (x y : Part) (ex : x ≡ partIn (check a)) (ey : y ≡ partIn (check b)) where
+  pub second : x .rank < y .rank → _≡_ {A = Newest} (record { second = 1; from = y .from; to = y .to }) (newestOf (newer a b))
+  unfolding newer
+  second l = rw (ey) (second-newer (check a) (check b) (rw (ex, ey) at l))
 
-  chosen-first : (x y : Got Manifest) → partIn y .rank ≤ partIn x .rank → PartOf a (span (partIn x .from) (partIn x .to)) r → Handed (newerOf x y) a b r
-  chosen-first (refused n p) (refused m q) l h = h
-  chosen-first (refused n p) (got y) l h = absurd (omega arith)
-  chosen-first (got x) (refused m q) l h = h
-  chosen-first (got x) (got y) l h = rw (le-ltb (x .number) (y .number) (omega arith)) h
+  pub first : y .rank ≤ x .rank → _≡_ {A = Newest} (record { second = 0; from = x .from; to = x .to }) (newestOf (newer a b))
+  unfolding newer
+  first l = rw (ex) (first-newer (check a) (check b) (rw (ex, ey) at l))
 
-  module _ (x y : Part) (ex : x ≡ partIn (check (a .now))) (ey : y ≡ partIn (check (b .now))) where
-    pub second : x .rank < y .rank → PartOf b (span (y .from) (y .to)) r → Handed (newer (a .now) (b .now)) a b r
-    unfolding newer
-    second l h = chosen-second (check (a .now)) (check (b .now)) (rw (ex, ey) at l) (rw ey at h)
+-- what is handed back lies in its envelope
+abbrev Lies : Bytes → Bytes → Newer → Type 0
+Lies a b (inFirst p) = (p .from ≤ p .to) × (p .to ≤ length a)
+Lies a b (inSecond p) = (p .from ≤ p .to) × (p .to ≤ length b)
 
-    pub first : y .rank ≤ x .rank → PartOf a (span (x .from) (x .to)) r → Handed (newer (a .now) (b .now)) a b r
-    unfolding newer
-    first l h = chosen-first (check (a .now)) (check (b .now)) (rw (ex, ey) at l) (rw ex at h)
+newer-lies : (a b : Bytes) → Lies a b (newer a b)
+unfolding newer
+newer-lies a b = go (check a) (check b) refl refl
+  where
+    either : (t : Bool) (x y : Manifest) → check a ≡ got x → check b ≡ got y → Lies a b (cond t (inSecond (y .part)) (inFirst (x .part)))
+    either true x y p q = lies b y q
+    either false x y p q = lies a x p
+
+    go : (x y : Got Manifest) → check a ≡ x → check b ≡ y → Lies a b (newerOf x y)
+    go (refused k m) (refused l n) p q = (omega arith, omega arith)
+    go (refused k m) (got y) p q = lies b y q
+    go (got x) (refused l n) p q = lies a x p
+    go (got x) (got y) p q = either (ltb (x .number) (y .number)) x y p q
+
+module _ (a b : Bytes) (n : Newest) (e : n ≡ newestOf (newer a b)) where
+  lies-at : (x : Newer) → Lies a b x → (newestOf x .from ≤ newestOf x .to) × (newestOf x .second ≡ 1 → newestOf x .to ≤ length b) × ((newestOf x .second ≡ 1 → ⊥) → newestOf x .to ≤ length a)
+  lies-at (inFirst p) h = (h .0, λ z. absurd (omega arith), λ _. h .1)
+  lies-at (inSecond p) h = (h .0, λ _. h .1, λ z. absurd (z refl))
+
+  pub ordered : n .from ≤ n .to
+  ordered = rw e (lies-at (newer a b) (newer-lies a b) .0)
+
+  pub in-second : n .second ≡ 1 → n .to ≤ length b
+  in-second = rw e (lies-at (newer a b) (newer-lies a b) .1)
+
+  pub in-first : (n .second ≡ 1 → ⊥) → n .to ≤ length a
+  in-first = rw e (lies-at (newer a b) (newer-lies a b) .2)
+
+module _ (a b r : RefT (List ℕ)) (n : Newest) (e : n ≡ newestOf (newer (a .now) (b .now))) where
+  pub hand-second : n .second ≡ 1 → PartOf b (span (n .from) (n .to)) r → Handed (newer (a .now) (b .now)) a b r
+  hand-second s h = go (newer (a .now) (b .now)) (rw e at s) (rw e at h)
+    where
+      go : (x : Newer) → newestOf x .second ≡ 1 → PartOf b (span (newestOf x .from) (newestOf x .to)) r → Handed x a b r
+      go (inFirst p) s h = absurd (omega arith)
+      go (inSecond p) s h = h
+
+  pub hand-first : (n .second ≡ 1 → ⊥) → PartOf a (span (n .from) (n .to)) r → Handed (newer (a .now) (b .now)) a b r
+  hand-first s h = go (newer (a .now) (b .now)) (rw e at s) (rw e at h)
+    where
+      go : (x : Newer) → (newestOf x .second ≡ 1 → ⊥) → PartOf a (span (newestOf x .from) (newestOf x .to)) r → Handed x a b r
+      go (inFirst p) s h = h
+      go (inSecond p) s h = absurd (s refl)

@@ -8,6 +8,7 @@ use Rattle.rules.specs.Got.{Got, refused, got}
 use Rattle.rules.specs.Manifest.{Manifest}
 use Rattle.rules.specs.Newer.{Newer, inFirst, inSecond}
 use Rattle.envelope.specs.declared.newest.Part.{Part}
+use Rattle.envelope.specs.declared.newest.Newest.{Newest}
 
 -- r is the bytes at p of the slice s, and lies where they lie
 pub record PartOf (s : RefT (List ℕ)) (p : Span) (r : RefT (List ℕ)) : Type 0 where
@@ -24,3 +25,8 @@ Handed (inSecond p) a b r = PartOf b p r
 abbrev pub partIn : Got Manifest → Part
 partIn (refused k p) = record { rank = 0; from = 0; to = 0 }
 partIn (got m) = record { rank = m .number + 1; from = m .part .from; to = m .part .to }
+
+-- the place of what is handed back
+abbrev pub newestOf : Newer → Newest
+newestOf (inFirst p) = record { second = 0; from = p .from; to = p .to }
+newestOf (inSecond p) = record { second = 1; from = p .from; to = p .to }

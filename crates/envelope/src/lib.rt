@@ -5,7 +5,7 @@ ghost use Rattle.rules.specs.Newer as Rule;
 ghost use Rattle.envelope.specs.Report.{reportOf};
 ghost use Rattle.envelope.specs.Newer.{Handed};
 use manifest::read_body;
-use newest::part_in;
+use newest::choose;
 use outer::read_outer;
 use report::Checked;
 use report::Place;
@@ -15,7 +15,7 @@ use rules::answers::Refusal;
 use rules::controller::Controller;
 use tables::tables;
 
-mod newest;
+pub mod newest;
 mod outer;
 pub mod report;
 
@@ -67,14 +67,11 @@ pub fn check(s: &[u8]) -> Report
 pub fn newer<'a>(a: &'a [u8], b: &'a [u8]) -> &'a [u8]
     ensures { λ r. ⌜ Handed (Rule.newer (now (a .entry)) (now (b .entry))) (a .entry) (b .entry) r ⌝ }
 {
-    let x = part_in(a);
-    let y = part_in(b);
-    if x.rank < y.rank {
-        let from = y.from;
-        let to = y.to;
+    let n = choose(a, b);
+    let from = n.from;
+    let to = n.to;
+    if n.second == 1 {
         return &b[from..to];
     }
-    let from = x.from;
-    let to = x.to;
     &a[from..to]
 }

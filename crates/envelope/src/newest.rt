@@ -1,7 +1,8 @@
-// The manifest of an envelope, to be compared with another's.
+// Which of two envelopes has the newer manifest, and where it stands.
 ghost use mathlib.Core.Path.{_≡_};
 ghost use Rattle.rules.specs.Check as Check;
-ghost use Rattle.envelope.specs.Newer.{partIn};
+ghost use Rattle.rules.specs.Newer as Rule;
+ghost use Rattle.envelope.specs.Newer.{partIn, newestOf};
 use crate::check;
 use crate::report::Checked;
 
@@ -31,5 +32,31 @@ pub fn part_in(s: &[u8]) -> Part
             from: 0,
             to: 0,
         },
+    }
+}
+
+// A place in the second envelope where `second` is 1, and in the first where it is 0.
+pub struct Newest {
+    pub second: usize,
+    pub from: usize,
+    pub to: usize,
+}
+
+pub fn choose(a: &[u8], b: &[u8]) -> Newest
+    ensures { λ r. ⌜ r ≡ newestOf (Rule.newer (now (a .entry)) (now (b .entry))) ⌝ }
+{
+    let x = part_in(a);
+    let y = part_in(b);
+    if x.rank < y.rank {
+        return Newest {
+            second: 1,
+            from: y.from,
+            to: y.to,
+        };
+    }
+    Newest {
+        second: 0,
+        from: x.from,
+        to: x.to,
     }
 }
