@@ -1,23 +1,21 @@
 -- Demand 3 over the jobs, from their contracts and the theorem over the rules.
 use Prim.Native.Nat.{ℕ, _≤_}
 use mathlib.Core.Path.{_≡_, refl, sym, ap, _∙_}
-use mathlib.Core.List.{_++_}
 use mathlib.Core.Bool.{Bool}
 use native.Mathlib.Omega.{arith}
 use lib.ListN.{length, take, drop, length-append}
 use lib.Seq.{take-append-seam}
 use Rattle.rules.specs.declared.answers.Group.{Group}
 use Rattle.rules.specs.declared.answers.Refusal.{Refusal}
-use Rattle.rules.specs.declared.answers.Refusal.the-variants.{ShortRoom}
 use Rattle.rules.specs.declared.controller.Controller.{Controller}
 use Rattle.rules.specs.Bytes.{Bytes}
 use Rattle.rules.specs.Got.{Got, refused, got}
 use Rattle.rules.specs.Manifest.{Manifest}
 use Rattle.rules.specs.Check.{check}
-use Rattle.rules.specs.Run.{Input, Ran, runEnvelope}
+use Rattle.rules.specs.Run.{Input, runEnvelope}
 use Rattle.rules.specs.Program.{programOf, programBytes, translate}
 use Rattle.rules.specs.ProgramRun.{runProgram}
-use Rattle.theorems.proofs.Demand3.{Agrees, demand-3}
+use Rattle.theorems.proofs.Demand3.{demand-3}
 use Rattle.frame.specs.declared.answer.Answer.the-variants as Answer
 use Rattle.frame.specs.declared.answer.Outcome.{Outcome}
 use Rattle.frame.specs.Answer.{inputOf, Settles}

@@ -1,20 +1,18 @@
 -- The answer of a run, by the rule.
 use Prim.Native.Nat.{ℕ, _*_, _≤_, _<_}
-use mathlib.Core.Path.{_≡_, refl, sym, ap, _∙_, subst}
+use mathlib.Core.Path.{_≡_, ap, _∙_}
 use mathlib.Core.List.{List}
 use native.Mathlib.Omega.{arith}
-use lib.ListN.{length, getD, replicate, length-map}
+use lib.ListN.{length, replicate, length-map}
 use Rattle.rules.specs.declared.answers.Group.{Group}
 use Rattle.rules.specs.declared.answers.Refusal.{Refusal}
 use Rattle.rules.specs.Answers.{refusalOf, endOf}
-use Rattle.rules.specs.Limits.{limits}
-use Rattle.rules.specs.Bytes.{Bytes, Span, span, bytesAt, spanAt}
-use Rattle.rules.specs.Got.{Got, refused, got, _>>=_}
-use Rattle.rules.specs.Manifest.{Manifest, names}
+use Rattle.rules.specs.Bytes.{Bytes, bytesAt}
+use Rattle.rules.specs.Got.{refused}
+use Rattle.rules.specs.Manifest.{names}
 use Rattle.rules.specs.Check.{check}
 use Rattle.rules.specs.Run.{Input, runAll, planOf, admit, numberAfter, report, startState, envOf, runOf, runEnvelope}
 use Rattle.theorems.proofs.Effects.{envelope-effects}
-use Rattle.envelope.specs.declared.report.Checked.{Checked}
 use Rattle.envelope.specs.declared.report.Checked.the-variants as The
 use Rattle.envelope.specs.declared.report.Report.{Report}
 use Rattle.envelope.specs.Report.{reportOf}

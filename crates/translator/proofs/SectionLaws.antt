@@ -7,7 +7,6 @@ use native.Mathlib.Omega.{arith}
 use lib.ListN.{length, getD, length-map}
 use Rattle.rules.specs.declared.answers.Group.{Group}
 use Rattle.rules.specs.Bytes.{Bytes, put, bytesAt}
-use Rattle.rules.specs.Limits.{limits}
 use Rattle.rules.specs.Manifest.{Seq}
 use Rattle.rules.specs.Run.{planOf}
 use Rattle.rules.specs.Program.{Rec, NONE, size, flatSeq, flatAll, programOf}
@@ -20,7 +19,7 @@ use Rattle.sizing.specs.declared.sizes.Size.{Size}
 use Rattle.writer.specs.declared.write.Pen.{Pen}
 use Rattle.sizing.specs.Size.{most, SequenceHere, SequenceSized}
 use Rattle.writer.specs.Write.{written, SequenceJob, Wrote}
-use Rattle.translator.specs.Sections.{SectionsHere, SectionsSized, SectionsJob, startOf}
+use Rattle.translator.specs.Sections.{SectionsHere, SectionsSized, startOf}
 use Rattle.accepted.proofs.SectionPlaces.{Wanted}
 use Rattle.translator.proofs.PlanLaws.{PlanAt, seqsOf, plan-start, plan-end, Skipped, skip, Taken, take}
 use Rattle.writer.proofs.WriteLaws.{bytes-seq, wrote-none, wrote-then, same-room}

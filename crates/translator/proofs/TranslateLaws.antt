@@ -1,6 +1,6 @@
 -- The program as it is sized and written, by the rule.
 use Prim.Native.Nat.{ℕ, zero, suc, _+_, _-_, _*_, _≤_, _<_}
-use mathlib.Core.Path.{_≡_, refl, sym, ap, _∙_}
+use mathlib.Core.Path.{_≡_, refl, ap, _∙_}
 use mathlib.Core.List.{List, [], _∷_, _++_, map, append-assoc}
 use native.Mathlib.Omega.{arith}
 use lib.ListN.{length, getD, drop, length-append}
@@ -10,20 +10,19 @@ use Rattle.rules.specs.declared.answers.Group.{Group}
 use Rattle.rules.specs.declared.answers.Refusal.{Refusal}
 use Rattle.rules.specs.declared.answers.Refusal.the-variants.{ShortRoom}
 use Rattle.rules.specs.Limits.{limits}
-use Rattle.rules.specs.Bytes.{Bytes, put, flat, bytesAt, spanAt}
-use Rattle.rules.specs.Got.{refused, got}
-use Rattle.rules.specs.Manifest.{Seq, names}
+use Rattle.rules.specs.Bytes.{Bytes, put, flat, spanAt}
+use Rattle.rules.specs.Got.{refused}
+use Rattle.rules.specs.Manifest.{Seq}
 use Rattle.rules.specs.Check.{check}
 use Rattle.rules.specs.Run.{planOf}
 use Rattle.rules.specs.Program.{idBytes, flatAll, programOf, programBytes, translate}
-use Rattle.rules.specs.ProgramSize.{sizeAll, argSizeAll}
 use Rattle.theorems.proofs.RoundTrip.{GoodIds}
 use Rattle.theorems.proofs.FlatLaws.{well-formed, program-size, length-all}
 use Rattle.slots.specs.Slot.{namesAt}
 use Rattle.slots.proofs.SearchLaws.{name-at, names-count}
 use Rattle.identifiers.specs.Identifiers.{InBytes}
 use Rattle.accepted.specs.Accepted.{Accepted}
-use Rattle.accepted.proofs.AcceptedLaws.{known, counted, envelope-short, inside, named}
+use Rattle.accepted.proofs.AcceptedLaws.{known, envelope-short, inside, named}
 use Rattle.sizing.specs.declared.sizes.Size.{Size}
 use Rattle.translator.specs.declared.Translated.the-variants.{Refused, Program}
 use Rattle.sizing.specs.Size.{most}

@@ -1,20 +1,20 @@
 -- The records of sequences and commands, as the code writes them.
-use Prim.Native.Nat.{ℕ, suc, _+_, _-_, _*_, _/_, _≤_, _<_}
+use Prim.Native.Nat.{ℕ, _+_, _-_, _*_, _/_, _≤_, _<_}
 use mathlib.Core.Path.{_≡_, refl, sym, ap, _∙_}
 use mathlib.Core.Bool.{Bool, true, false, _&&_, cond}
 use mathlib.Core.List.{List, [], _∷_, _++_, append-assoc, append-nil}
 use mathlib.Core.Option.{Option}
 use native.Mathlib.Omega.{arith}
-use lib.ListN.{length, length-append, set}
+use lib.ListN.{length, length-append}
 use lib.Seq.{length-sets}
 use Rattle.rules.specs.Bytes.{Bytes, put}
 use Rattle.rules.specs.Cbor.{BYTES, ARRAY}
 use Rattle.rules.specs.Limits.{limits}
-use Rattle.rules.specs.Commands.{Op, component}
+use Rattle.rules.specs.Commands.{Op}
 use Rattle.rules.specs.Manifest.{Seq, end, then, Cmd, one, sub, try, Alts, last, or}
 use Rattle.rules.specs.Check.{sequenceAt}
 use Rattle.rules.specs.Run.{indexAfter, coerceAfter}
-use Rattle.rules.specs.Program.{Rec, does, jump, targetOf, argBytes, size, sizeCmd, sizeAlts, flatSeq, flatCmd, flatAlts, recBytes}
+use Rattle.rules.specs.Program.{Rec, jump, argBytes, size, sizeCmd, sizeAlts, flatSeq, flatCmd, flatAlts, recBytes}
 use Rattle.rules.specs.ProgramSize.{argSize, argSizeCmd, argSizeAlts}
 use Rattle.theorems.proofs.RunLaws.{length-seq, length-cmd}
 use Rattle.theorems.proofs.FlatLaws.{bytes, sum-seq, sum-cmd}

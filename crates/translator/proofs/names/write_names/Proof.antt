@@ -5,7 +5,6 @@ use native.Mathlib.Omega.{arith}
 use lib.ListN.{length}
 use borrow.Author.Needs.{needs}
 use Rattle.rules.specs.Bytes.{put}
-use Rattle.writer.proofs.FillLaws.{filled-length}
 use Rattle.translator.proofs.NameLaws.{named, namesLeft, names-all, names-none, left-size, left-put, left-next}
 use Rattle.translator.proofs.names.write_names.Statement.{statement}
 use Rattle.translator.proofs.names.write_names.Tie as tie

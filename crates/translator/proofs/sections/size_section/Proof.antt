@@ -1,5 +1,4 @@
 use mathlib.Core.Path.{refl}
-use borrow.Author.Needs.{needs}
 use borrow.Author.Tests.{not-true, not-false}
 use Rattle.accepted.proofs.SectionPlaces.{one-answer}
 use Rattle.translator.proofs.sections.size_section.Statement.{statement}
