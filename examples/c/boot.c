@@ -1,0 +1,63 @@
+/* Checks, translates and boots E, the bench sheet's envelope, by its program. */
+#include "pitvorgas.h"
+
+#include <stdio.h>
+#include <string.h>
+
+static const uint8_t E[83] = {
+    0xa2, 0x01, 0xf6, 0x03, 0x58, 0x4d, 0xa4, 0x01, 0x01, 0x02, 0x01, 0x03, 0x58, 0x3c, 0xa2, 0x02, 0x4c, 0x81, 0x82, 0x45, 0x46,
+    0x6c, 0x61, 0x73, 0x68, 0x43, 0x00, 0x34, 0x01, 0x04, 0x58, 0x2a, 0x82, 0x13, 0xa2, 0x0b, 0x58, 0x20, 0x00, 0x11, 0x22, 0x33,
+    0x44, 0x55, 0x66, 0x77, 0x88, 0x99, 0xaa, 0xbb, 0xcc, 0xdd, 0xee, 0xff, 0x01, 0x23, 0x45, 0x67, 0x89, 0xab, 0xcd, 0xef, 0xfe,
+    0xdc, 0xba, 0x98, 0x76, 0x54, 0x32, 0x10, 0x0c, 0x19, 0x87, 0xd0, 0x0c, 0x47, 0x86, 0x0c, 0x00, 0x03, 0xf6, 0x17, 0xf6};
+
+enum { DIGEST = 38, IDENTIFIER = 18, IDENTIFIER_LENGTH = 11, IMAGE_SIZE = 34768 };
+
+static uint8_t slots[PITVORGAS_SLOT_BYTES], trace[PITVORGAS_TRACE_BYTES], room[PITVORGAS_PROGRAM_BYTES];
+
+static void put4(uint8_t *at, uint32_t n) {
+    at[0] = n >> 24;
+    at[1] = n >> 16;
+    at[2] = n >> 8;
+    at[3] = n;
+}
+
+/* One slot, with E's component and the image that E asks for. */
+static void fill_slot(void) {
+    slots[0] = IDENTIFIER_LENGTH;
+    memcpy(slots + 1, E + IDENTIFIER, IDENTIFIER_LENGTH);
+    put4(slots + 33, 65536);
+    slots[37] = 1;
+    put4(slots + 38, IMAGE_SIZE);
+    memcpy(slots + 42, E + DIGEST, 32);
+}
+
+int main(void) {
+    struct pitvorgas_checked checked = pitvorgas_check(E, sizeof E);
+    if (checked.refusal != 0) {
+        printf("refused with %zu at %zu\n", checked.refusal, checked.place);
+        return 1;
+    }
+    printf("number %zu, %zu component\n", checked.number, checked.components);
+
+    struct pitvorgas_translated translated = pitvorgas_translate(E, sizeof E, true, room, sizeof room);
+    if (translated.refusal != 0) {
+        printf("not translated: %zu\n", translated.refusal);
+        return 1;
+    }
+    printf("boot program of %zu bytes\n", translated.length);
+
+    fill_slot();
+    struct pitvorgas_device device = {.number = 1};
+    struct pitvorgas_ran ran = pitvorgas_run_program(room, translated.length, true, device, slots, sizeof slots, E, 0, trace, sizeof trace);
+    if (ran.refusal != 0) {
+        printf("refused with %zu at %zu\n", ran.refusal, ran.place);
+        return 1;
+    }
+    for (size_t k = 0; k < ran.events; k++) {
+        for (size_t i = 0; i < PITVORGAS_EVENT_BYTES; i++)
+            printf("%02x", trace[PITVORGAS_EVENT_BYTES * k + i]);
+        printf("\n");
+    }
+    printf("end %zu at %zu\n", ran.end, ran.place);
+    return 0;
+}

@@ -1,0 +1,149 @@
+/* Pitvorgas: check, compare, run and translate SUIT manifests for gate controllers.
+ *
+ * Link target/staticlib/libabi.a, which `rt staticlib abi` writes. Nothing is allocated, nothing is kept between calls, and no call
+ * keeps a pointer. A slice is a pointer, never null, and a length; a slice that is written to overlaps no other of the same call.
+ *
+ * Every function is proved: for every input it ends, reads and writes only what it is lent, and gives what its comment says. "The rule"
+ * is the definition of that name in crates/rules/specs, which is document 01, "Manifest rules for gate controllers", as definitions.
+ * The contracts stand over the functions of the same names in crates/abi/src/lib.rt.
+ */
+#ifndef PITVORGAS_H
+#define PITVORGAS_H
+
+#include <stdbool.h>
+#include <stddef.h>
+#include <stdint.h>
+
+#ifdef __cplusplus
+extern "C" {
+#endif
+
+/* Limits of document 01. */
+enum {
+    PITVORGAS_ENVELOPE_BYTES = 4096,
+    PITVORGAS_COMPONENTS = 8,
+    PITVORGAS_PROGRAM_BYTES = 32768,
+    PITVORGAS_TRACE_BYTES = 2048, /* the least that a run asks for */
+    PITVORGAS_SLOTS = 8,
+    PITVORGAS_SLOT_BYTES = 74,
+    PITVORGAS_ANSWER_BYTES = 37,
+    PITVORGAS_EVENT_BYTES = 8
+};
+
+/* Refusals. A refusal changes no byte that was lent, and no number. 0 is none. */
+enum {
+    PITVORGAS_ENVELOPE_TOO_LONG = 64,
+    PITVORGAS_NOT_CBOR = 65,
+    PITVORGAS_MALFORMED = 66,
+    PITVORGAS_WRONG_VERSION = 67,
+    PITVORGAS_REPEATED_IDENTIFIER = 68,
+    PITVORGAS_UNKNOWN_COMMAND = 69,
+    PITVORGAS_UNKNOWN_PARAMETER = 70,
+    PITVORGAS_NOT_ALLOWED = 71,
+    PITVORGAS_NO_SUCH_COMPONENT = 72,
+    PITVORGAS_TOO_DEEP = 73,
+    PITVORGAS_TOO_MANY_COMMANDS = 74,
+    PITVORGAS_NOT_VERIFIED = 80,
+    PITVORGAS_EVENT_OPEN = 81,
+    PITVORGAS_WRONG_NUMBER = 82,
+    PITVORGAS_NO_SLOT = 83,
+    PITVORGAS_SHORT_TRACE = 84,
+    PITVORGAS_BAD_SLOTS = 85,
+    PITVORGAS_BAD_ANSWERS = 86,
+    PITVORGAS_SHORT_ROOM = 96,
+    PITVORGAS_BAD_PROGRAM = 97
+};
+
+/* Ends of a run: one of these three, or the failure that nothing catches. */
+enum {
+    PITVORGAS_FINISHED = 0,
+    PITVORGAS_CONDITION_FAILED = 1,
+    PITVORGAS_STARTED = 2
+};
+
+/* Failures. */
+enum {
+    PITVORGAS_PARAMETER_UNSET = 32,
+    PITVORGAS_ABORTED = 33,
+    PITVORGAS_NO_ANSWER = 34,
+    PITVORGAS_BAD_STATUS = 35,
+    PITVORGAS_TOO_LARGE = 36,
+    PITVORGAS_NOTHING_TO_COPY = 37,
+    PITVORGAS_NOTHING_TO_RUN = 38
+};
+
+/* The device: vendor and class identifiers, the sequence number of the manifest installed last, and whether an event is open. */
+struct pitvorgas_device {
+    uint8_t vendor[16];
+    uint8_t class_id[16];
+    uint32_t number;
+    bool event;
+};
+
+/* Lent bytes. Numbers in them are big-endian.
+ *
+ * A slot, 74 bytes:    0 identifier's length (1 to 32)   1 identifier, as many of 32 bytes as that   33 capacity (4)
+ *                     37 present, 0 for no              38 size (4)                                 42 digest (32)
+ *                     slots: 1 to 8 of them, one after the other
+ * An answer, 37 bytes: 0 status, 0 for good              1 size (4)                                  5 digest (32)
+ *                     answers: any number of them; a fetch takes the next
+ * An event, 8 bytes:   0 `53 54`   2 command code   3 component   4 place of the code (2)   6 result: 0, 1 or a failure   7 0
+ *                     trace: at least 2,048 bytes; event k stands at 8 k, bytes beyond the last event keep their values
+ * A program:           the records of document 01, "The flat program"
+ */
+
+/* What check answers. On a refusal all but `refusal` and `place` is 0. Else `refusal` and `place` are 0. Places are those of bytes in the
+ * envelope: identifier k stands from ids[2 k] to before ids[2 k + 1]; sections has the same for common's sequence and sections 8 to 12, in that
+ * order, 0 and 0 for one that is not there; the manifest stands from `from` to before `to`. */
+struct pitvorgas_checked {
+    size_t refusal, place;
+    size_t number, components;
+    size_t ids[16], sections[12];
+    size_t from, to;
+};
+
+/* The manifest stands in the second envelope where `second` is 1 and in the first where it is 0, from `from` to before `to`. */
+struct pitvorgas_newest {
+    size_t second, from, to;
+};
+
+/* A refusal and its place, and length 0; or 0 and 0, and the program's length. */
+struct pitvorgas_translated {
+    size_t refusal, place, length;
+};
+
+/* A refusal and its place, and 0 in end, events and used; or refusal 0, the end and its place (the last event's; 0 where the run finished),
+ * how many events were written and answers used. `number`: the device's sequence number after the run. */
+struct pitvorgas_ran {
+    size_t refusal, place, end, events, used, number;
+};
+
+/* The answer is that of the rule Check.check for the envelope. */
+struct pitvorgas_checked pitvorgas_check(const uint8_t *envelope, size_t envelope_length);
+
+/* The answer is that of the rule Newer.newer: the manifest with the larger number, the first on a tie; an envelope that check refuses is
+ * passed over, and where both are refused the answer is the empty start of the first. */
+struct pitvorgas_newest pitvorgas_newer(const uint8_t *first, size_t first_length, const uint8_t *second, size_t second_length);
+
+/* The answer is that of the rule Program.translate for the envelope, the group (install, or boot where `boot` is true) and the room's length:
+ * check's refusal, or 96 at place 0 exactly where the room is shorter than the program; then the room is as lent. Else the program stands at
+ * the start of the room, and the bytes beyond it are as lent. */
+struct pitvorgas_translated pitvorgas_translate(const uint8_t *envelope, size_t envelope_length, bool boot, uint8_t *room, size_t room_length);
+
+/* The answer, every byte of slots and every byte of trace are those of the rule Run.runEnvelope for the envelope, the group and the input: check's
+ * refusal, then 80, 81, 82, 85, 83, 86, 84 at place 0, with slots and trace as lent and the number the device's; or the run. */
+struct pitvorgas_ran pitvorgas_run(const uint8_t *envelope, size_t envelope_length, bool boot, bool verdict, struct pitvorgas_device device,
+                                   uint8_t *slots, size_t slots_length, const uint8_t *answers, size_t answers_length, uint8_t *trace,
+                                   size_t trace_length);
+
+/* The same by the rule ProgramRun.runProgram: 97 at place 0 where the program is not well formed, then 80, 81, 82, 85, 83, 86, 84; or the run. For the
+ * program of an envelope, and equal input, it is what pitvorgas_run gives (demand 3: agreement::agree). */
+struct pitvorgas_ran pitvorgas_run_program(const uint8_t *program, size_t program_length, bool verdict, struct pitvorgas_device device,
+                                           uint8_t *slots, size_t slots_length, const uint8_t *answers, size_t answers_length, uint8_t *trace,
+                                           size_t trace_length);
+
+#ifdef __cplusplus
+}
+#endif
+
+#endif
