@@ -1,0 +1,19 @@
+//! A plain reading of the manifest rules, and generated inputs that hold the
+//! library against it.
+//!
+//! - `vectors CASES ANSWERS` answers the written cases with the reading.
+//! - `compare N SEED` has the library and the reading answer generated inputs.
+//! - `time` times both.
+//!
+//! The last two need the feature `ours` and the library's `libabi.a`.
+
+pub mod answer;
+pub mod gen;
+pub mod hex;
+pub mod jobs;
+#[cfg(feature = "ours")]
+pub mod ours;
+pub mod reading;
+pub mod subjects;
+pub mod tally;
+pub mod vectors;
