@@ -1,0 +1,137 @@
+-- What is written one after the other.
+use Prim.Native.Nat.{ℕ, zero, suc, _+_, _-_, _/_, _%_, _≤_, _<_}
+use mathlib.Core.Path.{_≡_, refl, sym, ap, _∙_}
+use mathlib.Core.List.{List, [], _∷_, _++_}
+use mathlib.Core.Bool.{Bool, true, false, cond}
+use lib.Dec.{leb, ltb}
+use borrow.Author.Tests.{leb-true, leb-false, lt-ltb, le-ltb}
+use native.Mathlib.Omega.{arith}
+use native.Mathlib.Nat.{add-zero, add-suc, suc-add}
+use native.Mathlib.Numerals.{add-one}
+use lib.ListN.{length, set, take, getD, length-append, length-set, replicate}
+use lib.Seq.{sets, length-sets, take-suc, take-all}
+use Rattle.text.specs.Text.{Bytes, Wrote, least, digit, digits, hex}
+
+pub sets-append : (r : Bytes) (i : ℕ) (a b : Bytes) → sets (sets r i a) (i + length a) b ≡ sets r i (a ++ b)
+sets-append r i [] b = rw (add-zero i)
+sets-append r i (x ∷ a) b = rw (add-suc i (length a), ← suc-add i (length a)) (sets-append (set r i x) (suc i) a b)
+
+-- a store past the end does nothing
+set-past : (r : Bytes) (i x : ℕ) → length r ≤ i → set r i x ≡ r
+set-past [] i x h = refl
+set-past (y ∷ r) zero x h = absurd (none h)
+  where
+    none : suc (length r) ≤ 0 → ⊥
+    none e = omega arith
+set-past (y ∷ r) (suc i) x h = ap (λ (l : Bytes). y ∷ l) (set-past r i x (omega arith))
+
+pub sets-past : (r : Bytes) (i : ℕ) (a : Bytes) → length r ≤ i → sets r i a ≡ r
+sets-past r i [] h = refl
+sets-past r i (x ∷ a) h = rw (set-past r i x h) (sets-past r (suc i) a (omega arith))
+
+pub wrote-none : (at : ℕ) (room : Bytes) → Wrote [] at room at room
+wrote-none at room = record { filled = refl; next = omega arith }
+
+pub wrote-length : {b : Bytes} {at : ℕ} {room : Bytes} {r : ℕ} {room′ : Bytes} → Wrote b at room r room′ → length room′ ≡ length room
+wrote-length {b} {at} {room} w = rw (w .filled) (length-sets room at b)
+
+least-fits : (at a b len : ℕ) → at + a ≤ len → at + a + least b (len - (at + a)) ≡ at + least (a + b) (len - at)
+least-fits at a b len h = omega arith
+
+-- the place after what does not fit is no place of the room
+least-past : (at a len : ℕ) → len < at + a → len ≤ at + least a (len - at)
+least-past at a len h = omega arith
+
+least-more : (at a b len : ℕ) → len < at + a → at + least a (len - at) ≡ at + least (a + b) (len - at)
+least-more at a b len h = omega arith
+
+least-none : (p b len : ℕ) → len ≤ p → p + least b (len - p) ≡ p
+least-none p b len h = omega arith
+
+pub wrote-then : {a b : Bytes} {at : ℕ} {room : Bytes} {p : ℕ} {room₁ : Bytes} {q : ℕ} {room₂ : Bytes} → Wrote a at room p room₁ → Wrote b p room₁ q room₂ →
+    Wrote (a ++ b) at room q room₂
+wrote-then {a} {b} {at} {room} {p} {room₁} {q} {room₂} f g =
+    go (leb (at + length a) (length room)) refl
+  where
+    same : length room₁ ≡ length room
+    same = wrote-length f
+
+    fits : at + length a ≤ length room → Wrote (a ++ b) at room q room₂
+    fits h =
+        let e : p ≡ at + length a = omega (arith, f .next) in
+        record { filled = g .filled ∙ (rw (f .filled, e) (sets-append room at a b)); next = g .next ∙ (rw (same, e, length-append a b) (least-fits at (length a) (length b) (length room) h)) }
+
+    past : length room < at + length a → Wrote (a ++ b) at room q room₂
+    past h =
+        let after : length room ≤ p = rw (f .next) (least-past at (length a) (length room) h) in
+        record {
+          filled =
+              g .filled ∙ sets-past room₁ p b (rw same after) ∙ f .filled
+              ∙ sym (sym (sets-append room at a b) ∙ sets-past (sets room at a) (at + length a) b (rw (length-sets room at a) (omega arith)));
+          next = g .next ∙ (rw (same, length-append a b) (least-none p (length b) (length room) after ∙ f .next ∙ least-more at (length a) (length b) (length room) h));
+        }
+
+    go : (t : Bool) → leb (at + length a) (length room) ≡ t → Wrote (a ++ b) at room q room₂
+    go true e = fits (leb-true _ _ e)
+    go false e = past (leb-false _ _ e)
+
+-- one byte more of s
+pub wrote-next : (s : Bytes) (i : ℕ) {at : ℕ} {room : Bytes} {p : ℕ} {room₁ : Bytes} {q : ℕ} {room₂ : Bytes} → i < length s → Wrote (take i s) at room p room₁ →
+    Wrote (getD s i 0 ∷ []) p room₁ q room₂ → Wrote (take (i + 1) s) at room q room₂
+wrote-next s i h f g = rw (add-one i, take-suc s i 0 h) (wrote-then f g)
+
+-- and all of them
+pub wrote-all : (s : Bytes) (i : ℕ) {at : ℕ} {room : Bytes} {p : ℕ} {room₁ : Bytes} → length s ≤ i → Wrote (take i s) at room p room₁ → Wrote s at room p room₁
+wrote-all s i h f = rw (take-all i s h) at f
+
+-- one more of the same byte
+pub wrote-again : (x n : ℕ) {at : ℕ} {room : Bytes} {p : ℕ} {room₁ : Bytes} {q : ℕ} {room₂ : Bytes} → Wrote (replicate n x) at room p room₁ →
+    Wrote (x ∷ []) p room₁ q room₂ → Wrote (replicate (n + 1) x) at room q room₂
+wrote-again x n f g = rw (add-one n, ← more x n) (wrote-then f g)
+  where
+    more : (x n : ℕ) → replicate n x ++ (x ∷ []) ≡ x ∷ replicate n x
+    more x zero = refl
+    more x (suc n) = ap (λ (l : Bytes). x ∷ l) (more x n)
+
+pub hex-append : (a b : Bytes) → hex (a ++ b) ≡ hex a ++ hex b
+unfolding hex
+hex-append [] b = refl
+hex-append (x ∷ a) b = rw (hex-append a b)
+
+pub hex-none : (at : ℕ) (room : Bytes) → Wrote (hex []) at room at room
+unfolding hex
+hex-none at room = wrote-none at room
+
+-- one byte more of s in hexadecimal
+pub hex-next : (s : Bytes) (i : ℕ) {at : ℕ} {room : Bytes} {p : ℕ} {room₁ : Bytes} {q : ℕ} {room₂ : Bytes} → i < length s → Wrote (hex (take i s)) at room p room₁ →
+    Wrote (hex (getD s i 0 ∷ [])) p room₁ q room₂ → Wrote (hex (take (i + 1) s)) at room q room₂
+hex-next s i h f g = rw (add-one i, take-suc s i 0 h, hex-append (take i s) (getD s i 0 ∷ [])) (wrote-then f g)
+
+-- and all of them
+pub hex-all : (s : Bytes) (i : ℕ) {at : ℕ} {room : Bytes} {p : ℕ} {room₁ : Bytes} → length s ≤ i → Wrote (hex (take i s)) at room p room₁ → Wrote (hex s) at room p room₁
+hex-all s i h f = rw (take-all i s h) at f
+
+pub digits-none : (k n : ℕ) → k ≡ 0 → digits k n ≡ []
+unfolding digits
+digits-none k n e = rw e
+
+pub digits-one : (k n : ℕ) → (k ≡ 0 → ⊥) → n < 10 → digits k n ≡ digit n ∷ []
+unfolding digits
+digits-one zero n h l = absurd (h refl)
+digits-one (suc k) n h l = rw (lt-ltb n 10 l)
+
+pub digits-more : (k n : ℕ) → (k ≡ 0 → ⊥) → 10 ≤ n → digits k n ≡ digits (k - 1) (n / 10) ++ (digit (n % 10) ∷ [])
+unfolding digits
+digits-more zero n h l = absurd (h refl)
+digits-more (suc k) n h l =
+    let e : suc k - 1 ≡ k = omega arith in
+    rw (le-ltb n 10 l, e)
+
+pub few-digits : (k n : ℕ) → length (digits k n) ≤ k
+unfolding digits
+few-digits zero n = omega arith
+few-digits (suc k) n = go (ltb n 10) (few-digits k (n / 10))
+  where
+    go : (t : Bool) → length (digits k (n / 10)) ≤ k → length (cond t (digit n ∷ []) (digits k (n / 10) ++ (digit (n % 10) ∷ []))) ≤ suc k
+    go true h = omega arith
+    go false h = rw (length-append (digits k (n / 10)) (digit (n % 10) ∷ [])) (omega arith)
