@@ -72,7 +72,8 @@ enum {
     PITVORGAS_NOTHING_TO_RUN = 38
 };
 
-/* The device: vendor and class identifiers, the sequence number of the manifest installed last, and whether an event is open. */
+/* The device: vendor and class identifiers, the sequence number of the manifest installed last, and whether an event is open. 37 bytes, and 3 of padding:
+ * vendor at 0, class at 16, number at 32 (in the machine's own order), event at 36. */
 struct pitvorgas_device {
     uint8_t vendor[16];
     uint8_t class_id[16];
@@ -89,7 +90,14 @@ struct pitvorgas_device {
  *                     answers: any number of them; a fetch takes the next
  * An event, 8 bytes:   0 `53 54`   2 command code   3 component   4 place of the code (2)   6 result: 0, 1 or a failure   7 0
  *                     trace: at least 2,048 bytes; event k stands at 8 k, bytes beyond the last event keep their values
- * A program:           the records of document 01, "The flat program"
+ * A program, at most 32,768 bytes: a start, a record for each component, and the command records, numbered from 0
+ *   start, 11 bytes:   0 `53 50 fe`   3 group, 0 install, 1 boot   4 sequence number (4)   8 component count   9 command record count (2)
+ *   component:         0 `53 50 fd`   3 identifier's length n      4 identifier (n)
+ *   command:           0 `53 50`      2 code, ff for a jump        3 component   4 place of the code in the envelope (2)
+ *                      6 target (2)   8 argument's length n (2)   10 argument (n)
+ *   target:            of a jump, the record to go on at; of a condition (codes 1 to 3), the record where its failure goes on, ffff where nothing
+ *                      catches it; the record count means finished; ffff for all other codes
+ *   argument:          of 1 and 2 the 16 bytes; of 19 and 20 for each parameter but coerce, by key: key, length, value (source in 1 byte, size in 4)
  */
 
 /* What check answers. On a refusal all but `refusal` and `place` is 0. Else `refusal` and `place` are 0. Places are those of bytes in the
