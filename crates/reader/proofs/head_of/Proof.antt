@@ -1,7 +1,6 @@
 use mathlib.Core.Path.{sym, _∙_, ap}
 use borrow.Author.Needs.{needs}
 use Rattle.cbor.specs.Answer.{headMeans}
-use Rattle.reader.specs.declared.Read.{Read}
 use Rattle.reader.specs.Read.{readOf}
 use Rattle.reader.proofs.head_of.Statement.{statement}
 use Rattle.reader.proofs.head_of.Tie as tie
