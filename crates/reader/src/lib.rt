@@ -87,3 +87,10 @@ pub fn head_at(envelope: &[u8], at: usize) -> Read
     let mut r = new(envelope, at);
     read_head(&mut r)
 }
+
+// How many bytes of an envelope are left from a place on.
+pub fn left_at(envelope: &[u8], at: usize) -> usize
+    ensures { λ n. ⌜ n ≡ length (now (envelope .entry)) - at ⌝ }
+{
+    left(new(envelope, at))
+}

@@ -48,7 +48,8 @@ use Rattle.reader.proofs.Read as S
 use Rattle.reader.proofs.Read.Laws as S′
 use Rattle.reader.proofs.Reader as T
 use Rattle.reader.proofs.Reader.Laws as T′
-use Rattle.reader.proofs.Held.{α, B, passed, Pair, vals, tells, typed, twice}
+use Rattle.reader.proofs.Held.{α, B, passed, Pair, vals, tells, typed}
+use Rattle.reader.proofs.Made.{New, to-new, goes-new, new-said}
 use Rattle.reader.proofs.new as new
 use Rattle.reader.proofs.new.Symbol as new-def
 use Rattle.reader.proofs.new.Symbol.{name as #reader·new}
@@ -65,27 +66,13 @@ use Rattle.reader.proofs.head_at.Code as code
 abbrev stayed : Stays (head-at.ended .signature .params) (head-at.ended .kept)
 stayed = (stay-none-slice (0 ∷ []) tt (plain (λ _. u8)) yes, (stay-none (λ _. usize) yes, tt))
 
-module _ {M : Type 1} (𝓤 : URA M) (H : Heap 𝓤) (A : Atoms 𝓤) (mem : Memory → SProp 𝓤) (run : Routine → Fun 𝓤) where
-  -- the contracts that the proof cites
-  abbrev New : Contract 𝓤
-  New = tripleOf 𝓤 H A new.signature (new.spec 𝓤 H A mem run)
-
-  abbrev ReadHead : Contract 𝓤
-  ReadHead = tripleOf 𝓤 H A read-head.signature (read-head.spec 𝓤 H A mem run)
+-- the contract that the proof cites beside that of `new`
+abbrev ReadHead : {M : Type 1} (𝓤 : URA M) (H : Heap 𝓤) (A : Atoms 𝓤) (mem : Memory → SProp 𝓤) (run : Routine → Fun 𝓤) → Contract 𝓤
+ReadHead 𝓤 H A mem run = tripleOf 𝓤 H A read-head.signature (read-head.spec 𝓤 H A mem run)
 
 module _ {M : Type 1} (𝓤 : URA M) (H : Heap 𝓤) (A : Atoms 𝓤) (W : Given 𝓤 H A) (at-mem : Memory → SProp 𝓤) (run : Routine → Fun 𝓤) (κ : Lft) (q : Share) (d : Reader) where
   abbrev Post : Val → SProp 𝓤
   Post = walkOf 𝓤 H A head-at.ended stayed (head-at.clauses 𝓤 H A at-mem run) .post (((κ, tt), (q, tt), tt, (d .envelope, (d .at, tt)), passed d), tt)
-
-  -- the call of `new`
-  abbrev to-new : New 𝓤 H A at-mem run .Ghost
-  to-new = (((κ, tt), (q, tt), tt, (d .envelope, (d .at, tt)), passed d), tt)
-
-  goes-new : ent 𝓤 (⋆ 𝓤 H A ((‵ (flft κ q) ⊛ ‵ ftrue) ∷ ‵ (Pair κ d) ∷ [])) (New 𝓤 H A at-mem run .pre to-new)
-  goes-new = qed W ((‵ (flft κ q) ⊛ ‵ ftrue) ∷ ‵ (Pair κ d) ∷ []) ∵ join ! $ frame ! $ done !
-
-  new-said : (r : Reader) → ent 𝓤 (ensured 𝓤 H A new.ended (new.clauses 𝓤 H A at-mem run) (κ, tt) (d .envelope, (d .at, tt)) tt r) (fact 𝓤 (r ≡ d))
-  new-said r = exE 𝓤 _ (λ ws. snd∗ 𝓤 (sem 𝓤 H A (lasts new.ended (κ, tt) (d .envelope, (d .at, tt)) ws)) (fact 𝓤 (r ≡ d)))
 
   -- the call of `read_head`: the local at l is lent for ν within κ, under the name γ
   module _ (l ν : ℕ) where
@@ -146,10 +133,10 @@ module _ {M : Type 1} (𝓤 : URA M) (H : Heap 𝓤) (A : Atoms 𝓤) (W : Given
         qed W ((‵ (flft κ q) ⊛ ‵ ftrue) ∷ ‵ (Pair κ d) ∷ []) ∵ enter ! C Λ code.function (only (passed d .0) ∷ vint w64 (d .at) ∷ []) _ $
         alloc1 ! (λ l₀. alloc1 ! (λ l₁. alloc1 ! (λ l₂. alloc1 ! (λ l₃. alloc1 ! (λ l₄. alloc1 ! (λ l₅. alloc0 ! $ params1 ! $ pass1 ! (init ! 8 refl (shr-slice-lawful 𝓤 H A W (named 0) κ u8 .typed (d .envelope) (passed d .0) p .0)) $ pass1 ! (init ! 6 refl (tt, record { fits = ok })) $ pass0 ! $
         -- a reader is made
-        move ! (13 ∷ []) $ use1 W (‵ (Pair κ d) ⊛ ‵ (Pair κ d)) (twice 𝓤 H A W κ d) $ split ! $ move ! (14 ∷ 0 ∷ []) $ use2 W (raw (New 𝓤 H A at-mem run .pre to-new)) goes-new $
-        calls-at ! fm (New 𝓤 H A at-mem run) known-new to-new (and-then ! (load ! (from ! (stop !)) (look ! 10 refl)) (and-then ! (load ! (from ! (stop !)) (look ! 8 refl)) (no-more !))) (λ u.
+        move ! (12 ∷ 13 ∷ []) $ use2 W (raw (New 𝓤 H A at-mem run .pre (to-new 𝓤 H A at-mem run κ q d)) ⊛ ‵ (Pair κ d)) (goes-new 𝓤 H A at-mem run κ q d W) $ split ! $
+        calls-at ! fm (New 𝓤 H A at-mem run) known-new (to-new 𝓤 H A at-mem run κ q d) (and-then ! (load ! (from ! (stop !)) (look ! 10 refl)) (and-then ! (load ! (from ! (stop !)) (look ! 8 refl)) (no-more !))) (λ u.
         use1 W (later (some (λ (r : Reader). ((‵ (flft κ q) ⊛ ‵ ftrue) ⊛ ‵ (B κ .own r (u ∷ []))) ⊛ raw (ensured 𝓤 H A new.ended (new.clauses 𝓤 H A at-mem run) (κ, tt) (d .envelope, (d .at, tt)) tt r)))) (id⊢ 𝓤 _) $ await ! tt $ pick ! (λ r.
-        split ! $ move ! (1 ∷ []) $ use1 W (raw (fact 𝓤 (r ≡ d))) (new-said r) $ heard ! (r ≡ d) (λ e. split ! $ rewrite ! 1 (λ (h : Reader). ‵ (B κ .own h (u ∷ []))) e refl $ move ! (1 ∷ []) $
+        split ! $ move ! (1 ∷ []) $ use1 W (raw (fact 𝓤 (r ≡ d))) (new-said 𝓤 H A at-mem run κ q d r) $ heard ! (r ≡ d) (λ e. split ! $ rewrite ! 1 (λ (h : Reader). ‵ (B κ .own h (u ∷ []))) e refl $ move ! (1 ∷ []) $
         -- [what the reader owns; the token; the parameters'; _5; …; _4; …; _3; …; _2; …; _1; …; room for _0; …]
         peeks ! (B κ) (Is (B κ)) (shows 𝓤 H A (B κ)) d (u ∷ []) (λ is.
         land ! (from ! (stop !)) (init ! 5 refl (typed 𝓤 H A W erased κ d u is)) $
