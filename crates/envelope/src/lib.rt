@@ -7,6 +7,7 @@ ghost use Rattle.envelope.specs.Newer.{Handed};
 use manifest::read_body;
 use newest::choose;
 use outer::read_outer;
+use reader::left_at;
 use report::Checked;
 use report::Place;
 use report::Report;
@@ -46,7 +47,7 @@ pub fn check(s: &[u8]) -> Report
     if end != to {
         return refused(Refusal::NotCbor, end);
     }
-    if end != e {
+    if left_at(s, end) != 0 {
         return refused(Refusal::NotCbor, end);
     }
     Report {

@@ -22,12 +22,13 @@ inside c =
 
 after : tie.Need-returns-5
 after c =
-    check-left-over _ (c .before .before .before .before .before .before .before .before .before .before .before .before .if1 .left) _ (c .before .before .before .before .before .before .before .before .before .before .before .read-outer .ensures) (c .before .before .before .before .before .before .before .before .before .before .if2 .left) _ _ _ _ _ (c .before .before .before .before .read-body .ensures) (c .before .before .before .if3 .left)
-    (inr (c .before .before .if4 .left, λ k. omega (arith, k, c .before .before .if4 .left, c .before .if5 .taken))) _ (c .refused5 .ensures)
+    check-left-over _ (c .before .before .before .before .before .before .before .before .before .before .before .before .before .if1 .left) _ (c .before .before .before .before .before .before .before .before .before .before .before .before .read-outer .ensures) (c .before .before .before .before .before .before .before .before .before .before .before .if2 .left) _ _ _ _ _ (c .before .before .before .before .before .read-body .ensures) (c .before .before .before .before .if3 .left)
+    (inr (c .before .before .before .if4 .left, λ k. c .before .if5 .taken (omega (arith, k, c .before .before .left-at .ensures)))) _ (c .refused5 .ensures)
 
 good : tie.Need-returns-6
 good c =
-    check-good _ (c .before .before .before .before .before .before .before .before .before .before .before .if1 .left) _ (c .before .before .before .before .before .before .before .before .before .before .read-outer .ensures) (c .before .before .before .before .before .before .before .before .before .if2 .left) _ _ _ _ _ (c .before .before .before .read-body .ensures) (c .before .before .if3 .left) (c .before .if4 .left) (c .if5 .left) refl refl
+    let fits = outer-fits _ (c .before .before .before .before .before .before .before .before .before .before .before .before .if1 .left) _ (c .before .before .before .before .before .before .before .before .before .before .before .read-outer .ensures) (c .before .before .before .before .before .before .before .before .before .before .if2 .left) in
+    check-good _ (c .before .before .before .before .before .before .before .before .before .before .before .before .if1 .left) _ (c .before .before .before .before .before .before .before .before .before .before .before .read-outer .ensures) (c .before .before .before .before .before .before .before .before .before .before .if2 .left) _ _ _ _ _ (c .before .before .before .before .read-body .ensures) (c .before .before .before .if3 .left) (c .before .before .if4 .left) (omega (arith, c .before .left-at .ensures, c .if5 .left, fits)) refl refl
 
 pub check-spec : {M : Type 1} → statement M
 check-spec =
@@ -47,6 +48,7 @@ check-spec =
     bad
     (λ c κs. search needs)
     inside
+    (λ c κs. search needs)
     (λ c κs. search needs)
     after
     good)
