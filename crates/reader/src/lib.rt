@@ -1,4 +1,5 @@
-// A reader over a lent envelope: the envelope and a place in it, held together. It reads a head alone; a string's content is not looked at.
+// A reader over a lent envelope: the envelope and a place in it, held together. Of a string it reads the head alone. The borrow checker covers no
+// function over such a struct, so each is proved by hand; the work is done by a function of a slice and a number, which is covered.
 ghost use mathlib.Core.Path.{_≡_};
 ghost use Prim.Native.Nat.{_-_};
 ghost use lib.ListN.{length};
@@ -7,12 +8,14 @@ ghost use Rattle.reader.specs.Read.{readOf, headHere, moved};
 use cbor::HeadRead;
 use rules::answers::Refusal;
 
+// It moves only by reading a head. A place past the end is 65 there, with nothing left.
 pub struct Reader<'a> {
-    pub envelope: &'a [u8],
-    pub at: usize,
+    envelope: &'a [u8],
+    at: usize,
 }
 
-// stop is 0: the head's kind, number and the place after it. Else stop is 65, and next is the place where it was refused.
+// stop is 0: the head's kind (one of cbor's), its number (0 for false, true and nil) and the place after it. Else stop is 65, next is the place where it
+// was refused, and the rest is 0.
 pub struct Read {
     pub stop: usize,
     pub kind: usize,
@@ -40,6 +43,7 @@ fn head_of(s: &[u8], at: usize) -> Read
     }
 }
 
+// How many bytes there are from a place on.
 fn left_of(s: &[u8], at: usize) -> usize
     ensures { λ r. ⌜ r ≡ length (now (s .entry)) - at ⌝ }
 {
@@ -64,7 +68,7 @@ pub fn place<'a>(r: Reader<'a>) -> usize
     r.at
 }
 
-// How many bytes are left.
+// How many bytes are left for it.
 pub fn left<'a>(r: Reader<'a>) -> usize
     ensures { λ n. ⌜ n ≡ length (now (r .entry .envelope)) - r .entry .at ⌝ }
 {
@@ -80,7 +84,7 @@ pub fn read_head<'s, 'a>(r: &'s mut Reader<'a>) -> Read
     h
 }
 
-// One head at a place of an envelope: callers need no proof by hand.
+// The same for a caller that has no reader, and so needs no proof by hand: one head at a place of an envelope.
 pub fn head_at(envelope: &[u8], at: usize) -> Read
     ensures { λ r. ⌜ r ≡ readOf (head (now (envelope .entry)) (length (now (envelope .entry))) at) ⌝ }
 {
