@@ -1,0 +1,114 @@
+-- Lines, words, and what a word gives: a number, or bytes.
+use Prim.Native.Nat.{ℕ, zero, suc, _+_, _-_, _*_, _/_, _%_}
+use mathlib.Core.Bool.{Bool, true, false, cond}
+use mathlib.Core.List.{List, [], _∷_, _++_}
+use lib.Dec.{eqb, ltb, leb}
+use lib.ListN.{length, take, drop, getD}
+use Rattle.rules.specs.Bytes.{Bytes}
+
+-- where b first stands in s; the length of s, if it does not
+unfoldable pub until : ℕ → Bytes → ℕ
+until b [] = 0
+until b (x ∷ s) = cond (eqb x b) 0 (suc (until b s))
+
+-- the bytes before the first b, and those after it
+abbrev pub before : ℕ → Bytes → Bytes
+before b s = take (until b s) s
+
+abbrev pub after : ℕ → Bytes → Bytes
+after b s = drop (suc (until b s)) s
+
+-- a line ends at a line feed, or where the text ends
+abbrev pub lineFeed : ℕ
+lineFeed = 10
+
+-- a byte in front of the first line
+abbrev pub ahead : ℕ → List Bytes → List Bytes
+ahead x [] = (x ∷ []) ∷ []
+ahead x (l ∷ ls) = (x ∷ l) ∷ ls
+
+unfoldable pub lines : Bytes → List Bytes
+lines [] = []
+lines (x ∷ s) = cond (eqb x lineFeed) ([] ∷ lines s) (ahead x (lines s))
+
+-- spaces and carriage returns at the end of a line are no part of it
+abbrev pub blank : ℕ → Bool
+blank x = cond (eqb x 32) true (eqb x 13)
+
+abbrev pub kept : ℕ → Bytes → Bytes
+kept x [] = cond (blank x) [] (x ∷ [])
+kept x (y ∷ s) = x ∷ y ∷ s
+
+unfoldable pub trim : Bytes → Bytes
+trim [] = []
+trim (x ∷ s) = kept x (trim s)
+
+-- words are parted by single spaces: the first one, and what stands behind it
+unfoldable pub word : Bytes → Bytes
+word s = before 32 s
+
+unfoldable pub rest : Bytes → Bytes
+rest s = after 32 s
+
+-- no number: numbers are below 2^32
+abbrev pub none : ℕ
+none = 4294967296
+
+-- one digit more of a number in decimal
+unfoldable pub oneMore : ℕ → ℕ → ℕ
+oneMore n b =
+    cond (ltb b 48) none
+    (cond (ltb 57 b) none
+    (cond (leb none n) none
+    (cond (leb none (n * 10 + (b - 48))) none
+    (n * 10 + (b - 48)))))
+
+unfoldable pub numberFrom : ℕ → Bytes → ℕ
+numberFrom n [] = n
+numberFrom n (b ∷ s) = numberFrom (oneMore n b) s
+
+-- the number that a word writes in decimal, or none
+unfoldable pub number : Bytes → ℕ
+number w = cond (eqb (length w) 0) none (numberFrom 0 w)
+
+abbrev pub isNumber : Bytes → Bool
+isNumber w = ltb (number w) none
+
+-- the value of a digit in hexadecimal; 16 is none
+unfoldable pub digit : ℕ → ℕ
+digit b =
+    cond (ltb b 48) 16
+    (cond (leb b 57) (b - 48)
+    (cond (ltb b 65) 16
+    (cond (leb b 70) (b - 55)
+    (cond (ltb b 97) 16
+    (cond (leb b 102) (b - 87)
+    16)))))
+
+unfoldable pub allDigits : Bytes → Bool
+allDigits [] = true
+allDigits (b ∷ s) = cond (ltb (digit b) 16) (allDigits s) false
+
+-- the byte of two digits
+abbrev pub pair : ℕ → ℕ → ℕ
+pair a b = digit a % 16 * 16 + digit b % 16
+
+-- the first n bytes that s writes in hexadecimal, and all of them
+unfoldable pub unhex : ℕ → Bytes → Bytes
+unhex zero s = []
+unhex (suc n) s = unhex n s ++ (pair (getD s (n * 2) 0) (getD s (n * 2 + 1) 0) ∷ [])
+
+unfoldable pub bytes : Bytes → Bytes
+bytes w = unhex (length w / 2) w
+
+-- a word is n bytes in hexadecimal; or 1 to n
+unfoldable pub isBytes : ℕ → Bytes → Bool
+isBytes n w = cond (eqb (length w / 2) n) (cond (eqb (length w % 2) 0) (allDigits w) false) false
+
+unfoldable pub upToBytes : ℕ → Bytes → Bool
+upToBytes n w =
+    cond (eqb (length w % 2) 0)
+    (cond (ltb (length w) 2) false
+    (cond (ltb n (length w / 2)) false
+    (allDigits w)))
+    false
