@@ -1,5 +1,4 @@
 -- Worked descriptions: what a text says, and the line where one is refused.
-use Prim.Native.Nat.{ℕ}
 use Prim.Native.String.{String}
 use mathlib.Core.Path.{_≡_, refl}
 use mathlib.Core.List.{List, [], _∷_, _++_, map}

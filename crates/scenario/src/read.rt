@@ -1,7 +1,5 @@
 // Numbers and bytes that words write.
 ghost use mathlib.Core.Path.{_≡_};
-ghost use Prim.Native.Nat.{_*_, _<_, _≤_};
-ghost use lib.ListN.{length};
 ghost use Rattle.scenario.specs.Words as Words;
 use numbers::wide;
 

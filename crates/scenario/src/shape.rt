@@ -1,6 +1,5 @@
 // Whether what stands in a line is a slot, or an answer.
 ghost use mathlib.Core.Path.{_≡_};
-ghost use Rattle.scenario.specs.Words as Words;
 ghost use Rattle.scenario.specs.Scenario as Rule;
 use crate::read::NONE;
 use crate::read::decimal;

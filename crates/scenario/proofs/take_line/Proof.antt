@@ -23,7 +23,6 @@ returns-2 c =
     let a = c .before .before .before .before .before .before .before .before .before .before .before .before .before .before .args in
     let l = a .l .now in
     let m = length (a .slots .now) in
-    let k = length (a .answers .now) in
     let f : Rule.passed l ≡ false = sym (c .before .before .before .before .before .before .before .before .before .before .passed .ensures) ∙ c .before .before .before .before .before .before .before .before .before .if1 .left in
     let w = c .before .before .before .before .before .before .before .before .word .ensures in
     let t = c .before .before .before .before .before .before .before .rest .ensures in
@@ -36,7 +35,6 @@ unfolding Rule.line
 returns-3 c =
     let a = c .before .before .before .before .before .before .before .before .before .before .before .before .before .before .before .before .before .args in
     let l = a .l .now in
-    let m = length (a .slots .now) in
     let k = length (a .answers .now) in
     let f : Rule.passed l ≡ false = sym (c .before .before .before .before .before .before .before .before .before .before .before .before .before .passed .ensures) ∙ c .before .before .before .before .before .before .before .before .before .before .before .before .if1 .left in
     let w = c .before .before .before .before .before .before .before .before .before .before .before .word .ensures in
@@ -51,8 +49,6 @@ unfolding Rule.line
 returns-4 c =
     let a = c .before .before .before .before .before .before .before .before .before .before .before .before .before .before .args in
     let l = a .l .now in
-    let m = length (a .slots .now) in
-    let k = length (a .answers .now) in
     let f : Rule.passed l ≡ false = sym (c .before .before .before .before .before .before .before .before .before .before .passed .ensures) ∙ c .before .before .before .before .before .before .before .before .before .if1 .left in
     let w = c .before .before .before .before .before .before .before .before .word .ensures in
     let t = c .before .before .before .before .before .before .before .rest .ensures in

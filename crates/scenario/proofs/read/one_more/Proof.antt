@@ -9,7 +9,6 @@ returns : tie.Need-returns
 unfolding Words.oneMore
 returns c =
     let a = c .before .args in
-    let n : ℕ = a .n in
     let b : ℕ = a .b in
     rw (lt-ltb (b) (48) (c .if1 .taken))
 
@@ -17,7 +16,6 @@ returns-2 : tie.Need-returns-2
 unfolding Words.oneMore
 returns-2 c =
     let a = c .before .before .args in
-    let n : ℕ = a .n in
     let b : ℕ = a .b in
     rw (le-ltb (b) (48) (c .before .if1 .left), lt-ltb (57) (b) (c .if2 .taken))
 
