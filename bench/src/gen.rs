@@ -8,13 +8,15 @@ pub mod encode;
 mod envelope;
 mod manifest;
 pub mod model;
-mod pool;
-mod program;
+pub mod pool;
+pub mod program;
 mod rng;
+mod slot;
 #[cfg(test)]
 mod tests;
 mod world;
 
 pub use case::{Case, Generator, Job};
 pub use rng::Rng;
+pub use slot::Slot;
 pub use world::World;

@@ -3,7 +3,7 @@
 
 use crate::gen::encode::{encode, encode_identifier, pad};
 use crate::gen::model::{self, Command, Manifest, Parameter, Sequence};
-use crate::gen::World;
+use crate::gen::{Slot, World};
 use crate::hex;
 use crate::reading::{limits, translate, Device, Group};
 
@@ -71,15 +71,13 @@ fn components() -> Vec<model::Identifier> {
 }
 
 fn slot(identifier: &model::Identifier) -> Vec<u8> {
-    let identifier = encode_identifier(identifier);
-    let mut slot = vec![identifier.len() as u8];
-    slot.extend(identifier);
-    slot.resize(33, 0);
-    slot.extend(0x10_0000u32.to_be_bytes());
-    slot.push(1);
-    slot.extend(SIZE.to_be_bytes());
-    slot.extend(DIGEST);
-    slot
+    let slot = Slot {
+        capacity: 0x10_0000,
+        size: SIZE,
+        digest: DIGEST,
+        ..Slot::holding(&encode_identifier(identifier))
+    };
+    slot.encode()
 }
 
 fn manifest(common: Sequence, sections: Vec<(u32, Sequence)>) -> Manifest {

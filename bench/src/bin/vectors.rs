@@ -4,7 +4,7 @@ use std::env;
 use std::fs;
 use std::process::ExitCode;
 
-use bench::vectors::answer;
+use bench::vectors::{answer, pairs};
 
 const SHOWN: usize = 5;
 
@@ -24,28 +24,27 @@ fn main() -> ExitCode {
 }
 
 fn compare(cases: &str, answers: &str) -> ExitCode {
-    let (cases, answers): (Vec<_>, Vec<_>) = (cases.lines().collect(), answers.lines().collect());
-    if cases.len() != answers.len() {
-        eprintln!("{} cases, {} answers", cases.len(), answers.len());
-        return ExitCode::from(2);
-    }
+    let pairs = match pairs(cases, answers) {
+        Ok(pairs) => pairs,
+        Err(error) => {
+            eprintln!("{error}");
+            return ExitCode::from(2);
+        }
+    };
     let mut differences = 0;
-    for (line, (case, written)) in cases.iter().zip(&answers).enumerate() {
+    for (number, (case, written)) in (1..).zip(&pairs) {
         let found = answer(case).unwrap_or_else(|| "case not understood".into());
         if found != *written {
             differences += 1;
             if differences <= SHOWN {
-                println!(
-                    "line {}: {case}\n  written: {written}\n  reading: {found}",
-                    line + 1
-                );
+                println!("case {number}: {case}\n  written: {written}\n  reading: {found}");
             }
         }
     }
     println!(
         "{} cases, {} agreed",
-        cases.len(),
-        cases.len() - differences
+        pairs.len(),
+        pairs.len() - differences
     );
     ExitCode::from(u8::from(differences > 0))
 }

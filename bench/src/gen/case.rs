@@ -50,6 +50,9 @@ pub enum Case {
 }
 
 impl Case {
+    /// Fills a room whose bytes a case does not tell.
+    pub const ROOM_FILL: u8 = 0xa5;
+
     pub fn job(&self) -> Job {
         match self {
             Case::Check { .. } => Job::Check,

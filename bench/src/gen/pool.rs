@@ -5,6 +5,7 @@ use super::Rng;
 pub const VENDOR: [u8; 16] = [1; 16];
 pub const CLASS: [u8; 16] = [2; 16];
 pub const SIZE: u32 = 100;
+pub const DIGEST: [u8; 32] = [0x11; 32];
 
 /// The wanted identity, or in `other` of 100 cases one that differs in a bit.
 pub fn identity(rng: &mut Rng, wanted: [u8; 16], other: usize) -> [u8; 16] {
@@ -16,7 +17,7 @@ pub fn identity(rng: &mut Rng, wanted: [u8; 16], other: usize) -> [u8; 16] {
 }
 
 pub fn digest(rng: &mut Rng) -> [u8; 32] {
-    let mut digest = [0x11; 32];
+    let mut digest = DIGEST;
     match rng.below(10) {
         0 => digest = [0; 32],
         1 => digest = [0xff; 32],

@@ -7,7 +7,10 @@ use super::damage::damage;
 use super::envelope::envelope;
 use super::{model, pool, Rng};
 use crate::reading::{translate, Group};
-use record::Program;
+
+pub use limit::{of_bytes, of_records};
+pub use record::{Program, Record, UNCAUGHT};
+pub use written::entry;
 
 /// A program's bytes, and what it holds where it is a good one.
 #[derive(Clone, Debug)]

@@ -1,10 +1,10 @@
 use std::fmt;
 
-use super::{pool, Rng};
+use super::{pool, Rng, Slot};
 use crate::hex;
 use crate::reading::{limits, Device, Group};
 
-const SLOT_IDENTIFIER: usize = 32;
+const IDENTIFIER: usize = 32;
 const ANSWER_BYTES: usize = 37;
 
 /// What is lent to a run.
@@ -74,56 +74,28 @@ fn device_number(rng: &mut Rng, group: Group, number: u32) -> u32 {
     }
 }
 
-#[derive(Clone, Debug)]
-struct Slot {
-    length: u8,
-    identifier: [u8; SLOT_IDENTIFIER],
-    capacity: u32,
-    present: u8,
-    size: u32,
-    digest: [u8; 32],
-}
-
-impl Slot {
-    fn new(rng: &mut Rng, identifier: &[u8]) -> Self {
-        let mut padded = [0; SLOT_IDENTIFIER];
-        padded.copy_from_slice(&rng.bytes(SLOT_IDENTIFIER));
-        for (to, from) in padded.iter_mut().zip(identifier) {
-            *to = *from;
-        }
-        let capacity = pool::capacity(rng);
-        let present = match rng.below(20) {
-            0..=2 => 0,
-            3 => rng.pick(&[2, 255]),
-            _ => 1,
-        };
-        let size = pool::size(rng);
-        Slot {
-            length: identifier.len() as u8,
-            identifier: padded,
-            capacity,
-            present,
-            size: if present == 0 {
-                size
-            } else {
-                size.min(capacity)
-            },
-            digest: pool::digest(rng),
-        }
-    }
-
-    fn encode(&self, out: &mut Vec<u8>) {
-        out.push(self.length);
-        out.extend(self.identifier);
-        out.extend(self.capacity.to_be_bytes());
-        out.push(self.present);
-        out.extend(self.size.to_be_bytes());
-        out.extend(self.digest);
-    }
+fn slot(rng: &mut Rng, identifier: &[u8]) -> Slot {
+    let mut slot = Slot::holding(&rng.bytes(IDENTIFIER));
+    slot.name(identifier);
+    slot.length = identifier.len() as u8;
+    slot.capacity = pool::capacity(rng);
+    slot.present = match rng.below(20) {
+        0..=2 => 0,
+        3 => rng.pick(&[2, 255]),
+        _ => 1,
+    };
+    let size = pool::size(rng);
+    slot.size = if slot.present == 0 {
+        size
+    } else {
+        size.min(slot.capacity)
+    };
+    slot.digest = pool::digest(rng);
+    slot
 }
 
 fn slots(rng: &mut Rng, identifiers: &[Vec<u8>]) -> Vec<u8> {
-    let mut slots: Vec<Slot> = identifiers.iter().map(|id| Slot::new(rng, id)).collect();
+    let mut slots: Vec<Slot> = identifiers.iter().map(|id| slot(rng, id)).collect();
     if rng.percent(30) {
         for _ in slots.len()..rng.within(1..=limits::SLOTS) {
             slots.push(extra_slot(rng));
@@ -133,8 +105,7 @@ fn slots(rng: &mut Rng, identifiers: &[Vec<u8>]) -> Vec<u8> {
     if rng.percent(6) {
         spoil(rng, &mut slots);
     }
-    let mut bytes = Vec::new();
-    slots.iter().for_each(|slot| slot.encode(&mut bytes));
+    let mut bytes: Vec<u8> = slots.iter().flat_map(Slot::encode).collect();
     if rng.percent(1) {
         bytes.pop();
     } else if rng.percent(1) {
@@ -146,7 +117,7 @@ fn slots(rng: &mut Rng, identifiers: &[Vec<u8>]) -> Vec<u8> {
 fn extra_slot(rng: &mut Rng) -> Slot {
     let length = rng.within(6..=32);
     let identifier = rng.bytes(length);
-    Slot::new(rng, &identifier)
+    slot(rng, &identifier)
 }
 
 fn spoil(rng: &mut Rng, slots: &mut Vec<Slot>) {

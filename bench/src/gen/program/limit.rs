@@ -9,7 +9,7 @@ const TWO_RECORDS: usize = LARGEST_RECORD + RECORD_HEAD + 43;
 
 /// 1,024 records or one more, 256 commands among them or one more.
 pub fn many_records(rng: &mut Rng) -> Program {
-    let mut program = empty(rng);
+    let program = empty(rng);
     let (count, commands) = rng.pick(&[
         (1023, 256),
         (1024, 256),
@@ -18,6 +18,11 @@ pub fn many_records(rng: &mut Rng) -> Program {
         (256, 256),
         (257, 257),
     ]);
+    of_records(rng, program, count, commands)
+}
+
+/// The program with this many records, and this many commands among them.
+pub fn of_records(rng: &mut Rng, mut program: Program, count: usize, commands: usize) -> Program {
     while program.records.len() < count {
         let number = program.records.len();
         let record = if commands - program.commands() < count - number && rng.percent(60) {
@@ -35,7 +40,12 @@ pub fn many_records(rng: &mut Rng) -> Program {
 /// 32,768 bytes or one more.
 pub fn many_bytes(rng: &mut Rng) -> Program {
     let wanted = limits::PROGRAM_BYTES + rng.below(2);
-    let mut program = empty(rng);
+    let program = empty(rng);
+    of_bytes(rng, program, wanted)
+}
+
+/// The program with records up to this many bytes.
+pub fn of_bytes(rng: &mut Rng, mut program: Program, wanted: usize) -> Program {
     let mut left = wanted - program.encode().len();
     while left > 0 {
         let length = if left >= TWO_RECORDS {
