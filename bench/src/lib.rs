@@ -2,12 +2,14 @@
 //! library against it.
 //!
 //! - `vectors CASES ANSWERS` answers the written cases with the reading.
+//! - `cases VECTORS OUT` writes the cases and answers of the program `conformance`.
 //! - `compare N SEED` has the library and the reading answer generated inputs.
 //! - `time` times both.
 //!
 //! The last two need the feature `ours` and the library's `libabi.a`.
 
 pub mod answer;
+pub mod conformance;
 pub mod gen;
 pub mod hex;
 pub mod jobs;

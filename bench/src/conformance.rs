@@ -1,0 +1,127 @@
+//! The cases that the program `conformance` answers, and their answers.
+
+mod coverage;
+mod examples;
+pub mod form;
+pub mod own;
+mod sheet;
+#[cfg(test)]
+mod tests;
+
+pub use coverage::Coverage;
+
+use crate::answer::{answer, Answer};
+use crate::gen::Case;
+use crate::jobs::Reading;
+use crate::tally::Reached;
+use crate::vectors::{pairs, parse, show};
+use own::Own;
+
+/// Where a case comes from.
+#[derive(Clone, Copy, Debug)]
+pub enum Origin {
+    Vectors,
+    LeftOut,
+    Examples,
+    Sheet,
+    Own,
+}
+
+/// The two files as they grow, and what they cover.
+#[derive(Default)]
+pub struct Collection {
+    pub stdin: Vec<u8>,
+    pub stdout: String,
+    pub coverage: Coverage,
+    counts: [usize; 5],
+}
+
+impl Collection {
+    /// The cases of this repository alone.
+    pub fn new() -> Result<Self, String> {
+        let mut collection = Collection::default();
+        collection.add_repository()?;
+        Ok(collection)
+    }
+
+    /// The vectors, then the cases of this repository.
+    pub fn with_vectors(cases: &str, answers: &str) -> Result<Self, String> {
+        let mut collection = Collection::default();
+        for (text, line) in pairs(cases, answers)? {
+            let case = parse(text).ok_or(format!("not a case: {text}"))?;
+            if !collection.add_written(Origin::Vectors, &case, line)? {
+                collection.counts[Origin::LeftOut as usize] += 1;
+            }
+        }
+        collection.add_repository()?;
+        Ok(collection)
+    }
+
+    pub fn count(&self, origin: Origin) -> usize {
+        self.counts[origin as usize]
+    }
+
+    /// Reads the cases back from their form and answers them again.
+    pub fn read_back(&self) -> Result<(), String> {
+        let cases = form::decode(&self.stdin).ok_or("cases that do not read back")?;
+        let mut stdout = String::new();
+        for case in &cases {
+            stdout += &show(case, &answer(&Reading, case))?;
+            stdout.push('\n');
+        }
+        let same = stdout == self.stdout;
+        same.then_some(())
+            .ok_or("cases that read back as others".into())
+    }
+
+    fn add_repository(&mut self) -> Result<(), String> {
+        for (case, line) in examples::examples()? {
+            self.add_written(Origin::Examples, &case, line)?;
+        }
+        for (text, line) in sheet::sheet() {
+            let case = parse(&text).ok_or(format!("not a case: {text}"))?;
+            self.add_written(Origin::Sheet, &case, &line)?;
+        }
+        own::own().iter().try_for_each(|own| self.add_own(own))
+    }
+
+    /// Adds a case whose answer is written, if the form takes it.
+    fn add_written(&mut self, origin: Origin, case: &Case, line: &str) -> Result<bool, String> {
+        let answer = answer(&Reading, case);
+        let found = show(case, &answer)?;
+        if found != line {
+            return Err(format!("{case:?}\nwritten: {line}\nreading: {found}"));
+        }
+        Ok(self.put(origin, case, &answer, line))
+    }
+
+    fn add_own(&mut self, own: &Own) -> Result<(), String> {
+        let answer = answer(&Reading, &own.case);
+        let reached = Reached::by(&answer);
+        if own.wanted.is_some_and(|wanted| wanted != reached) {
+            let case = &own.case;
+            return Err(format!(
+                "{}: {reached}, not {:?}\n{case:?}",
+                own.shows, own.wanted
+            ));
+        }
+        let line = show(&own.case, &answer)?;
+        if !self.put(Origin::Own, &own.case, &answer, &line) {
+            return Err(format!("{}: not in the form", own.shows));
+        }
+        self.coverage.show(own.shows);
+        Ok(())
+    }
+
+    fn put(&mut self, origin: Origin, case: &Case, answer: &Answer, line: &str) -> bool {
+        let Some(bytes) = form::encode(case) else {
+            return false;
+        };
+        self.stdin.extend(bytes);
+        self.stdout += line;
+        self.stdout.push('\n');
+        self.coverage.add(case, answer);
+        self.counts[origin as usize] += 1;
+        true
+    }
+}
