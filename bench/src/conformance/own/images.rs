@@ -16,6 +16,7 @@ pub fn cases() -> Vec<Own> {
         fetches(),
         failed_fetches(),
         copies(),
+        sources(),
         swaps(),
         with_itself(),
         present_bytes(),
@@ -114,6 +115,20 @@ fn copies() -> Vec<Own> {
             setting.slots[1].size = CAPACITY + 1;
             setting.slots[1].present = 0;
         }),
+    ]
+    .concat()
+}
+
+/// Source 1 is what counts, set first or put in the place of another.
+fn sources() -> Vec<Own> {
+    let source = |index| vec![Parameter::source(index)];
+    let set = |index| Command::set(source(index));
+    let other = |setting: &mut Setting| setting.slots[1].digest = [0x44; 32];
+    let kept = vec![set(1), set(0), nil(COPY)];
+    let replaced = vec![set(0), Command::override_with(source(1)), nil(COPY)];
+    [
+        moved("copy", kept, 0, other),
+        moved("copy", replaced, 0, other),
     ]
     .concat()
 }

@@ -137,13 +137,18 @@ pub fn accepted(shows: &'static str, manifest: &Manifest, ends: [usize; 2]) -> V
     let envelope = encode(manifest);
     let mut cases = vec![Own::new(shows, Reached::Accepted, check(envelope.clone()))];
     for (group, end) in Group::BOTH.into_iter().zip(ends) {
-        let room = program(&envelope, group).len();
-        let case = translate(envelope.clone(), group, room);
-        cases.push(Own::new(shows, Reached::Accepted, case));
         let setting = setting(manifest, group);
+        cases.push(translated(shows, &envelope, group));
         cases.extend(ran(shows, &envelope, group, &setting, Reached::End(end)));
     }
     cases
+}
+
+/// The program fits its room exactly.
+fn translated(shows: &'static str, envelope: &[u8], group: Group) -> Own {
+    let room = program(envelope, group).len();
+    let case = translate(envelope.to_vec(), group, room);
+    Own::new(shows, Reached::Accepted, case)
 }
 
 /// A run by envelope and one by program.
@@ -161,8 +166,8 @@ pub fn ran(
     ]
 }
 
-/// Runs of a manifest of two components with one sequence, for each group that
-/// does it.
+/// The program and both runs of a manifest of two components with one
+/// sequence, for each group that does it.
 pub fn scene(
     shows: &'static str,
     key: u32,
@@ -172,12 +177,14 @@ pub fn scene(
 ) -> Vec<Own> {
     let manifest = manifest(2, vec![(key, sequence)]);
     let envelope = encode(&manifest);
-    let runs = groups(key).iter().flat_map(|&group| {
+    let mut cases = Vec::new();
+    for &group in groups(key) {
         let mut setting = setting(&manifest, group);
         change(&mut setting);
-        ran(shows, &envelope, group, &setting, Reached::End(end))
-    });
-    runs.collect()
+        cases.push(translated(shows, &envelope, group));
+        cases.extend(ran(shows, &envelope, group, &setting, Reached::End(end)));
+    }
+    cases
 }
 
 /// Changes nothing.
