@@ -1,8 +1,15 @@
-// The words for codes, keys and numbers of document 01, in lent room.
+// The words for codes, keys and numbers of document 01, in lent room. Each table is a list of numbers, and the words in the same order.
+ghost use mathlib.Core.Path.{_≡_};
+ghost use Prim.Native.Nat.{_≤_};
+ghost use lib.ListN.{length, take, drop};
 ghost use Rattle.text.specs.Text.{Wrote};
-ghost use Rattle.wording.specs.Words.{wide, commandWords, parameterWords, sectionWords, checkWords, runWords, refusalWords, endWords, resultWords};
+ghost use Rattle.wording.specs.Rows.{wide, before, after};
+ghost use Rattle.wording.specs.Rows.{position as Rows·position};
+ghost use Rattle.wording.specs.Words.{commandWords, parameterWords, sectionWords, refusalWords, endWords, resultWords};
 use text::put;
 use text::put_spaces;
+
+const BAR: u8 = 124;
 
 // A word, and spaces up to a width.
 pub fn put_wide(room: &mut [u8], at: usize, word: &[u8], width: usize) -> usize
@@ -16,26 +23,81 @@ pub fn put_wide(room: &mut [u8], at: usize, word: &[u8], width: usize) -> usize
     put_spaces(room, to, width - count)
 }
 
+// The first place of a number, or the length.
+fn position(s: &[u8], n: usize) -> usize
+    ensures { λ r. ⌜ r ≡ Rows·position n (now (s .entry)) ⌝ }
+{
+    let mut i = 0;
+    while i < s.len() {
+        if s[i] as usize == n {
+            return i;
+        }
+        i += 1;
+    }
+    i
+}
+
+// The place after k bars.
+fn skip(s: &[u8], k: usize) -> usize
+    ensures { λ r. ⌜ (r ≤ length (now (s .entry))) × (drop r (now (s .entry)) ≡ after k (now (s .entry))) ⌝ }
+{
+    let mut left = k;
+    let mut i = 0;
+    while i < s.len() {
+        if left == 0 {
+            return i;
+        }
+        if s[i] == BAR {
+            left -= 1;
+        }
+        i += 1;
+    }
+    i
+}
+
+// The place of the first bar, or the length.
+fn bar(s: &[u8]) -> usize
+    ensures { λ r. ⌜ (r ≤ length (now (s .entry))) × (take r (now (s .entry)) ≡ before (now (s .entry))) ⌝ }
+{
+    let mut i = 0;
+    while i < s.len() {
+        if s[i] == BAR {
+            return i;
+        }
+        i += 1;
+    }
+    i
+}
+
+// The word of a number in a table, and spaces up to a width.
+fn put_word(
+    room: &mut [u8],
+    at: usize,
+    numbers: &[u8],
+    words: &[u8],
+    n: usize,
+    width: usize,
+) -> usize
+    ensures { λ r. ⌜ Wrote (wide width (before (after (Rows·position n (now (numbers .entry))) (now (words .entry))))) at (now (room .entry)) r (now (room .exit)) ⌝ }
+{
+    let from = skip(words, position(numbers, n));
+    let rest = &words[from..];
+    let to = bar(rest);
+    put_wide(room, at, &rest[0..to], width)
+}
+
+// The word of a command, and spaces up to a width.
 pub fn put_command_wide(room: &mut [u8], at: usize, code: usize, width: usize) -> usize
     ensures { λ r. ⌜ Wrote (wide width (commandWords code)) at (now (room .entry)) r (now (room .exit)) ⌝ }
 {
-    match code {
-        1 => put_wide(room, at, b"vendor", width),
-        2 => put_wide(room, at, b"class", width),
-        3 => put_wide(room, at, b"image match", width),
-        12 => put_wide(room, at, b"set component index", width),
-        14 => put_wide(room, at, b"abort", width),
-        15 => put_wide(room, at, b"try each", width),
-        19 => put_wide(room, at, b"set parameters", width),
-        20 => put_wide(room, at, b"override parameters", width),
-        21 => put_wide(room, at, b"fetch", width),
-        22 => put_wide(room, at, b"copy", width),
-        23 => put_wide(room, at, b"run", width),
-        30 => put_wide(room, at, b"run sequence", width),
-        32 => put_wide(room, at, b"swap", width),
-        255 => put_wide(room, at, b"jump", width),
-        _ => put_wide(room, at, b"unknown", width),
-    }
+    put_word(
+        room,
+        at,
+        &[1, 2, 3, 12, 14, 15, 19, 20, 21, 22, 23, 30, 32, 255],
+        b"vendor|class|image match|set component index|abort|try each|set parameters|override parameters|fetch|copy|run|run sequence|swap|jump|unknown",
+        code,
+        width,
+    )
 }
 
 pub fn put_command(room: &mut [u8], at: usize, code: usize) -> usize
@@ -47,106 +109,74 @@ pub fn put_command(room: &mut [u8], at: usize, code: usize) -> usize
 pub fn put_parameter(room: &mut [u8], at: usize, key: usize) -> usize
     ensures { λ r. ⌜ Wrote (parameterWords key) at (now (room .entry)) r (now (room .exit)) ⌝ }
 {
-    match key {
-        2 => put(room, at, b"coerce"),
-        6 => put(room, at, b"URI"),
-        10 => put(room, at, b"source"),
-        11 => put(room, at, b"digest"),
-        12 => put(room, at, b"size"),
-        _ => put(room, at, b"unknown"),
-    }
+    put_word(
+        room,
+        at,
+        &[2, 6, 10, 11, 12],
+        b"coerce|URI|source|digest|size|unknown",
+        key,
+        0,
+    )
 }
 
 pub fn put_section(room: &mut [u8], at: usize, key: usize) -> usize
     ensures { λ r. ⌜ Wrote (sectionWords key) at (now (room .entry)) r (now (room .exit)) ⌝ }
 {
-    match key {
-        3 => put(room, at, b"common"),
-        8 => put(room, at, b"payload fetch"),
-        9 => put(room, at, b"install"),
-        10 => put(room, at, b"validate"),
-        11 => put(room, at, b"load"),
-        12 => put(room, at, b"run"),
-        _ => put(room, at, b"unknown"),
-    }
-}
-
-// A refusal of check.
-fn put_check_refusal(room: &mut [u8], at: usize, number: usize) -> usize
-    ensures { λ r. ⌜ Wrote (checkWords number) at (now (room .entry)) r (now (room .exit)) ⌝ }
-{
-    match number {
-        64 => put(room, at, b"envelope over 4,096 bytes"),
-        65 => put(
-            room,
-            at,
-            b"CBOR rule broken, item past its container's end, or bytes left over",
-        ),
-        66 => put(room, at, b"wrong type, key, order, count or length"),
-        67 => put(room, at, b"version not 1"),
-        68 => put(room, at, b"identifier twice"),
-        69 => put(room, at, b"code not listed"),
-        70 => put(room, at, b"parameter not listed"),
-        71 => put(room, at, b"command not allowed there"),
-        72 => put(room, at, b"index or source not below the count"),
-        73 => put(room, at, b"depth over 4"),
-        74 => put(room, at, b"257th command"),
-        _ => put(room, at, b"unknown"),
-    }
-}
-
-// A refusal of a run, a translation or a program.
-fn put_run_refusal(room: &mut [u8], at: usize, number: usize) -> usize
-    ensures { λ r. ⌜ Wrote (runWords number) at (now (room .entry)) r (now (room .exit)) ⌝ }
-{
-    match number {
-        80 => put(room, at, b"signature verdict is no"),
-        81 => put(room, at, b"install while an event is open"),
-        82 => put(
-            room,
-            at,
-            b"install: number not above the device's; boot: not equal",
-        ),
-        83 => put(room, at, b"a component has no slot"),
-        84 => put(room, at, b"trace under 2,048 bytes"),
-        85 => put(
-            room,
-            at,
-            b"slot count not 1 to 8, identifier not 1 to 32 bytes or twice, present size over capacity",
-        ),
-        86 => put(room, at, b"answers not a multiple of 37 bytes"),
-        96 => put(room, at, b"program longer than the room"),
-        97 => put(room, at, b"program not well formed"),
-        _ => put(room, at, b"unknown"),
-    }
+    put_word(
+        room,
+        at,
+        &[3, 8, 9, 10, 11, 12],
+        b"common|payload fetch|install|validate|load|run|unknown",
+        key,
+        0,
+    )
 }
 
 pub fn put_refusal(room: &mut [u8], at: usize, number: usize) -> usize
     ensures { λ r. ⌜ Wrote (refusalWords number) at (now (room .entry)) r (now (room .exit)) ⌝ }
 {
-    if number < 80 {
-        return put_check_refusal(room, at, number);
-    }
-    put_run_refusal(room, at, number)
+    put_word(
+        room,
+        at,
+        &[
+            64,
+            65,
+            66,
+            67,
+            68,
+            69,
+            70,
+            71,
+            72,
+            73,
+            74,
+            80,
+            81,
+            82,
+            83,
+            84,
+            85,
+            86,
+            96,
+            97,
+        ],
+        b"envelope over 4,096 bytes|CBOR rule broken, item past its container's end, or bytes left over|wrong type, key, order, count or length|version not 1|identifier twice|code not listed|parameter not listed|command not allowed there|index or source not below the count|depth over 4|257th command|signature verdict is no|install while an event is open|install: number not above the device's; boot: not equal|a component has no slot|trace under 2,048 bytes|slot count not 1 to 8, identifier not 1 to 32 bytes or twice, present size over capacity|answers not a multiple of 37 bytes|program longer than the room|program not well formed|unknown",
+        number,
+        0,
+    )
 }
 
-// The end of a run.
 pub fn put_end(room: &mut [u8], at: usize, number: usize) -> usize
     ensures { λ r. ⌜ Wrote (endWords number) at (now (room .entry)) r (now (room .exit)) ⌝ }
 {
-    match number {
-        0 => put(room, at, b"finished"),
-        1 => put(room, at, b"condition failed"),
-        2 => put(room, at, b"started"),
-        32 => put(room, at, b"parameter unset"),
-        33 => put(room, at, b"aborted"),
-        34 => put(room, at, b"no answer left"),
-        35 => put(room, at, b"bad status"),
-        36 => put(room, at, b"larger than the capacity"),
-        37 => put(room, at, b"nothing to copy: slot absent"),
-        38 => put(room, at, b"nothing to run: slot absent"),
-        _ => put(room, at, b"unknown"),
-    }
+    put_word(
+        room,
+        at,
+        &[0, 1, 2, 32, 33, 34, 35, 36, 37, 38],
+        b"finished|condition failed|started|parameter unset|aborted|no answer left|bad status|larger than the capacity|nothing to copy: slot absent|nothing to run: slot absent|unknown",
+        number,
+        0,
+    )
 }
 
 // The result of an event.

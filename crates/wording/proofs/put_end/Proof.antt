@@ -1,112 +1,24 @@
+use mathlib.Core.Path.{refl}
 use borrow.Author.Needs.{needs}
-use borrow.Author.Tests.{ne-eqb}
-use Rattle.wording.specs.Words.{endWords}
+use Rattle.wording.specs.Rows.{wordOf, numbers, words, plain, barless}
+use Rattle.wording.specs.Words.{ends, endWords}
+use Rattle.wording.proofs.RowLaws.{wide-none, word-of}
 use Rattle.wording.proofs.put_end.Statement.{statement}
 use Rattle.wording.proofs.put_end.Tie as tie
 
 returns : tie.Need-returns
-unfolding endWords
-returns c = rw (c .before .before .before .before .before .match .keys1) (c .before .before .put .ensures)
-
-returns-2 : tie.Need-returns-2
-unfolding endWords
-returns-2 c = rw (c .before .before .before .before .before .match .keys2) (c .before .before .put2 .ensures)
-
-returns-3 : tie.Need-returns-3
-unfolding endWords
-returns-3 c = rw (c .before .before .before .before .before .match .keys3) (c .before .before .put3 .ensures)
-
-returns-4 : tie.Need-returns-4
-unfolding endWords
-returns-4 c = rw (c .before .before .before .before .before .match .keys4) (c .before .before .put4 .ensures)
-
-returns-5 : tie.Need-returns-5
-unfolding endWords
-returns-5 c = rw (c .before .before .before .before .before .match .keys5) (c .before .before .put5 .ensures)
-
-returns-6 : tie.Need-returns-6
-unfolding endWords
-returns-6 c = rw (c .before .before .before .before .before .match .keys6) (c .before .before .put6 .ensures)
-
-returns-7 : tie.Need-returns-7
-unfolding endWords
-returns-7 c = rw (c .before .before .before .before .before .match .keys7) (c .before .before .put7 .ensures)
-
-returns-8 : tie.Need-returns-8
-unfolding endWords
-returns-8 c = rw (c .before .before .before .before .before .match .keys8) (c .before .before .put8 .ensures)
-
-returns-9 : tie.Need-returns-9
-unfolding endWords
-returns-9 c = rw (c .before .before .before .before .before .match .keys9) (c .before .before .put9 .ensures)
-
-returns-10 : tie.Need-returns-10
-unfolding endWords
-returns-10 c = rw (c .before .before .before .before .before .match .keys10) (c .before .before .put10 .ensures)
-
-returns-11 : tie.Need-returns-11
-unfolding endWords
-returns-11 c =
-    let r = c .before .before .before .before .before .match .rest in
-    rw (
-      ne-eqb _ _ (r .0 .0 .0 .0 .0 .0 .0 .0 .0 .1),
-      ne-eqb _ _ (r .0 .0 .0 .0 .0 .0 .0 .0 .1),
-      ne-eqb _ _ (r .0 .0 .0 .0 .0 .0 .0 .1),
-      ne-eqb _ _ (r .0 .0 .0 .0 .0 .0 .1),
-      ne-eqb _ _ (r .0 .0 .0 .0 .0 .1),
-      ne-eqb _ _ (r .0 .0 .0 .0 .1),
-      ne-eqb _ _ (r .0 .0 .0 .1),
-      ne-eqb _ _ (r .0 .0 .1),
-      ne-eqb _ _ (r .0 .1),
-      ne-eqb _ _ (r .1),
-    )
-    (c .before .before .put11 .ensures)
+unfolding endWords ends numbers words plain barless
+returns c =
+    let put = c .before .before in
+    let n = put .before .before .before .before .before .args .number in
+    rw (← wide-none (wordOf n ends), ← word-of n ends refl) (put .put-word .ensures)
 
 pub put-end-spec : {M : Type 1} → statement M
 put-end-spec =
     tie.close
     (tie.spec
     (λ c. search needs)
-    (λ c κs. search needs)
     (λ c. search needs)
     (λ c κs. search needs)
     (λ c. search needs)
-    (λ c κs. search needs)
-    (λ c. search needs)
-    (λ c κs. search needs)
-    (λ c. search needs)
-    (λ c κs. search needs)
-    (λ c. search needs)
-    (λ c κs. search needs)
-    (λ c. search needs)
-    (λ c κs. search needs)
-    (λ c. search needs)
-    (λ c κs. search needs)
-    (λ c. search needs)
-    (λ c κs. search needs)
-    (λ c. search needs)
-    (λ c κs. search needs)
-    (λ c. search needs)
-    (λ c κs. search needs)
-    (λ c. search needs)
-    returns
-    (λ c. search needs)
-    returns-2
-    (λ c. search needs)
-    returns-3
-    (λ c. search needs)
-    returns-4
-    (λ c. search needs)
-    returns-5
-    (λ c. search needs)
-    returns-6
-    (λ c. search needs)
-    returns-7
-    (λ c. search needs)
-    returns-8
-    (λ c. search needs)
-    returns-9
-    (λ c. search needs)
-    returns-10
-    (λ c. search needs)
-    returns-11)
+    returns)

@@ -1,24 +1,24 @@
+use mathlib.Core.Path.{refl}
 use borrow.Author.Needs.{needs}
-use borrow.Author.Tests.{lt-ltb, le-ltb}
-use Rattle.wording.specs.Words.{refusalWords}
+use Rattle.wording.specs.Rows.{wordOf, numbers, words, plain, barless}
+use Rattle.wording.specs.Words.{refusals, refusalWords}
+use Rattle.wording.proofs.RowLaws.{wide-none, word-of}
 use Rattle.wording.proofs.put_refusal.Statement.{statement}
 use Rattle.wording.proofs.put_refusal.Tie as tie
 
 returns : tie.Need-returns
-unfolding refusalWords
-returns c = rw (lt-ltb _ 80 (c .before .before .before .before .if1 .taken)) (c .before .before .put-check-refusal .ensures)
-
-returns-2 : tie.Need-returns-2
-unfolding refusalWords
-returns-2 c = rw (le-ltb _ 80 (c .before .before .before .before .if1 .left)) (c .before .before .put-run-refusal .ensures)
+unfolding refusalWords refusals numbers words plain barless
+returns c =
+    let put = c .before .before in
+    let n = put .before .before .before .before .before .args .number in
+    rw (← wide-none (wordOf n refusals), ← word-of n refusals refl) (put .put-word .ensures)
 
 pub put-refusal-spec : {M : Type 1} → statement M
 put-refusal-spec =
     tie.close
     (tie.spec
+    (λ c. search needs)
+    (λ c. search needs)
     (λ c κs. search needs)
     (λ c. search needs)
-    returns
-    (λ c κs. search needs)
-    (λ c. search needs)
-    returns-2)
+    returns)
