@@ -10,7 +10,8 @@ use native.Mathlib.Omega.{arith}
 use native.Mathlib.Numerals.{add-one}
 use borrow.Author.Tests.{eq-eqb, ne-eqb}
 use Rattle.text.specs.Text.{Bytes}
-use Rattle.wording.specs.Rows.{Row, wide, wordOf, numbers, words, position, before, after, barless, plain}
+use Rattle.wording.specs.Words.{wide}
+use Rattle.wording.specs.Rows.{Row, wordOf, numbers, words, position, before, after, barless, plain}
 
 module _ (s : Bytes) (i : ℕ) where
   pub position-here : (n : ℕ) → i < length s → getD s i 0 ≡ n → position n s ≡ i + position n (drop i s) → i ≡ position n s

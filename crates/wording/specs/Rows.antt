@@ -1,10 +1,9 @@
 -- A table of words by number, and its two lists as the code has them: the numbers, and the words with a bar after each.
-use Prim.Native.Nat.{ℕ, zero, suc, _-_}
+use Prim.Native.Nat.{ℕ, zero, suc}
 use Prim.Native.String.{String}
 use mathlib.Core.Bool.{Bool, true, false, cond}
 use mathlib.Core.List.{List, [], _∷_, _++_}
 use lib.Dec.{eqb}
-use lib.ListN.{length, replicate}
 use Rattle.text.specs.Text.{Bytes, ascii}
 
 pub record Row : Type 0 where
@@ -19,10 +18,6 @@ n means w = record { number = n; word = ascii w }
 unfoldable pub wordOf : ℕ → List Row → Bytes
 wordOf n [] = ascii "unknown"
 wordOf n (r ∷ rs) = cond (eqb (r .number) n) (r .word) (wordOf n rs)
-
--- a word, and spaces up to a width
-unfoldable pub wide : ℕ → Bytes → Bytes
-wide width w = w ++ replicate (width - length w) 32
 
 unfoldable pub numbers : List Row → Bytes
 numbers [] = []

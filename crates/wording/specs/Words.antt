@@ -1,10 +1,15 @@
 -- The words for codes, keys and numbers of document 01.
-use Prim.Native.Nat.{ℕ}
+use Prim.Native.Nat.{ℕ, _-_}
 use mathlib.Core.Bool.{Bool, cond}
-use mathlib.Core.List.{List, [], _∷_}
+use mathlib.Core.List.{List, [], _∷_, _++_}
 use lib.Dec.{eqb}
+use lib.ListN.{length, replicate}
 use Rattle.text.specs.Text.{Bytes, ascii}
 use Rattle.wording.specs.Rows.{Row, _means_, wordOf}
+
+-- a word, and spaces up to a width
+unfoldable pub wide : ℕ → Bytes → Bytes
+wide width w = w ++ replicate (width - length w) 32
 
 -- the command table; 255 is the jump of a program
 unfoldable pub commands : List Row

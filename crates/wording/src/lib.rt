@@ -3,9 +3,9 @@ ghost use mathlib.Core.Path.{_≡_};
 ghost use Prim.Native.Nat.{_≤_};
 ghost use lib.ListN.{length, take, drop};
 ghost use Rattle.text.specs.Text.{Wrote};
-ghost use Rattle.wording.specs.Rows.{wide, before, after};
+ghost use Rattle.wording.specs.Rows.{before, after};
 ghost use Rattle.wording.specs.Rows.{position as Rows·position};
-ghost use Rattle.wording.specs.Words.{commandWords, parameterWords, sectionWords, refusalWords, endWords, resultWords};
+ghost use Rattle.wording.specs.Words.{wide, commandWords, parameterWords, sectionWords, refusalWords, endWords, resultWords};
 use text::put;
 use text::put_spaces;
 

@@ -5,7 +5,7 @@ use native.Mathlib.Omega.{arith}
 use borrow.Author.Needs.{needs}
 use lib.ListN.{length}
 use Rattle.text.proofs.TextLaws.{wrote-then}
-use Rattle.wording.specs.Rows.{wide}
+use Rattle.wording.specs.Words.{wide}
 use Rattle.wording.proofs.put_wide.Statement.{statement}
 use Rattle.wording.proofs.put_wide.Tie as tie
 
