@@ -1,12 +1,14 @@
 -- What is shown one after the other.
 use Prim.Native.Nat.{ℕ, _+_, _≤_, _<_}
-use mathlib.Core.Path.{_≡_, refl, ap}
-use mathlib.Core.List.{[], _∷_, _++_, map}
+use mathlib.Core.Path.{_≡_, refl, sym, ap, _∙_}
+use mathlib.Core.List.{[], _∷_, _++_, map, append-assoc, append-nil}
 use native.Mathlib.Numerals.{add-one}
 use lib.ListN.{length, take, getD}
 use lib.Seq.{take-suc, take-all}
 use Rattle.text.specs.Text.{Bytes, Wrote}
-use Rattle.text.proofs.TextLaws.{wrote-then}
+use Rattle.text.proofs.TextLaws.{wrote-none, wrote-then, wrote-length}
+use Rattle.show.specs.declared.walk.Put.{Put}
+use Rattle.show.specs.Shown.{Shown, none, behind, andThen, Shows}
 
 map-append : (f : ℕ → ℕ) (a b : Bytes) → map f (a ++ b) ≡ map f a ++ map f b
 map-append f [] b = refl
@@ -21,3 +23,47 @@ map-next f s i h w x = rw (add-one i, take-suc s i 0 h, map-append f (take i s) 
 pub map-all : (f : ℕ → ℕ) (s : Bytes) (i : ℕ) {at : ℕ} {room : Bytes} {p : ℕ} {room₁ : Bytes} → length s ≤ i → Wrote (map f (take i s)) at room p room₁ →
     Wrote (map f s) at room p room₁
 map-all f s i h w = rw (take-all i s h) at w
+
+pub shows-length : {x : Shown} {to : ℕ} {room : Bytes} {r : Put} {room′ : Bytes} → Shows x to room r room′ → length room′ ≡ length room
+shows-length h = wrote-length (h .wrote)
+
+-- what was written so far, and x, which is left, make the whole
+pub record Rest (whole : Shown) (to : ℕ) (room : Bytes) (x : Shown) (end : ℕ) (room′ : Bytes) : Type 0 where
+  pub done : Bytes
+  pub wrote : Wrote done to room end room′
+  pub text : whole .0 ≡ done ++ x .0
+  pub next : whole .1 ≡ x .1
+
+pub rest-start : (x : Shown) (to : ℕ) (room : Bytes) → Rest x to room x to room
+rest-start x to room = record { done = []; wrote = wrote-none to room; text = refl; next = refl }
+
+module _ {whole : Shown} {to : ℕ} {room : Bytes} where
+  pub rest-length : {x : Shown} {end : ℕ} {room′ : Bytes} → Rest whole to room x end room′ → length room′ ≡ length room
+  rest-length l = wrote-length (l .wrote)
+
+  pub rest-done : (x : Shown) {n end : ℕ} {room′ : Bytes} → Rest whole to room x end room′ → x ≡ none n →
+      Shows whole to room (record { next = n; to = end }) room′
+  rest-done x {n} l q =
+      let t : whole .0 ≡ l .done = l .text ∙ ap (λ (y : Shown). l .done ++ y .0) q ∙ append-nil (l .done) in
+      record { next = sym (l .next ∙ ap (λ (y : Shown). y .1) q); wrote = rw t (l .wrote) }
+
+  -- some text more
+  pub rest-text : {b : Bytes} {x : Shown} {p : ℕ} {room₁ : Bytes} {q : ℕ} {room₂ : Bytes} → Rest whole to room (behind b x) p room₁ →
+      Wrote b p room₁ q room₂ → Rest whole to room x q room₂
+  rest-text {b} {x} l w =
+      record {
+        done = l .done ++ b;
+        wrote = wrote-then (l .wrote) w;
+        text = l .text ∙ sym (append-assoc (l .done) b (x .0));
+        next = l .next;
+      }
+
+  -- something more shown
+  pub rest-shown : (f : ℕ → Shown) {x : Shown} {p : ℕ} {room₁ : Bytes} {r : Put} {room₂ : Bytes} → Rest whole to room (andThen x f) p room₁ →
+      Shows x p room₁ r room₂ → Rest whole to room (f (r .next)) (r .to) room₂
+  rest-shown f l h = rw (h .next) (rest-text l (h .wrote))
+
+-- text before what is shown
+pub behind-shows : {b : Bytes} {x : Shown} {to : ℕ} {room : Bytes} {p : ℕ} {room₁ : Bytes} {r : Put} {room₂ : Bytes} → Wrote b to room p room₁ →
+    Shows x p room₁ r room₂ → Shows (behind b x) to room r room₂
+behind-shows w h = record { next = h .next; wrote = wrote-then w (h .wrote) }

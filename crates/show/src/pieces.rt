@@ -28,7 +28,7 @@ fn indent(depth: usize) -> usize
     2 * (3 - depth)
 }
 
-fn put_margin(room: &mut [u8], at: usize, columns: usize, depth: usize) -> usize
+pub fn put_margin(room: &mut [u8], at: usize, columns: usize, depth: usize) -> usize
     ensures { λ r. ⌜ Wrote (marginText columns depth) at (now (room .entry)) r (now (room .exit)) ⌝ }
 {
     let to = put_spaces(room, at, columns);
@@ -86,7 +86,14 @@ fn put_quoted(room: &mut [u8], at: usize, s: &[u8]) -> usize
 }
 
 // The string from `from` to `end`: a text in quotes, any other in hexadecimal.
-pub fn put_string(room: &mut [u8], at: usize, s: &[u8], kind: usize, from: usize, end: usize) -> usize
+pub fn put_string(
+    room: &mut [u8],
+    at: usize,
+    s: &[u8],
+    kind: usize,
+    from: usize,
+    end: usize,
+) -> usize
     ensures { λ r. ⌜ Wrote (stringText (now (s .entry)) kind from end) at (now (room .entry)) r (now (room .exit)) ⌝ }
 {
     if s.len() < end {
@@ -163,7 +170,14 @@ pub fn put_alternative(room: &mut [u8], at: usize, depth: usize, n: usize) -> us
 }
 
 // A parameter and its value.
-pub fn put_parameter(room: &mut [u8], at: usize, s: &[u8], depth: usize, key: usize, i: Item) -> usize
+pub fn put_parameter(
+    room: &mut [u8],
+    at: usize,
+    s: &[u8],
+    depth: usize,
+    key: usize,
+    i: Item,
+) -> usize
     ensures { λ r. ⌜ Wrote (parameterText (now (s .entry)) depth key i) at (now (room .entry)) r (now (room .exit)) ⌝ }
 {
     let a = put_margin(room, at, 10, depth);
