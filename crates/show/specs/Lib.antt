@@ -1,3 +1,4 @@
 pub mod Items
+pub mod Manifest
 pub mod Pieces
 pub mod Shown

@@ -1,4 +1,118 @@
 // A manifest as a person reads it, in lent room.
-pub mod items;
-pub mod pieces;
-pub mod walk;
+ghost use mathlib.Core.Path.{_≡_};
+ghost use Prim.Native.Nat.{_≤_};
+ghost use Rattle.text.specs.Text.{Wrote, least};
+ghost use Rattle.show.specs.Manifest.{componentText, componentsText, sectionText, sectionsText, partsText, manifestText};
+use envelope::report::Report;
+use pieces::NEWLINE;
+use pieces::put_code;
+use pieces::put_string;
+use text::put;
+use text::put_byte;
+use text::put_decimal;
+use walk::put_sequence;
+
+mod items;
+mod pieces;
+mod walk;
+
+// The sequences of a section may be so deep.
+const DEPTH: usize = 4;
+
+// Component `k`, whose identifier stands from `from` to `end`.
+fn put_component(room: &mut [u8], at: usize, s: &[u8], k: usize, from: usize, end: usize) -> usize
+    ensures { λ r. ⌜ Wrote (componentText (now (s .entry)) k from end) at (now (room .entry)) r (now (room .exit)) ⌝ }
+{
+    let a = put(room, at, b"component ");
+    let b = put_decimal(room, a, k);
+    let c = put(room, b, b"  ");
+    let d = put_string(room, c, s, cbor::BYTES, from, end);
+    let e = put(room, d, b"  at ");
+    let f = put_decimal(room, e, from);
+    put_byte(room, f, NEWLINE)
+}
+
+// The first `n` components.
+fn put_components(room: &mut [u8], at: usize, s: &[u8], n: usize, ids: &[usize; 16]) -> usize
+    requires { ⌜ n ≤ 8 ⌝ }
+    ensures { λ r. ⌜ Wrote (componentsText (now (s .entry)) (now (ids .entry)) n) at (now (room .entry)) r (now (room .exit)) ⌝ }
+{
+    let mut to = at;
+    let mut k = 0;
+    while k < n {
+        to = put_component(room, to, s, k, ids[2 * k], ids[2 * k + 1]);
+        k += 1;
+    }
+    to
+}
+
+// A report has places for 8.
+fn listed(components: usize) -> usize
+    ensures { λ r. ⌜ (r ≤ 8) × (r ≡ least components 8) ⌝ }
+{
+    if 8 < components {
+        return 8;
+    }
+    components
+}
+
+// The section under `key`, whose sequence stands from `from` to `end`; an end of 0 says that it is not there.
+fn put_section(room: &mut [u8], at: usize, s: &[u8], key: usize, from: usize, end: usize) -> usize
+    ensures { λ r. ⌜ Wrote (sectionText (now (s .entry)) key from end) at (now (room .entry)) r (now (room .exit)) ⌝ }
+{
+    if end == 0 {
+        return at;
+    }
+    let a = wording::put_section(room, at, key);
+    let b = put_code(room, a, key);
+    let c = put_byte(room, b, NEWLINE);
+    let r = put_sequence(room, c, s, DEPTH, end, from);
+    r.to
+}
+
+fn put_sections(room: &mut [u8], at: usize, s: &[u8], sections: &[usize; 12]) -> usize
+    ensures { λ r. ⌜ Wrote (sectionsText (now (s .entry)) (now (sections .entry))) at (now (room .entry)) r (now (room .exit)) ⌝ }
+{
+    let a = put_section(room, at, s, 3, sections[0], sections[1]);
+    let b = put_section(room, a, s, 8, sections[2], sections[3]);
+    let c = put_section(room, b, s, 9, sections[4], sections[5]);
+    let d = put_section(room, c, s, 10, sections[6], sections[7]);
+    let e = put_section(room, d, s, 11, sections[8], sections[9]);
+    put_section(room, e, s, 12, sections[10], sections[11])
+}
+
+// The manifest of an envelope by its number and the places of its identifiers and sections, as check reports them.
+pub fn put_parts(
+    room: &mut [u8],
+    at: usize,
+    s: &[u8],
+    number: usize,
+    components: usize,
+    ids: &[usize; 16],
+    sections: &[usize; 12],
+) -> usize
+    ensures { λ r. ⌜ Wrote (partsText (now (s .entry)) number components (now (ids .entry)) (now (sections .entry))) at (now (room .entry)) r (now (room .exit)) ⌝ }
+{
+    let a = put(room, at, b"number ");
+    let b = put_decimal(room, a, number);
+    let c = put_byte(room, b, NEWLINE);
+    let d = put_components(room, c, s, listed(components), ids);
+    put_sections(room, d, s, sections)
+}
+
+// The manifest of an envelope that check has accepted, by check's report.
+pub fn put_manifest(room: &mut [u8], at: usize, s: &[u8], report: Report) -> usize
+    ensures { λ r. ⌜ Wrote (manifestText (now (s .entry)) report) at (now (room .entry)) r (now (room .exit)) ⌝ }
+{
+    let ids = report.ids;
+    let sections = report.sections;
+    put_parts(
+        room,
+        at,
+        s,
+        report.number,
+        report.components,
+        &ids,
+        &sections,
+    )
+}

@@ -1,5 +1,6 @@
-use Prim.Native.Nat.{ℕ, _<_}
-use Prim.Native.Nat.{_+_, _*_, _≤_}
+-- The walk. It ends by the depth: a sequence calls its commands one level deeper. The invariant of both loops: what is written, and what is
+-- left, make the whole.
+use Prim.Native.Nat.{ℕ, _+_, _*_, _≤_, _<_}
 use mathlib.Core.Path.{refl}
 use mathlib.Core.Logic.{inl, inr}
 use native.Mathlib.Omega.{arith}
@@ -150,22 +151,10 @@ put-alternatives-returns t c =
     let p = c .before .before in
     rest-done _ (p .loop .inv .1) (no-alternatives _ _ _ _ _ _ _ (inl (c .if1 .taken)))
 
-put-alternatives-sub-left : (t : ℕ) → put-alternatives-lts.Need-sub-left (put-alternatives-callees t) (put-alternatives-at t) put-alternatives.Post put-alternatives-Inv-loop put-alternatives-μ-loop
-put-alternatives-sub-left t c = search needs
-
-put-alternatives-sub-put-alternative : (t : ℕ) → put-alternatives-lts.Need-sub-put-alternative (put-alternatives-callees t) (put-alternatives-at t) put-alternatives.Post put-alternatives-Inv-loop put-alternatives-μ-loop
-put-alternatives-sub-put-alternative t c = search needs
-
-put-alternatives-put-alternative-requires : (t : ℕ) → put-alternatives-lts.Need-put-alternative-requires (put-alternatives-callees t) (put-alternatives-at t) put-alternatives.Post put-alternatives-Inv-loop put-alternatives-μ-loop
-put-alternatives-put-alternative-requires t c κs = search needs
-
 put-alternatives-put-nested-requires : (t : ℕ) → put-alternatives-lts.Need-put-nested-requires (put-alternatives-callees t) (put-alternatives-at t) put-alternatives.Post put-alternatives-Inv-loop put-alternatives-μ-loop
 put-alternatives-put-nested-requires t c κs =
     let p = c .before .before .before .before .before .before .before .before .before .before in
     (omega (arith, p .pre .0), tt)
-
-put-alternatives-loop-less : (t : ℕ) → put-alternatives-lts.Need-loop-less (put-alternatives-callees t) (put-alternatives-at t) put-alternatives.Post put-alternatives-Inv-loop put-alternatives-μ-loop
-put-alternatives-loop-less t c = search needs
 
 put-alternatives-loop-again : (t : ℕ) → put-alternatives-lts.Need-loop-again (put-alternatives-callees t) (put-alternatives-at t) put-alternatives.Post put-alternatives-Inv-loop put-alternatives-μ-loop
 put-alternatives-loop-again t c =
@@ -173,8 +162,8 @@ put-alternatives-loop-again t c =
     let q = p .before .before .before .before in
     let r = q .before .before in
     let s = r .before in
-    let t = s .before in
-    (search needs, alternatives-on _ _ _ _ _ _ _ (s .loop-test .taken) (r .if1 .left) (t .loop .inv .1) (behind-shows (q .put-alternative .ensures) (p .put-nested .ensures)))
+    let u = s .before in
+    (search needs, alternatives-on _ _ _ _ _ _ _ (s .loop-test .taken) (r .if1 .left) (u .loop .inv .1) (behind-shows (q .put-alternative .ensures) (p .put-nested .ensures)))
 
 put-alternatives-same-length-2 : (t : ℕ) → put-alternatives-lts.Need-same-length-2 (put-alternatives-callees t) (put-alternatives-at t) put-alternatives.Post put-alternatives-Inv-loop put-alternatives-μ-loop
 put-alternatives-same-length-2 t c =
@@ -186,25 +175,10 @@ put-alternatives-returns-2 t c =
     let p = c .before in
     rest-done _ (p .loop .inv .1) (no-alternatives _ _ _ _ _ _ _ (inr (c .loop-test .left)))
 
-put-command-want-requires : (t : ℕ) → put-command-lts.Need-want-requires (put-command-callees t) (put-command-at t) put-command.Post
-put-command-want-requires t c κs = search needs
-
-put-command-look-requires : (t : ℕ) → put-command-lts.Need-look-requires (put-command-callees t) (put-command-at t) put-command.Post
-put-command-look-requires t c κs = search needs
-
-put-command-put-title-requires : (t : ℕ) → put-command-lts.Need-put-title-requires (put-command-callees t) (put-command-at t) put-command.Post
-put-command-put-title-requires t c κs = search needs
-
-put-command-put-byte-requires : (t : ℕ) → put-command-lts.Need-put-byte-requires (put-command-callees t) (put-command-at t) put-command.Post
-put-command-put-byte-requires t c κs = search needs
-
 put-command-put-nested-requires : (t : ℕ) → put-command-lts.Need-put-nested-requires (put-command-callees t) (put-command-at t) put-command.Post
 put-command-put-nested-requires t c κs =
     let p = c .before .before .before .before .before .before .before .before .before .before .before .before .before .before in
     (omega (arith, p .pre .0), tt)
-
-put-command-same-length : (t : ℕ) → put-command-lts.Need-same-length (put-command-callees t) (put-command-at t) put-command.Post
-put-command-same-length t c = search needs
 
 put-command-returns : (t : ℕ) → put-command-lts.Need-returns (put-command-callees t) (put-command-at t) put-command.Post
 put-command-returns t c =
@@ -212,22 +186,13 @@ put-command-returns t c =
     let q = p .before .before .before .before in
     let r = q .before .before in
     let s = r .before .before .before in
-    let t = s .before .before .before in
-    rw (command-nested _ _ _ _ _ _ (t .want .ensures) (r .if1 .taken)) (behind-shows (wrote-then (s .put-title .ensures) (q .put-byte .ensures)) (p .put-nested .ensures))
-
-put-command-put-argument-requires : (t : ℕ) → put-command-lts.Need-put-argument-requires (put-command-callees t) (put-command-at t) put-command.Post
-put-command-put-argument-requires t c κs = search needs
-
-put-command-put-byte-requires-2 : (t : ℕ) → put-command-lts.Need-put-byte-requires-2 (put-command-callees t) (put-command-at t) put-command.Post
-put-command-put-byte-requires-2 t c κs = search needs
+    let u = s .before .before .before in
+    rw (command-nested _ _ _ _ _ _ (u .want .ensures) (r .if1 .taken)) (behind-shows (wrote-then (s .put-title .ensures) (q .put-byte .ensures)) (p .put-nested .ensures))
 
 put-command-put-alternatives-requires : (t : ℕ) → put-command-lts.Need-put-alternatives-requires (put-command-callees t) (put-command-at t) put-command.Post
 put-command-put-alternatives-requires t c κs =
     let p = c .before .before .before .before .before .before .before .before .before .before .before .before .before .before .before .before .before .before .before in
     (omega (arith, p .pre .0), tt)
-
-put-command-same-length-2 : (t : ℕ) → put-command-lts.Need-same-length-2 (put-command-callees t) (put-command-at t) put-command.Post
-put-command-same-length-2 t c = search needs
 
 put-command-returns-2 : (t : ℕ) → put-command-lts.Need-returns-2 (put-command-callees t) (put-command-at t) put-command.Post
 put-command-returns-2 t c =
@@ -235,17 +200,11 @@ put-command-returns-2 t c =
     let q = p .before .before in
     let r = q .before .before .before in
     let s = r .before .before .before .before in
-    let t = s .before .before in
-    let u = t .before .before .before in
-    let v = u .before .before in
-    let w = v .before in
-    rw (command-alternatives _ _ _ _ _ _ (w .want .ensures) _ (v .look .ensures) (t .if1 .left) (q .if2 .taken)) (behind-shows (wrote-then (wrote-then (u .put-title .ensures) (s .put-argument .ensures)) (r .put-byte2 .ensures)) (p .put-alternatives .ensures))
-
-put-command-put-parameters-requires : (t : ℕ) → put-command-lts.Need-put-parameters-requires (put-command-callees t) (put-command-at t) put-command.Post
-put-command-put-parameters-requires t c κs = search needs
-
-put-command-same-length-3 : (t : ℕ) → put-command-lts.Need-same-length-3 (put-command-callees t) (put-command-at t) put-command.Post
-put-command-same-length-3 t c = search needs
+    let u = s .before .before in
+    let v = u .before .before .before in
+    let w = v .before .before in
+    let x = w .before in
+    rw (command-alternatives _ _ _ _ _ _ (x .want .ensures) _ (w .look .ensures) (u .if1 .left) (q .if2 .taken)) (behind-shows (wrote-then (wrote-then (v .put-title .ensures) (s .put-argument .ensures)) (r .put-byte2 .ensures)) (p .put-alternatives .ensures))
 
 put-command-returns-3 : (t : ℕ) → put-command-lts.Need-returns-3 (put-command-callees t) (put-command-at t) put-command.Post
 put-command-returns-3 t c =
@@ -253,15 +212,12 @@ put-command-returns-3 t c =
     let q = p .before .before in
     let r = q .before in
     let s = r .before .before .before in
-    let t = s .before .before .before .before in
-    let u = t .before .before in
-    let v = u .before .before .before in
-    let w = v .before .before in
-    let x = w .before in
-    rw (command-parameters _ _ _ _ _ _ (x .want .ensures) _ (w .look .ensures) (u .if1 .left) (r .if2 .left) (q .if3 .taken)) (behind-shows (wrote-then (wrote-then (v .put-title .ensures) (t .put-argument .ensures)) (s .put-byte2 .ensures)) (p .put-parameters .ensures))
-
-put-command-same-length-4 : (t : ℕ) → put-command-lts.Need-same-length-4 (put-command-callees t) (put-command-at t) put-command.Post
-put-command-same-length-4 t c = search needs
+    let u = s .before .before .before .before in
+    let v = u .before .before in
+    let w = v .before .before .before in
+    let x = w .before .before in
+    let y = x .before in
+    rw (command-parameters _ _ _ _ _ _ (y .want .ensures) _ (x .look .ensures) (v .if1 .left) (r .if2 .left) (q .if3 .taken)) (behind-shows (wrote-then (wrote-then (w .put-title .ensures) (u .put-argument .ensures)) (s .put-byte2 .ensures)) (p .put-parameters .ensures))
 
 put-command-returns-4 : (t : ℕ) → put-command-lts.Need-returns-4 (put-command-callees t) (put-command-at t) put-command.Post
 put-command-returns-4 t c =
@@ -269,10 +225,10 @@ put-command-returns-4 t c =
     let q = p .before .before .before in
     let r = q .before .before .before .before in
     let s = r .before .before in
-    let t = s .before .before .before in
-    let u = t .before .before in
-    let v = u .before in
-    rw (command-plain _ _ _ _ _ _ (v .want .ensures) _ (u .look .ensures) (s .if1 .left) (p .if2 .left) (c .if3 .left)) (record { next = refl; wrote = wrote-then (wrote-then (t .put-title .ensures) (r .put-argument .ensures)) (q .put-byte2 .ensures) })
+    let u = s .before .before .before in
+    let v = u .before .before in
+    let w = v .before in
+    rw (command-plain _ _ _ _ _ _ (w .want .ensures) _ (v .look .ensures) (s .if1 .left) (p .if2 .left) (c .if3 .left)) (record { next = refl; wrote = wrote-then (wrote-then (u .put-title .ensures) (r .put-argument .ensures)) (q .put-byte2 .ensures) })
 
 abbrev put-commands-Inv-loop : put-commands-lts.InvT-loop
 put-commands-Inv-loop room₀ to s depth e at count next₀ end₀ left₀ room next end left = Rest (commandsShown s (sequenceShown s depth) depth count e at) to room₀ (commandsShown s (sequenceShown s depth) depth left e next) end room
@@ -298,12 +254,6 @@ put-commands-put-command-requires t c κs =
     let p = c .before .before .before .before .before .before in
     (omega (arith, p .pre .0), tt)
 
-put-commands-sub-left : (t : ℕ) → put-commands-lts.Need-sub-left (put-commands-callees t) (put-commands-at t) put-commands.Post put-commands-Inv-loop put-commands-μ-loop
-put-commands-sub-left t c = search needs
-
-put-commands-loop-less : (t : ℕ) → put-commands-lts.Need-loop-less (put-commands-callees t) (put-commands-at t) put-commands.Post put-commands-Inv-loop put-commands-μ-loop
-put-commands-loop-less t c = search needs
-
 put-commands-loop-again : (t : ℕ) → put-commands-lts.Need-loop-again (put-commands-callees t) (put-commands-at t) put-commands.Post put-commands-Inv-loop put-commands-μ-loop
 put-commands-loop-again t c =
     let p = c .before .before in
@@ -322,16 +272,10 @@ put-commands-returns-2 t c =
     let p = c .before in
     rest-done _ (p .loop .inv) (no-commands _ _ _ _ _ _ (inr (c .loop-test .left)))
 
-put-nested-want-requires : (t : ℕ) → put-nested-lts.Need-want-requires (put-nested-callees t) (put-nested-at t) put-nested.Post
-put-nested-want-requires t c κs = search needs
-
 put-nested-put-sequence-requires : (t : ℕ) → put-nested-lts.Need-put-sequence-requires (put-nested-callees t) (put-nested-at t) put-nested.Post
 put-nested-put-sequence-requires t c κs =
     let p = c .before .before .before .before in
     (omega (arith, p .pre .0), tt)
-
-put-nested-same-length : (t : ℕ) → put-nested-lts.Need-same-length (put-nested-callees t) (put-nested-at t) put-nested.Post
-put-nested-same-length t c = search needs
 
 put-nested-returns : (t : ℕ) → put-nested-lts.Need-returns (put-nested-callees t) (put-nested-at t) put-nested.Post
 put-nested-returns t c =
@@ -339,29 +283,11 @@ put-nested-returns t c =
     let q = p .before .before in
     nested-shows _ _ _ _ _ (q .want .ensures) (p .put-sequence .ensures)
 
-put-sequence-put-stop-requires : (t : ℕ) → put-sequence-lts.Need-put-stop-requires (put-sequence-callees t) (put-sequence-at t) put-sequence.Post
-put-sequence-put-stop-requires t c κs = search needs
-
-put-sequence-same-length : (t : ℕ) → put-sequence-lts.Need-same-length (put-sequence-callees t) (put-sequence-at t) put-sequence.Post
-put-sequence-same-length t c = search needs
-
 put-sequence-returns : (t : ℕ) → put-sequence-lts.Need-returns (put-sequence-callees t) (put-sequence-at t) put-sequence.Post
 put-sequence-returns t c =
     let p = c .before .before in
     let q = p .before .before in
     rw (sequence-none _ _ _ _ (q .if1 .taken)) (p .put-stop .ensures)
-
-put-sequence-want-requires : (t : ℕ) → put-sequence-lts.Need-want-requires (put-sequence-callees t) (put-sequence-at t) put-sequence.Post
-put-sequence-want-requires t c κs = search needs
-
-put-sequence-sub-put-stop : (t : ℕ) → put-sequence-lts.Need-sub-put-stop (put-sequence-callees t) (put-sequence-at t) put-sequence.Post
-put-sequence-sub-put-stop t c = search needs
-
-put-sequence-put-stop-requires-2 : (t : ℕ) → put-sequence-lts.Need-put-stop-requires-2 (put-sequence-callees t) (put-sequence-at t) put-sequence.Post
-put-sequence-put-stop-requires-2 t c κs = search needs
-
-put-sequence-same-length-2 : (t : ℕ) → put-sequence-lts.Need-same-length-2 (put-sequence-callees t) (put-sequence-at t) put-sequence.Post
-put-sequence-same-length-2 t c = search needs
 
 put-sequence-returns-2 : (t : ℕ) → put-sequence-lts.Need-returns-2 (put-sequence-callees t) (put-sequence-at t) put-sequence.Post
 put-sequence-returns-2 t c =
@@ -371,16 +297,10 @@ put-sequence-returns-2 t c =
     let s = r .before in
     rw (sequence-stopped _ _ _ _ (s .if1 .left) _ (r .want .ensures) (q .if2 .taken)) (p .put-stop2 .ensures)
 
-put-sequence-sub-put-commands : (t : ℕ) → put-sequence-lts.Need-sub-put-commands (put-sequence-callees t) (put-sequence-at t) put-sequence.Post
-put-sequence-sub-put-commands t c = search needs
-
 put-sequence-put-commands-requires : (t : ℕ) → put-sequence-lts.Need-put-commands-requires (put-sequence-callees t) (put-sequence-at t) put-sequence.Post
 put-sequence-put-commands-requires t c κs =
     let p = c .before .before .before .before .before .before .before in
     (omega (arith, p .pre .0), tt)
-
-put-sequence-same-length-3 : (t : ℕ) → put-sequence-lts.Need-same-length-3 (put-sequence-callees t) (put-sequence-at t) put-sequence.Post
-put-sequence-same-length-3 t c = search needs
 
 put-sequence-returns-3 : (t : ℕ) → put-sequence-lts.Need-returns-3 (put-sequence-callees t) (put-sequence-at t) put-sequence.Post
 put-sequence-returns-3 t c =
@@ -405,31 +325,31 @@ pub +put-alternatives+put-command+put-commands+put-nested+put-sequence-spec :
     (put-alternatives-loop-holds t)
     (put-alternatives-same-length t)
     (put-alternatives-returns t)
-    (put-alternatives-sub-left t)
-    (put-alternatives-sub-put-alternative t)
-    (put-alternatives-put-alternative-requires t)
+    (λ c. search needs)
+    (λ c. search needs)
+    (λ c κs. search needs)
     (put-alternatives-put-nested-requires t)
-    (put-alternatives-loop-less t)
+    (λ c. search needs)
     (put-alternatives-loop-again t)
     (put-alternatives-same-length-2 t)
     (put-alternatives-returns-2 t))
     (λ t. put-command-lts.spec (put-command-callees t) (put-command-at t) put-command.Post
-    (put-command-want-requires t)
-    (put-command-look-requires t)
-    (put-command-put-title-requires t)
-    (put-command-put-byte-requires t)
+    (λ c κs. search needs)
+    (λ c κs. search needs)
+    (λ c κs. search needs)
+    (λ c κs. search needs)
     (put-command-put-nested-requires t)
-    (put-command-same-length t)
+    (λ c. search needs)
     (put-command-returns t)
-    (put-command-put-argument-requires t)
-    (put-command-put-byte-requires-2 t)
+    (λ c κs. search needs)
+    (λ c κs. search needs)
     (put-command-put-alternatives-requires t)
-    (put-command-same-length-2 t)
+    (λ c. search needs)
     (put-command-returns-2 t)
-    (put-command-put-parameters-requires t)
-    (put-command-same-length-3 t)
+    (λ c κs. search needs)
+    (λ c. search needs)
     (put-command-returns-3 t)
-    (put-command-same-length-4 t)
+    (λ c. search needs)
     (put-command-returns-4 t))
     (λ t. put-commands-lts.spec (put-commands-callees t) (put-commands-at t) put-commands.Post
     put-commands-Inv-loop
@@ -438,26 +358,26 @@ pub +put-alternatives+put-command+put-commands+put-nested+put-sequence-spec :
     (put-commands-same-length t)
     (put-commands-returns t)
     (put-commands-put-command-requires t)
-    (put-commands-sub-left t)
-    (put-commands-loop-less t)
+    (λ c. search needs)
+    (λ c. search needs)
     (put-commands-loop-again t)
     (put-commands-same-length-2 t)
     (put-commands-returns-2 t))
     (λ t. put-nested-lts.spec (put-nested-callees t) (put-nested-at t) put-nested.Post
-    (put-nested-want-requires t)
+    (λ c κs. search needs)
     (put-nested-put-sequence-requires t)
-    (put-nested-same-length t)
+    (λ c. search needs)
     (put-nested-returns t))
     λ t. put-sequence-lts.spec (put-sequence-callees t) (put-sequence-at t) put-sequence.Post
-    (put-sequence-put-stop-requires t)
-    (put-sequence-same-length t)
+    (λ c κs. search needs)
+    (λ c. search needs)
     (put-sequence-returns t)
-    (put-sequence-want-requires t)
-    (put-sequence-sub-put-stop t)
-    (put-sequence-put-stop-requires-2 t)
-    (put-sequence-same-length-2 t)
+    (λ c κs. search needs)
+    (λ c. search needs)
+    (λ c κs. search needs)
+    (λ c. search needs)
     (put-sequence-returns-2 t)
-    (put-sequence-sub-put-commands t)
+    (λ c. search needs)
     (put-sequence-put-commands-requires t)
-    (put-sequence-same-length-3 t)
+    (λ c. search needs)
     (put-sequence-returns-3 t)
