@@ -1,16 +1,14 @@
 -- Items by their heads.
 use Prim.Native.Nat.{ℕ, _+_, _≤_, _<_}
-use mathlib.Core.Path.{_≡_, refl, sym, _∙_}
+use mathlib.Core.Path.{_≡_}
 use mathlib.Core.Logic.{_⊎_}
-use lib.Dec.{ltb}
 use lib.ListN.{length}
 use borrow.Author.Tests.{lt-ltb, le-ltb, le-leb, lt-leb, eq-eqb, ne-eqb}
 use native.Mathlib.Omega.{arith}
 use Rattle.rules.specs.Bytes.{Bytes}
-use Rattle.rules.specs.Got.{Got, refused, got}
+use Rattle.rules.specs.Got.{Got}
 use Rattle.rules.specs.Cbor.{Head, head, BYTES, TEXT, after}
 use Rattle.rules.proofs.CborLaws.{after-string, after-other}
-use Rattle.show.specs.declared.items.Item.{Item}
 use Rattle.show.specs.Items.{nothing, held, seen, itemAt, itemOf}
 
 held-past : (e : ℕ) (h : Head) → e < after h → held e h ≡ nothing e

@@ -24,9 +24,6 @@ pub map-all : (f : ℕ → ℕ) (s : Bytes) (i : ℕ) {at : ℕ} {room : Bytes} 
     Wrote (map f s) at room p room₁
 map-all f s i h w = rw (take-all i s h) at w
 
-pub shows-length : {x : Shown} {to : ℕ} {room : Bytes} {r : Put} {room′ : Bytes} → Shows x to room r room′ → length room′ ≡ length room
-shows-length h = wrote-length (h .wrote)
-
 -- what was written so far, and x, which is left, make the whole
 pub record Rest (whole : Shown) (to : ℕ) (room : Bytes) (x : Shown) (end : ℕ) (room′ : Bytes) : Type 0 where
   pub done : Bytes

@@ -1,12 +1,13 @@
 -- Walks, one step of each.
 use Prim.Native.Nat.{ℕ, zero, suc, _-_, _/_, _≤_, _<_}
-use mathlib.Core.Path.{_≡_, refl, sym, ap, _∙_}
+use mathlib.Core.Path.{_≡_, refl}
 use mathlib.Core.List.{_++_}
 use mathlib.Core.Logic.{_⊎_, inl, inr}
 use borrow.Author.Tests.{le-leb, lt-leb, eq-eqb, ne-eqb}
 use native.Mathlib.Omega.{arith}
 use Rattle.rules.specs.Bytes.{Bytes}
 use Rattle.rules.specs.Cbor.{NUMBER, BYTES, ARRAY, MAP}
+use Rattle.cbor.proofs.ReadingLaws.{above}
 use Rattle.show.specs.declared.items.Item.{Item}
 use Rattle.show.specs.declared.walk.Put.{Put}
 use Rattle.show.specs.Items.{itemAt, itemOf}
@@ -19,10 +20,6 @@ not-none k h = omega arith
 
 not-some : 0 < 0 → ⊥
 not-some h = omega arith
-
-above : (n : ℕ) → (n ≡ 0 → ⊥) → n ≡ suc (n - 1)
-above zero h = absurd (h refl)
-above (suc n) h = omega arith
 
 below : (n : ℕ) → suc n - 1 ≡ n
 below n = omega arith

@@ -1,5 +1,5 @@
--- What is shown of commands and sequences. A walk over bytes that check accepts shows each command; over others it stops at the first
--- item that is not there or is of no kind that may stand there.
+-- What is shown of the commands and sequences of any bytes. Where a code, a key, a string or a sequence is not there, a mark stands for it,
+-- and the walk goes on after its container.
 use Prim.Native.Nat.{ℕ, zero, suc, _-_, _/_}
 use mathlib.Core.Path.{_≡_}
 use mathlib.Core.Bool.{cond}
@@ -7,7 +7,7 @@ use mathlib.Core.List.{[], _++_}
 use lib.Dec.{eqb, leb}
 use Rattle.rules.specs.Bytes.{Bytes}
 use Rattle.rules.specs.Cbor.{NUMBER, BYTES, ARRAY, MAP}
-use Rattle.text.specs.Text.{Wrote, ascii}
+use Rattle.text.specs.Text.{Wrote}
 use Rattle.show.specs.declared.walk.Put.{Put}
 use Rattle.show.specs.Items.{itemAt, itemOf}
 use Rattle.show.specs.Pieces.{newline, mark, titleText, argumentText, alternativeText, parameterText, marginText}
@@ -31,7 +31,7 @@ pub record Shows (x : Shown) (to : ℕ) (room : Bytes) (r : Put) (room′ : Byte
   pub next : r .next ≡ x .1
   pub wrote : Wrote (x .0) to room (r .to) room′
 
--- no sequence stands there: the walk goes on after the container that ends at e
+-- for a sequence that is not there
 unfoldable pub stopped : ℕ → ℕ → Shown
 stopped depth e = (marginText 8 depth ++ mark ++ newline, e)
 

@@ -7,6 +7,7 @@ use envelope::report::Report;
 use pieces::NEWLINE;
 use pieces::put_code;
 use pieces::put_string;
+use rules::controller::Controller;
 use text::put;
 use text::put_byte;
 use text::put_decimal;
@@ -15,9 +16,6 @@ use walk::put_sequence;
 mod items;
 mod pieces;
 mod walk;
-
-// The sequences of a section may be so deep.
-const DEPTH: usize = 4;
 
 // Component `k`, whose identifier stands from `from` to `end`.
 fn put_component(room: &mut [u8], at: usize, s: &[u8], k: usize, from: usize, end: usize) -> usize
@@ -46,12 +44,12 @@ fn put_components(room: &mut [u8], at: usize, s: &[u8], n: usize, ids: &[usize; 
     to
 }
 
-// A report has places for 8.
+// How many of them a report has places for.
 fn listed(components: usize) -> usize
     ensures { λ r. ⌜ (r ≤ 8) × (r ≡ least components 8) ⌝ }
 {
-    if 8 < components {
-        return 8;
+    if Controller::COMPONENTS < components {
+        return Controller::COMPONENTS;
     }
     components
 }
@@ -66,7 +64,7 @@ fn put_section(room: &mut [u8], at: usize, s: &[u8], key: usize, from: usize, en
     let a = wording::put_section(room, at, key);
     let b = put_code(room, a, key);
     let c = put_byte(room, b, NEWLINE);
-    let r = put_sequence(room, c, s, DEPTH, end, from);
+    let r = put_sequence(room, c, s, Controller::DEPTH, end, from);
     r.to
 }
 

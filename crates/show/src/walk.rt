@@ -1,6 +1,5 @@
-// Commands and sequences. A walk over bytes that check accepts shows each command; over others it stops at the first item that is not there
-// or is of no kind that may stand there.
-ghost use Prim.Native.Nat.{_-_, _*_, _≤_};
+// Commands and sequences of any bytes. Where a code, a key, a string or a sequence is not there, a mark stands for it, and the walk goes on
+// after its container.
 ghost use Rattle.show.specs.Shown.{Shows, stopped, parametersShown, nestedShown, alternativesShown, commandShown, commandsShown, sequenceShown};
 use crate::items::look;
 use crate::items::want;
@@ -21,7 +20,7 @@ pub struct Put {
     pub to: usize,
 }
 
-// No sequence stands there: the walk goes on after the container that ends at `e`.
+// For a sequence that is not there.
 fn put_stop(room: &mut [u8], to: usize, depth: usize, e: usize) -> Put
     ensures { λ r. ⌜ Shows (stopped depth e) to (now (room .entry)) r (now (room .exit)) ⌝ }
 {

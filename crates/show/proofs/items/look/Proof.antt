@@ -1,10 +1,7 @@
-use mathlib.Core.Path.{_≡_, sym, _∙_, ap}
-use native.Mathlib.Omega.{arith}
+use mathlib.Core.Path.{sym, _∙_, ap}
 use borrow.Author.Needs.{needs}
-use Rattle.rules.specs.Got.{got}
-use Rattle.rules.specs.Cbor.{head}
 use Rattle.rules.proofs.CheckLaws.{head-bounds}
-use Rattle.cbor.specs.Answer.{headOf, headMeans}
+use Rattle.cbor.specs.Answer.{headMeans}
 use Rattle.show.specs.Items.{seen}
 use Rattle.show.proofs.ItemLaws.{item-outside, item-read}
 use Rattle.show.proofs.items.look.Statement.{statement}

@@ -1,4 +1,4 @@
-use mathlib.Core.Path.{_≡_, sym, _∙_, ap}
+use mathlib.Core.Path.{sym, _∙_, ap}
 use borrow.Author.Needs.{needs}
 use Rattle.show.specs.declared.items.Item.{Item}
 use Rattle.show.proofs.ItemLaws.{item-wanted, item-unwanted}

@@ -1,5 +1,4 @@
 use borrow.Author.Tests.{lt-ltb, le-ltb}
-use borrow.Author.Needs.{needs}
 use Rattle.show.proofs.pieces.printable.Statement.{statement}
 use Rattle.show.proofs.pieces.printable.Tie as tie
 

@@ -1,4 +1,3 @@
-use mathlib.Core.Path.{_≡_, ap}
 use mathlib.Core.Logic.{inl, inr}
 use Rattle.show.specs.Shown.{parametersShown}
 use Rattle.show.proofs.ShownLaws.{Rest, rest-start, rest-length, rest-text, rest-done}
