@@ -1,7 +1,7 @@
 -- What is shown one after the other.
 use Prim.Native.Nat.{ℕ, _+_, _≤_, _<_}
 use mathlib.Core.Path.{_≡_, refl, sym, ap, _∙_}
-use mathlib.Core.List.{[], _∷_, _++_, map, append-assoc, append-nil}
+use mathlib.Core.List.{[], _∷_, _++_, map, map-append, append-assoc, append-nil}
 use native.Mathlib.Numerals.{add-one}
 use lib.ListN.{length, take, getD}
 use lib.Seq.{take-suc, take-all}
@@ -9,10 +9,6 @@ use Rattle.text.specs.Text.{Bytes, Wrote}
 use Rattle.text.proofs.TextLaws.{wrote-none, wrote-then, wrote-length}
 use Rattle.show.specs.declared.walk.Put.{Put}
 use Rattle.show.specs.Shown.{Shown, none, behind, andThen, Shows}
-
-map-append : (f : ℕ → ℕ) (a b : Bytes) → map f (a ++ b) ≡ map f a ++ map f b
-map-append f [] b = refl
-map-append f (x ∷ a) b = ap (λ (l : Bytes). f x ∷ l) (map-append f a b)
 
 -- one byte more of s, each as f gives it
 pub map-next : (f : ℕ → ℕ) (s : Bytes) (i : ℕ) {at : ℕ} {room : Bytes} {p : ℕ} {room₁ : Bytes} {q : ℕ} {room₂ : Bytes} → i < length s →
