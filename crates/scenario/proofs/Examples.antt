@@ -6,7 +6,7 @@ use mathlib.Core.Bool.{true, false}
 use lib.ListN.{replicate}
 use Rattle.rules.specs.Bytes.{Bytes}
 use Rattle.text.specs.Text.{ascii}
-use Rattle.scenario.specs.Words.{until, lines, trim, word, rest, oneMore, numberFrom, number, digit, allDigits, unhex, bytes, isBytes, upToBytes}
+use Rattle.words.specs.Words.{until, lines, trim, word, rest, oneMore, numberFrom, number, digit, allDigits, unhex, bytes, isBytes, upToBytes}
 use Rattle.scenario.specs.Scenario.{isImage, image, isState, isSlot, identifier, slot, status, isAnswer, answer, start, verdictLine, vendorLine, classLine, numberLine, eventLine, setting, Said, slotLine, answerLine, line, linesFrom, described}
 
 -- lines, each with its end

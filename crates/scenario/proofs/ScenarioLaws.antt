@@ -13,7 +13,7 @@ use Rattle.rules.specs.Bytes.{Bytes, be4, same, put}
 use Rattle.rules.specs.Slots.{slotBytes, answerBytes}
 use Rattle.text.specs.Text.{ascii}
 use Rattle.text.proofs.TextLaws.{sets-append}
-use Rattle.scenario.specs.Words.{lines, trim, word, rest, number, isNumber, unhex, bytes, isBytes, upToBytes}
+use Rattle.words.specs.Words.{lines, trim, word, rest, number, isNumber, unhex, bytes, isBytes, upToBytes}
 use Rattle.scenario.specs.Scenario.{zeros, isImage, image, isState, isSlot, identifier, slot, isAnswer, answer, status, passed, says, withSlots, withAnswers, refusedAt, verdictLine, vendorLine, classLine, numberLine, eventLine, setting, Said, slotLine, answerLine, line, _then_, start, linesFrom, described, Describes, Took}
 use Rattle.scenario.specs.declared.Scenario.{Scenario}
 

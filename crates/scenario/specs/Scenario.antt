@@ -8,7 +8,7 @@ use lib.ListN.{length, replicate}
 use Rattle.rules.specs.Bytes.{Bytes, be4, same, put}
 use Rattle.rules.specs.Slots.{slotBytes, answerBytes}
 use Rattle.text.specs.Text.{ascii}
-use Rattle.scenario.specs.Words.{lines, trim, word, rest, none, number, isNumber, bytes, isBytes, upToBytes}
+use Rattle.words.specs.Words.{lines, trim, word, rest, none, number, isNumber, bytes, isBytes, upToBytes}
 use Rattle.scenario.specs.declared.Scenario.{Scenario}
 
 abbrev pub zeros : ℕ → Bytes

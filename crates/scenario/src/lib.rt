@@ -5,27 +5,24 @@ ghost use lib.Dec.{leb};
 ghost use lib.ListN.{length};
 ghost use Rattle.rules.specs.Bytes.{put};
 ghost use Rattle.scenario.specs.Scenario as Rule;
-use crate::line::line_at;
-use crate::line::next_line;
 use crate::put::put_answer;
 use crate::put::put_slot;
 use crate::put::sixteen;
-use crate::read::NONE;
-use crate::read::decimal;
-use crate::read::is_bytes;
 use crate::shape::is_answer;
 use crate::shape::is_slot;
-use crate::words::is;
-use crate::words::rest;
-use crate::words::word;
 use slots::image::IMAGE_BYTES;
 use slots::slot::SLOT_BYTES;
+use words::is;
+use words::line::line_at;
+use words::line::next_line;
+use words::read::NONE;
+use words::read::decimal;
+use words::read::is_bytes;
+use words::rest;
+use words::word;
 
-mod line;
 mod put;
-mod read;
 mod shape;
-mod words;
 
 // '#'.
 const COMMENT: u8 = 35;

@@ -5,15 +5,15 @@ ghost use lib.ListN.{replicate};
 ghost use Rattle.rules.specs.Bytes.{be4};
 ghost use Rattle.rules.specs.Bytes.{put as Bytes·put};
 ghost use Rattle.text.specs.Text.{Wrote};
-ghost use Rattle.scenario.specs.Words as Words;
+ghost use Rattle.words.specs.Words as Words;
 ghost use Rattle.scenario.specs.Scenario as Rule;
-use crate::read::decimal;
-use crate::read::digit;
 use crate::shape::status;
-use crate::words::is;
-use crate::words::rest;
-use crate::words::word;
 use text::put_byte;
+use words::is;
+use words::read::decimal;
+use words::read::digit;
+use words::rest;
+use words::word;
 
 fn low(n: usize) -> u8
     ensures { λ r. ⌜ r ≡ n % 256 ⌝ }

@@ -1,13 +1,13 @@
 // Whether what stands in a line is a slot, or an answer.
 ghost use mathlib.Core.Path.{_≡_};
 ghost use Rattle.scenario.specs.Scenario as Rule;
-use crate::read::NONE;
-use crate::read::decimal;
-use crate::read::is_bytes;
-use crate::read::up_to_bytes;
-use crate::words::is;
-use crate::words::rest;
-use crate::words::word;
+use words::is;
+use words::read::NONE;
+use words::read::decimal;
+use words::read::is_bytes;
+use words::read::up_to_bytes;
+use words::rest;
+use words::word;
 
 // The length of a digest, and the largest of an identifier.
 const BYTES: usize = 32;

@@ -5,9 +5,9 @@ use native.Mathlib.Omega.{arith}
 use native.Mathlib.Numerals.{add-one}
 use borrow.Author.Needs.{needs}
 use lib.ListN.{length, drop}
-use Rattle.scenario.specs.Words as Words
+use Rattle.words.specs.Words as Words
 use Rattle.scenario.specs.Scenario as Rule
-use Rattle.scenario.proofs.WordLaws.{lines-next, lines-end}
+use Rattle.words.proofs.WordLaws.{lines-next, lines-end}
 use Rattle.scenario.proofs.ScenarioLaws.{Left, left-next, left-stop, left-end, left-start, took-slots, took-answers}
 use Rattle.scenario.proofs.describe.Statement.{statement}
 use Rattle.scenario.proofs.describe.Tie as tie

@@ -1,6 +1,6 @@
 use borrow.Author.Needs.{needs}
 use borrow.Author.Tests.{lt-ltb, le-ltb}
-use Rattle.scenario.specs.Words as Words
+use Rattle.words.specs.Words as Words
 use Rattle.scenario.specs.Scenario as Rule
 use Rattle.scenario.proofs.number_line.Statement.{statement}
 use Rattle.scenario.proofs.number_line.Tie as tie

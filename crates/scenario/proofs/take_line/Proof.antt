@@ -4,7 +4,7 @@ use borrow.Author.Needs.{needs}
 use lib.ListN.{length}
 use Rattle.rules.specs.Bytes.{same}
 use Rattle.text.specs.Text.{ascii}
-use Rattle.scenario.specs.Words as Words
+use Rattle.words.specs.Words as Words
 use Rattle.scenario.specs.Scenario as Rule
 use Rattle.scenario.proofs.ScenarioLaws.{slot-alone, answer-alone}
 use Rattle.scenario.proofs.take_line.Statement.{statement}

@@ -1,7 +1,7 @@
 use mathlib.Core.Path.{_≡_, sym, _∙_}
 use mathlib.Core.Bool.{true, false}
 use borrow.Author.Needs.{needs}
-use Rattle.scenario.specs.Words as Words
+use Rattle.words.specs.Words as Words
 use Rattle.scenario.specs.Scenario as Rule
 use Rattle.scenario.proofs.ScenarioLaws.{sixteen-all}
 use Rattle.scenario.proofs.vendor_line.Statement.{statement}

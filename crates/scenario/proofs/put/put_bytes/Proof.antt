@@ -6,8 +6,8 @@ use borrow.Author.Needs.{needs}
 use lib.ListN.{length}
 use Rattle.text.specs.Text.{Wrote}
 use Rattle.text.proofs.TextLaws.{wrote-none, wrote-then, wrote-length}
-use Rattle.scenario.specs.Words as Words
-use Rattle.scenario.proofs.WordLaws.{unhex-next}
+use Rattle.words.specs.Words as Words
+use Rattle.words.proofs.WordLaws.{unhex-next}
 use Rattle.scenario.proofs.put.put_bytes.Statement.{statement}
 use Rattle.scenario.proofs.put.put_bytes.Tie as tie
 

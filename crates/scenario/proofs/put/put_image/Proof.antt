@@ -3,7 +3,7 @@ use borrow.Author.Needs.{needs}
 use borrow.Author.Tests.{eq-eqb, ne-eqb}
 use lib.ListN.{length}
 use Rattle.text.proofs.TextLaws.{wrote-then}
-use Rattle.scenario.specs.Words as Words
+use Rattle.words.specs.Words as Words
 use Rattle.scenario.specs.Scenario as Rule
 use Rattle.scenario.proofs.put.put_image.Statement.{statement}
 use Rattle.scenario.proofs.put.put_image.Tie as tie

@@ -1,7 +1,7 @@
 use mathlib.Core.Path.{ap, _∙_}
 use borrow.Author.Needs.{needs}
 use borrow.Author.Tests.{lt-ltb, le-ltb}
-use Rattle.scenario.specs.Words as Words
+use Rattle.words.specs.Words as Words
 use Rattle.scenario.specs.Scenario as Rule
 use Rattle.scenario.proofs.shape.is_image.Statement.{statement}
 use Rattle.scenario.proofs.shape.is_image.Tie as tie
