@@ -4,7 +4,7 @@ ghost use mathlib.Core.List.{[], _∷_};
 ghost use Prim.Native.Nat.{_≤_};
 ghost use lib.ListN.{length};
 ghost use Rattle.text.specs.Text.{Wrote, hex};
-ghost use Rattle.pieces.specs.Pieces.{part, spaced, labelled};
+ghost use Rattle.pieces.specs.Pieces.{part, spaced, labelled, counted};
 use text::put;
 use text::put_byte;
 use text::put_decimal;
@@ -76,4 +76,15 @@ pub fn put_labelled(room: &mut [u8], at: usize, label: &[u8], n: usize) -> usize
 {
     let to = put(room, at, label);
     put_decimal(room, to, n)
+}
+
+pub fn put_counted(room: &mut [u8], at: usize, label: &[u8], n: usize, thing: &[u8]) -> usize
+    ensures { λ r. ⌜ Wrote (counted (now (label .entry)) n (now (thing .entry))) at (now (room .entry)) r (now (room .exit)) ⌝ }
+{
+    let a = put_labelled(room, at, label, n);
+    let b = put(room, a, thing);
+    if n == 1 {
+        return b;
+    }
+    put_byte(room, b, b's')
 }

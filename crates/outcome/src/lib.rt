@@ -1,0 +1,121 @@
+// What a run did, as text in lent room.
+ghost use mathlib.Core.Path.{_≡_};
+ghost use Prim.Native.Nat.{_+_, _*_, _≤_};
+ghost use lib.ListN.{length};
+ghost use Rattle.text.specs.Text.{Wrote, least};
+ghost use Rattle.outcome.specs.Outcome.{endText, ranText, nameText, presentText, imageText, slotText, slotsText, runText};
+use abi::RunAnswer;
+use events::put_events;
+use numbers::four;
+use numbers::wide;
+use pieces::put_counted;
+use pieces::put_labelled;
+use pieces::put_part;
+use refusals::put_refused;
+use text::put;
+
+const SLOT: usize = 74;
+
+fn put_end(room: &mut [u8], at: usize, end: usize) -> usize
+    ensures { λ r. ⌜ Wrote (endText end) at (now (room .entry)) r (now (room .exit)) ⌝ }
+{
+    let a = put_labelled(room, at, b"end ", end);
+    let b = put(room, a, b" (");
+    let c = wording::put_end(room, b, end);
+    put(room, c, b")")
+}
+
+// The end of a run that was not refused.
+pub fn put_ran(room: &mut [u8], at: usize, answer: RunAnswer) -> usize
+    ensures { λ r. ⌜ Wrote (ranText answer) at (now (room .entry)) r (now (room .exit)) ⌝ }
+{
+    let a = put_end(room, at, answer.end);
+    let b = put_labelled(room, a, b" at ", answer.place);
+    let c = put_counted(room, b, b", ", answer.events, b" event");
+    let d = put_counted(room, c, b", ", answer.used, b" answer");
+    let e = put_labelled(room, d, b" used, number ", answer.number);
+    put(room, e, b"\n")
+}
+
+// At most 32.
+fn capped(n: usize) -> usize
+    ensures { λ r. ⌜ r ≡ least n 32 ⌝ }
+{
+    if n < 32 {
+        return n;
+    }
+    32
+}
+
+fn put_name(room: &mut [u8], at: usize, slots: &[u8], p: usize) -> usize
+    requires { ⌜ p + 74 ≤ length (now slots) ⌝ }
+    ensures { λ r. ⌜ Wrote (nameText (now (slots .entry)) p) at (now (room .entry)) r (now (room .exit)) ⌝ }
+{
+    let n = capped(wide(slots[p]));
+    let a = put(room, at, b"  ");
+    put_part(room, a, slots, p + 1, p + 1 + n)
+}
+
+fn put_present(room: &mut [u8], at: usize, present: u8) -> usize
+    ensures { λ r. ⌜ Wrote (presentText present) at (now (room .entry)) r (now (room .exit)) ⌝ }
+{
+    if present == 0 {
+        return put(room, at, b"  absent ");
+    }
+    put(room, at, b"  present")
+}
+
+fn put_image(room: &mut [u8], at: usize, slots: &[u8], p: usize) -> usize
+    requires { ⌜ p + 74 ≤ length (now slots) ⌝ }
+    ensures { λ r. ⌜ Wrote (imageText (now (slots .entry)) p) at (now (room .entry)) r (now (room .exit)) ⌝ }
+{
+    let a = put_present(room, at, slots[p + 37]);
+    let b = put_labelled(room, a, b"  size ", four(slots, p + 38));
+    let c = put(room, b, b"  digest ");
+    put_part(room, c, slots, p + 42, p + 74)
+}
+
+fn put_slot(room: &mut [u8], at: usize, slots: &[u8], k: usize) -> usize
+    requires { ⌜ 74 * k + 74 ≤ length (now slots) ⌝ }
+    ensures { λ r. ⌜ Wrote (slotText (now (slots .entry)) k) at (now (room .entry)) r (now (room .exit)) ⌝ }
+{
+    let p = SLOT * k;
+    let a = put_labelled(room, at, b"slot ", k);
+    let b = put_name(room, a, slots, p);
+    let c = put_labelled(room, b, b"  capacity ", four(slots, p + 33));
+    let d = put_image(room, c, slots, p);
+    put(room, d, b"\n")
+}
+
+// The slots, as many as are whole.
+pub fn put_slots(room: &mut [u8], at: usize, slots: &[u8]) -> usize
+    ensures { λ r. ⌜ Wrote (slotsText (now (slots .entry))) at (now (room .entry)) r (now (room .exit)) ⌝ }
+{
+    let n = slots.len() / SLOT;
+    let mut to = at;
+    let mut k = 0;
+    while k < n {
+        to = put_slot(room, to, slots, k);
+        k += 1;
+    }
+    to
+}
+
+// What a run of s answered: a refusal, or the events, the end and the slots.
+pub fn put_run(
+    room: &mut [u8],
+    at: usize,
+    answer: RunAnswer,
+    s: &[u8],
+    trace: &[u8],
+    slots: &[u8],
+) -> usize
+    ensures { λ r. ⌜ Wrote (runText answer (now (s .entry)) (now (trace .entry)) (now (slots .entry))) at (now (room .entry)) r (now (room .exit)) ⌝ }
+{
+    if answer.refusal == 0 {
+        let a = put_events(room, at, trace, answer.events);
+        let b = put_ran(room, a, answer);
+        return put_slots(room, b, slots);
+    }
+    put_refused(room, at, answer.refusal, answer.place, s)
+}
