@@ -4,7 +4,7 @@ use mathlib.Core.Path.{_≡_, refl, sym, ap, _∙_}
 use mathlib.Core.List.{List, [], _∷_, _++_, append-nil}
 use mathlib.Core.Bool.{Bool, true, false, cond}
 use lib.Dec.{eqb, ltb, leb}
-use borrow.Author.Tests.{eq-eqb, ne-eqb, eqb-true, ltb-false}
+use borrow.Author.Tests.{eq-eqb, ne-eqb, eqb-true, ltb-false, leb-true}
 use native.Mathlib.Omega.{arith}
 use native.Mathlib.Numerals.{add-one}
 use lib.ListN.{length, getD, replicate, length-append, length-replicate}
@@ -167,58 +167,69 @@ module _ (n : ℕ) (d : Scenario) where
       (either (same w (ascii "number")) _ _ (keep-number t)
       (either (same w (ascii "event")) _ _ (keep-event t) refl))))
 
--- the counts after a line are those before it and what it adds
-record Counted (d : Scenario) (x : Said) : Type 0 where
+-- the counts after a line are those before it and what it adds, and within rooms of m and k bytes if they were
+record Counted (m k : ℕ) (d : Scenario) (x : Said) : Type 0 where
   pub slots : x .scenario .slots ≡ d .slots + length (x .slots)
   pub answers : x .scenario .answers ≡ d .answers + length (x .answers)
+  pub slotsFit : d .slots ≤ m → x .scenario .slots ≤ m
+  pub answersFit : d .answers ≤ k → x .scenario .answers ≤ k
 
-one-of : {d : Scenario} (b : Bool) (x y : Said) → (b ≡ true → Counted d x) → (b ≡ false → Counted d y) → Counted d (cond b x y)
-one-of true x y p q = p refl
-one-of false x y p q = q refl
+module _ (m k : ℕ) where
+  one-of : {d : Scenario} (b : Bool) (x y : Said) → (b ≡ true → Counted m k d x) → (b ≡ false → Counted m k d y) → Counted m k d (cond b x y)
+  one-of true x y p q = p refl
+  one-of false x y p q = q refl
 
-after-line : (d : Scenario) (x y : Said) → Counted d x → Counted (x .scenario) y → Counted d (x then y)
-after-line d x y p q =
-    record {
-      slots = rw (length-append (x .slots) (y .slots)) (omega (arith, p .slots, q .slots));
-      answers = rw (length-append (x .answers) (y .answers)) (omega (arith, p .answers, q .answers));
-    }
+  after-line : (d : Scenario) (x y : Said) → Counted m k d x → Counted m k (x .scenario) y → Counted m k d (x then y)
+  after-line d x y p q =
+      record {
+        slots = rw (length-append (x .slots) (y .slots)) (omega (arith, p .slots, q .slots));
+        answers = rw (length-append (x .answers) (y .answers)) (omega (arith, p .answers, q .answers));
+        slotsFit = λ h. q .slotsFit (p .slotsFit h);
+        answersFit = λ h. q .answersFit (p .answersFit h);
+      }
 
-counted-same : (d e : Scenario) → counts e ≡ counts d → Counted d (says e)
-unfolding counts
-counted-same d e h =
-    let s : e .slots ≡ d .slots = ap (λ (p : ℕ × ℕ). p .0) h in
-    let a : e .answers ≡ d .answers = ap (λ (p : ℕ × ℕ). p .1) h in
-    record { slots = omega arith; answers = omega arith }
+  counted-same : (d e : Scenario) → counts e ≡ counts d → Counted m k d (says e)
+  unfolding counts
+  counted-same d e h =
+      let s : e .slots ≡ d .slots = ap (λ (p : ℕ × ℕ). p .0) h in
+      let a : e .answers ≡ d .answers = ap (λ (p : ℕ × ℕ). p .1) h in
+      record { slots = omega arith; answers = omega arith; slotsFit = λ f. omega arith; answersFit = λ f. omega arith }
 
-counted-slot : (m n : ℕ) (d : Scenario) (t : Bytes) → Counted d (slotLine m n d t)
-unfolding slotLine counts
-counted-slot m n d t =
-    one-of (isSlot t) _ _
-    (λ p.
-    one-of (leb (d .slots + slotBytes) m) _ _
-    (λ q. let l : length (slot t) ≡ 74 = slot-length t p in record { slots = omega arith; answers = omega arith })
-    (λ q. counted-same d (refusedAt n d) refl))
-    (λ p. counted-same d (refusedAt n d) refl)
+  counted-slot : (n : ℕ) (d : Scenario) (t : Bytes) → Counted m k d (slotLine m n d t)
+  unfolding slotLine counts
+  counted-slot n d t =
+      one-of (isSlot t) _ _
+      (λ p.
+      one-of (leb (d .slots + slotBytes) m) _ _
+      (λ q.
+      let l : length (slot t) ≡ 74 = slot-length t p in
+      let f : d .slots + 74 ≤ m = leb-true (d .slots + 74) m q in
+      record { slots = omega arith; answers = omega arith; slotsFit = λ h. f; answersFit = λ h. h })
+      (λ q. counted-same d (refusedAt n d) refl))
+      (λ p. counted-same d (refusedAt n d) refl)
 
-counted-answer : (m n : ℕ) (d : Scenario) (t : Bytes) → Counted d (answerLine m n d t)
-unfolding answerLine counts
-counted-answer m n d t =
-    one-of (isAnswer t) _ _
-    (λ p.
-    one-of (leb (d .answers + answerBytes) m) _ _
-    (λ q. let l : length (answer t) ≡ 37 = answer-length t p in record { slots = omega arith; answers = omega arith })
-    (λ q. counted-same d (refusedAt n d) refl))
-    (λ p. counted-same d (refusedAt n d) refl)
+  counted-answer : (n : ℕ) (d : Scenario) (t : Bytes) → Counted m k d (answerLine k n d t)
+  unfolding answerLine counts
+  counted-answer n d t =
+      one-of (isAnswer t) _ _
+      (λ p.
+      one-of (leb (d .answers + answerBytes) k) _ _
+      (λ q.
+      let l : length (answer t) ≡ 37 = answer-length t p in
+      let f : d .answers + 37 ≤ k = leb-true (d .answers + 37) k q in
+      record { slots = omega arith; answers = omega arith; slotsFit = λ h. h; answersFit = λ h. f })
+      (λ q. counted-same d (refusedAt n d) refl))
+      (λ p. counted-same d (refusedAt n d) refl)
 
-counted : (m k n : ℕ) (d : Scenario) (l : Bytes) → Counted d (line m k n d l)
-unfolding line
-counted m k n d l =
-    one-of (passed l) _ _ (λ p. counted-same d d refl)
-    (λ p.
-    one-of (same (word l) (ascii "slot")) _ _ (λ q. counted-slot m n d (rest l))
-    (λ q.
-    one-of (same (word l) (ascii "answer")) _ _ (λ r. counted-answer k n d (rest l))
-    (λ r. counted-same d (setting n d (word l) (rest l)) (keep-setting n d (word l) (rest l)))))
+  counted : (n : ℕ) (d : Scenario) (l : Bytes) → Counted m k d (line m k n d l)
+  unfolding line
+  counted n d l =
+      one-of (passed l) _ _ (λ p. counted-same d d refl)
+      (λ p.
+      one-of (same (word l) (ascii "slot")) _ _ (λ q. counted-slot n d (rest l))
+      (λ q.
+      one-of (same (word l) (ascii "answer")) _ _ (λ r. counted-answer n d (rest l))
+      (λ r. counted-same d (setting n d (word l) (rest l)) (keep-setting n d (word l) (rest l)))))
 
 -- what is left of a text, read from what its lines said so far, is the whole
 pub record Left (whole : Said) (slots₀ answers₀ : Bytes) (x : Said) (d : Scenario) (slots answers : Bytes) : Type 0 where
@@ -273,16 +284,22 @@ took-slots {x} {d} {s} t = rw (t .slotsAre) (length-sets s (d .slots) (x .slots)
 pub took-answers : {x : Said} {d : Scenario} {s a : Bytes} {r : Scenario} {s₁ a₁ : Bytes} → Took x d s a r s₁ a₁ → length a₁ ≡ length a
 took-answers {x} {d} {s} {a} t = rw (t .answersAre) (length-sets a (d .answers) (x .answers))
 
--- the lengths in the answer are those of the slots and the answers
-lines-counted : (m k n : ℕ) (d : Scenario) (ls : List Bytes) → Counted d (linesFrom m k n d ls)
+-- the lengths in the answer are those of the slots and the answers, which lie in their rooms
+lines-counted : (m k n : ℕ) (d : Scenario) (ls : List Bytes) → Counted m k d (linesFrom m k n d ls)
 unfolding linesFrom counts
-lines-counted m k n d [] = counted-same d d refl
+lines-counted m k n d [] = counted-same m k d d refl
 lines-counted m k n d (l ∷ ls) =
     let x = line m k n d (trim l) in
-    one-of (eqb (x .scenario .refused) 0) _ _ (λ p. after-line d x _ (counted m k n d (trim l)) (lines-counted m k (suc n) (x .scenario) ls)) (λ p. counted m k n d (trim l))
+    one-of m k (eqb (x .scenario .refused) 0) _ _ (λ p. after-line m k d x _ (counted m k n d (trim l)) (lines-counted m k (suc n) (x .scenario) ls)) (λ p. counted m k n d (trim l))
 
 pub described-lengths : (m k : ℕ) (s : Bytes) → (described m k s .scenario .slots ≡ length (described m k s .slots)) × (described m k s .scenario .answers ≡ length (described m k s .answers))
 unfolding described start
 described-lengths m k s =
     let e = lines-counted m k 1 start (lines s) in
     (omega (arith, e .slots), omega (arith, e .answers))
+
+pub described-fits : (m k : ℕ) (s : Bytes) → (described m k s .scenario .slots ≤ m) × (described m k s .scenario .answers ≤ k)
+unfolding described start
+described-fits m k s =
+    let e = lines-counted m k 1 start (lines s) in
+    (e .slotsFit (omega arith), e .answersFit (omega arith))
