@@ -1,7 +1,7 @@
 // The command line of the depot tool: which job its words ask for.
 ghost use mathlib.Core.Path.{_≡_};
 ghost use Rattle.usage.specs.Usage.{named, jobOf, askedOf};
-use slots::bytes::same_parts;
+use words::is;
 
 pub enum Job {
     Check,
@@ -28,11 +28,7 @@ fn is_named(word: &[u8], count: usize, name: &[u8], wanted: usize) -> bool
     if count != wanted {
         return false;
     }
-    let n = word.len();
-    if n != name.len() {
-        return false;
-    }
-    same_parts(word, 0, name, 0, n)
+    is(word, name)
 }
 
 // The job, by the first word and how many words there are with the program's own name.
