@@ -9,9 +9,9 @@ use Rattle.rules.specs.Program.{idBytes}
 use Rattle.slots.specs.Slot.{namesAt}
 use Rattle.slots.proofs.SearchLaws.{leftAt, left-turn, left-end, left-all}
 use Rattle.identifiers.specs.Identifiers.{InBytes}
-use Rattle.writer.specs.Write.{Filled}
+use Rattle.record_writer.specs.Record.{Filled}
 use Rattle.rules.proofs.BytesLaws.{length-part}
-use Rattle.writer.proofs.FillLaws.{put-append}
+use Rattle.record_writer.proofs.FillLaws.{put-append}
 
 module _ (s : Bytes) (a : List ℕ) (n : ℕ) where
   abbrev pub named : Bytes

@@ -16,9 +16,10 @@ use Rattle.theorems.proofs.RoundTrip.{GoodProgram}
 use Rattle.theorems.proofs.FlatLaws.{well-formed, program-size, length-all}
 use Rattle.theorems.proofs.RunLaws.{length-seq}
 use Rattle.sizing.specs.declared.sizes.Size.{Size}
-use Rattle.writer.specs.declared.write.Pen.{Pen}
+use Rattle.record_writer.specs.declared.record.Pen.{Pen}
 use Rattle.sizing.specs.Size.{most, SequenceHere, SequenceSized}
-use Rattle.writer.specs.Write.{written, SequenceJob, Wrote}
+use Rattle.record_writer.specs.Record.{written, Wrote}
+use Rattle.writer.specs.Write.{SequenceJob}
 use Rattle.translator.specs.Sections.{SectionsHere, SectionsSized, startOf}
 use Rattle.accepted.proofs.SectionPlaces.{Wanted}
 use Rattle.translator.proofs.PlanLaws.{PlanAt, seqsOf, plan-start, plan-end, Skipped, skip, Taken, take}

@@ -26,11 +26,11 @@ use Rattle.accepted.proofs.AcceptedLaws.{known, envelope-short, inside, named}
 use Rattle.sizing.specs.declared.sizes.Size.{Size}
 use Rattle.translator.specs.declared.Translated.the-variants.{Refused, Program}
 use Rattle.sizing.specs.Size.{most}
-use Rattle.writer.specs.Write.{written, Filled}
+use Rattle.record_writer.specs.Record.{written, Filled}
 use Rattle.translator.specs.Sections.{SectionsHere, SectionsSized, SectionsJob}
 use Rattle.translator.specs.Translate.{Translates, startBytes}
 use Rattle.rules.proofs.BytesLaws.{length-part}
-use Rattle.writer.proofs.FillLaws.{put-append, filled-length}
+use Rattle.record_writer.proofs.FillLaws.{put-append, filled-length}
 
 id-short : (ids : List Bytes) (k : ℕ) → GoodIds ids → k < length ids → length (getD ids k []) ≤ limits .identifier
 id-short [] k g h = absurd (omega arith)

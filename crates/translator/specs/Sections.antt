@@ -12,7 +12,7 @@ use Rattle.rules.specs.Run.{planOf}
 use Rattle.rules.specs.ProgramSize.{sizeAll, argSizeAll}
 use Rattle.manifest.specs.Sections.{placed}
 use Rattle.sizing.specs.declared.sizes.Size.{Size}
-use Rattle.writer.specs.declared.write.Pen.{Pen}
+use Rattle.record_writer.specs.declared.record.Pen.{Pen}
 use Rattle.sizing.specs.Size.{most}
 
 -- the places of the sections of an accepted envelope

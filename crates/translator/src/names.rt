@@ -7,8 +7,8 @@ ghost use Rattle.rules.specs.Bytes.{Bytes, part, flat, spanAt};
 ghost use Rattle.rules.specs.Program.{idBytes};
 ghost use Rattle.slots.specs.Slot.{namesAt};
 ghost use Rattle.identifiers.specs.Identifiers.{InBytes};
-ghost use Rattle.writer.specs.Write.{Filled};
-use writer::bytes::copy;
+ghost use Rattle.record_writer.specs.Record.{Filled};
+use record_writer::bytes::copy;
 
 const NAME_BYTES: usize = 4;
 

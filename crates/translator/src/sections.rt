@@ -5,15 +5,16 @@ ghost use Rattle.rules.specs.Bytes.{put};
 ghost use Rattle.rules.specs.Program.{NONE, flatSeq, flatAll};
 ghost use Rattle.rules.specs.Run.{planOf};
 ghost use Rattle.sizing.specs.Size.{SequenceHere, SequenceSized};
-ghost use Rattle.writer.specs.Write.{written, SequenceJob, Wrote};
+ghost use Rattle.record_writer.specs.Record.{written, Wrote};
+ghost use Rattle.writer.specs.Write.{SequenceJob};
 ghost use Rattle.translator.specs.Sections.{SectionsHere, SectionsSized, SectionsJob, startOf};
 use accepted::sections::wanted;
+use record_writer::record::NO_TARGET;
+use record_writer::record::Pen;
 use rules::answers::Group;
 use rules::controller::Controller;
 use sizing::sizes::Size;
 use sizing::sizes::size_sequence;
-use writer::record::NO_TARGET;
-use writer::write::Pen;
 use writer::write::write_sequence;
 
 // The size of the sequence at `from`; nothing where it is not wanted.

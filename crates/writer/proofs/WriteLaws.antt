@@ -26,10 +26,11 @@ use Rattle.accepted.proofs.ArgumentLaws.{command-one}
 use Rattle.accepted.proofs.SequencePlaces.{CommandsAt, Start, start, Turn, turn, no-more}
 use Rattle.accepted.proofs.CommandPlaces.{Coded, coded, Sub, its-sequence, Tries, its-alternatives, listOf, Alternatives, alternatives-law}
 use Rattle.accepted.proofs.TryPlaces.{AltsAt, Choice, choice}
-use Rattle.writer.specs.declared.write.Pen.{Pen}
+use Rattle.record_writer.specs.declared.record.Pen.{Pen}
 use Rattle.sizing.specs.Size.{most, SequenceHere, CommandHere}
-use Rattle.writer.specs.Write.{written, SequenceJob, CommandJob, LeafJob, Wrote, CommandWrote, JumpWrote}
-use Rattle.writer.proofs.FillLaws.{put-append}
+use Rattle.record_writer.specs.Record.{written, LeafJob, Wrote, CommandWrote, JumpWrote}
+use Rattle.writer.specs.Write.{SequenceJob, CommandJob}
+use Rattle.record_writer.proofs.FillLaws.{put-append}
 
 pub written-append : (a b : List Rec) → written (a ++ b) ≡ written a ++ written b
 unfolding written

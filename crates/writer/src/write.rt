@@ -4,21 +4,14 @@ ghost use Prim.Native.Nat.{_+_, _≤_};
 ghost use Rattle.rules.specs.Program.{flatSeq};
 ghost use mathlib.Core.Bool.{false, _&&_, cond};
 ghost use Rattle.accepted.specs.Arguments.{isTrue};
-ghost use Rattle.writer.specs.Write.{SequenceJob, CommandJob, Wrote, CommandWrote};
-use crate::record::put_command;
-use crate::record::put_jump;
+ghost use Rattle.record_writer.specs.Record.{Wrote, CommandWrote};
+ghost use Rattle.writer.specs.Write.{SequenceJob, CommandJob};
 use accepted::heads::open;
+use record_writer::record::Pen;
+use record_writer::record::put_command;
+use record_writer::record::put_jump;
 use sizing::sizes::size_command;
 use sizing::sizes::size_sequence;
-
-// Where the next command is, the index and coerce of the sequence (1 false, 2 true), the number of the next record, and its place in the room.
-pub struct Pen {
-    pub next: usize,
-    pub index: usize,
-    pub coerce: usize,
-    pub n: usize,
-    pub to: usize,
-}
 
 // The target of a failed condition: `beyond` in a sequence that code 30 runs, where coerce is true.
 fn caught(own: bool, coerce: usize, beyond: usize, target: usize) -> usize

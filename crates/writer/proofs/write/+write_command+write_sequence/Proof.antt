@@ -16,8 +16,8 @@ use Rattle.writer.proofs.write.write_sequence.Reads as write-sequence
 use Rattle.writer.proofs.write.write_sequence.Kinds as write-sequence-kinds
 use Rattle.writer.proofs.write.+write_command+write_sequence.Lts-write_sequence as write-sequence-lts
 use Rattle.accepted.proofs.heads.open.Reads as open-reads
-use Rattle.writer.proofs.record.put_command.Reads as put-command-reads
-use Rattle.writer.proofs.record.put_jump.Reads as put-jump-reads
+use Rattle.record_writer.proofs.record.put_command.Reads as put-command-reads
+use Rattle.record_writer.proofs.record.put_jump.Reads as put-jump-reads
 use Rattle.sizing.proofs.sizes.size_command.Reads as size-command-reads
 use Rattle.sizing.proofs.sizes.size_sequence.Reads as size-sequence-reads
 use Rattle.writer.proofs.write.caught.Reads as caught-reads
