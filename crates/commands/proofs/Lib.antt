@@ -1,3 +1,2 @@
-pub mod CommandLaws
 pub mod PerformLaws
 pub mod LentLaws

@@ -11,7 +11,8 @@ use Rattle.rules.specs.Commands.{Op, vendor, class, run, code}
 use Rattle.rules.specs.Step.{Env, State, Out, out, withEvent, slotNo, paramsOf, acts, step}
 use Rattle.slots.specs.declared.params.Params.{Params}
 use Rattle.slots.specs.Params.{wordsAt, stored, meaning, overWords, paramsIn, FitAll}
-use Rattle.commands.specs.Machine.{Host, At, SourceAt, stateAt}
+use Rattle.actions.specs.Action.{At, SourceAt}
+use Rattle.commands.specs.Machine.{Host, stateAt}
 use Rattle.slots.proofs.ParamsLaws.{meaning-over, params-at, params-stored}
 
 module _ (s : Bytes) (env : Env) (vendor class answers : Bytes) (found words : List ℕ) (slots trace : Bytes) (i events used : ℕ) (h : Host env vendor class answers found slots) (l : i < length (env .ids)) where

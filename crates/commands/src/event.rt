@@ -5,7 +5,7 @@ ghost use mathlib.Core.List.{[], _∷_, _++_};
 ghost use lib.ListN.{length};
 ghost use Rattle.rules.specs.Answers.{endOf, resultNumber};
 ghost use Rattle.rules.specs.Bytes.{put, be2};
-ghost use Rattle.commands.specs.Machine.{Ends};
+ghost use Rattle.actions.specs.Action.{Ends};
 
 const EVENT_BYTES: usize = 8;
 

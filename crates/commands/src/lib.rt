@@ -1,6 +1,4 @@
 // What each command that writes an event does: its result, the slots and parameters that it changes, and its event. Nothing here knows
 // whether the command stands in an envelope or in a program.
-mod conditions;
 mod event;
-mod images;
 pub mod perform;

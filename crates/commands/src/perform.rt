@@ -6,25 +6,20 @@ ghost use Rattle.rules.specs.Bytes.{Bytes};
 ghost use Rattle.rules.specs.Step.{Env, acts, step};
 ghost use Rattle.slots.specs.Params.{Fit, FitAll};
 ghost use Rattle.commands.specs.Op.{opOf, IsCode};
-ghost use Rattle.commands.specs.Machine.{Ends, stateAt, outAt, Host, AllHold};
-use crate::conditions::equal_sixteen;
-use crate::conditions::matches;
-use crate::conditions::runs;
+ghost use Rattle.actions.specs.Action.{Ends, AllHold};
+ghost use Rattle.commands.specs.Machine.{stateAt, outAt, Host};
 use crate::event::put_event;
-use crate::images::copy;
-use crate::images::fetch;
-use crate::images::swap;
+use actions::Done;
+use actions::conditions::equal_sixteen;
+use actions::conditions::matches;
+use actions::conditions::runs;
+use actions::images::copy;
+use actions::images::fetch;
+use actions::images::swap;
 use slots::params::Params;
 use slots::params::load;
 use slots::params::over;
 use slots::params::store;
-
-// How far a run is: events written, answers used, and the number of the end of what was done last, 0 to go on.
-pub struct Done {
-    pub events: usize,
-    pub used: usize,
-    pub stop: usize,
-}
 
 fn ended(stop: usize, events: usize, used: usize) -> Done
     ensures { λ r. ⌜ r ≡ record { events = events; used = used; stop = stop } ⌝ }

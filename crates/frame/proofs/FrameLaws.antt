@@ -23,7 +23,8 @@ use Rattle.rules.proofs.GotLaws.{passed}
 use Rattle.slots.specs.Slot.{Holds, Found}
 use Rattle.slots.proofs.ParamsLaws.{params-start, fit-start}
 use Rattle.slots.proofs.SearchLaws.{good-some}
-use Rattle.commands.specs.Machine.{stateAt, AllHold, Lent}
+use Rattle.actions.specs.Action.{AllHold}
+use Rattle.commands.specs.Machine.{stateAt, Lent}
 use Rattle.frame.specs.declared.answer.Answer.the-variants as The
 use Rattle.frame.specs.declared.answer.Ending.{Ending}
 use Rattle.frame.specs.Answer.{stopOf, endingOf, Settles}

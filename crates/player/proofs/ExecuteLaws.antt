@@ -13,7 +13,7 @@ use Rattle.rules.specs.ProgramTest.{nonJumps}
 use Rattle.rules.specs.Step.{State, Out, out, step}
 use Rattle.slots.specs.declared.params.Params.{Params}
 use Rattle.slots.specs.Params.{FitAll}
-use Rattle.commands.specs.declared.perform.Done.{Done}
+use Rattle.actions.specs.declared.Done.{Done}
 use Rattle.commands.specs.Machine.{stateAt, outAt}
 use Rattle.commands.specs.Op.{opOf, IsCode}
 use Rattle.commands.proofs.LentLaws.{moves-step, lent-after}

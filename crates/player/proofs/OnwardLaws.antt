@@ -17,7 +17,7 @@ use Rattle.rules.specs.ProgramRun.{exec}
 use Rattle.rules.specs.ProgramTest.{nonJumps}
 use Rattle.rules.specs.Run.{on}
 use Rattle.rules.specs.Step.{Env, State, out, step}
-use Rattle.commands.specs.declared.perform.Done.{Done}
+use Rattle.actions.specs.declared.Done.{Done}
 use Rattle.player.specs.Walk.{AdvanceJob, Advanced}
 use Rattle.player.specs.Step.{failing, afterwards, OnwardJob, Onward}
 use Rattle.player.proofs.WalkLaws.{exec-past, fewer}

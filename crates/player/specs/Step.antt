@@ -20,7 +20,7 @@ use Rattle.rules.specs.Run.{next}
 use Rattle.rules.specs.Step.{Env, State, Out, out}
 use Rattle.slots.specs.declared.params.Params.{Params}
 use Rattle.slots.specs.Params.{Fit}
-use Rattle.commands.specs.declared.perform.Done.{Done}
+use Rattle.actions.specs.declared.Done.{Done}
 use Rattle.commands.specs.Machine.{stateAt, Lent}
 use Rattle.commands.specs.Op.{opOf}
 use Rattle.player.specs.declared.step.Walk.{Walk}

@@ -3,7 +3,7 @@ ghost use mathlib.Core.Path.{_≡_};
 ghost use Rattle.player.specs.Step.{ArgumentAt, GivenAs, valueOf, OnwardJob, Onward, ExecJob, Executed, StepJob, Stepped, startAt, Ran};
 use crate::walk::advance;
 use crate::walk::land;
-use commands::perform::Done;
+use actions::Done;
 use commands::perform::perform;
 use numbers::two;
 use numbers::wide;

@@ -14,7 +14,7 @@ use Rattle.rules.specs.Step.{Env, State, step}
 use Rattle.rules.specs.Run.{runSeq, runCmd}
 use Rattle.accepted.specs.declared.arguments.Args.{Args}
 use Rattle.runner.specs.declared.cycle.Run.{Run}
-use Rattle.commands.specs.declared.perform.Done.{Done}
+use Rattle.actions.specs.declared.Done.{Done}
 use Rattle.slots.specs.Params.{FitAll}
 use Rattle.commands.specs.Op.{opOf, IsCode}
 use Rattle.commands.specs.Machine.{stateAt, outAt}

@@ -4,8 +4,8 @@ use lib.ListN.{length}
 use lib.Seq.{take-all}
 use borrow.Author.Needs.{needs}
 use Rattle.rules.specs.Step.{passes}
-use Rattle.commands.proofs.conditions.equal_sixteen.Statement.{statement}
-use Rattle.commands.proofs.conditions.equal_sixteen.Tie as tie
+use Rattle.actions.proofs.conditions.equal_sixteen.Statement.{statement}
+use Rattle.actions.proofs.conditions.equal_sixteen.Tie as tie
 
 returns : tie.Need-returns
 unfolding passes

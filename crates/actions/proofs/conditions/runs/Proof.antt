@@ -1,8 +1,8 @@
 use borrow.Author.Needs.{needs}
 use Rattle.rules.specs.Step.{unless}
-use Rattle.commands.proofs.CommandLaws.{run-is}
-use Rattle.commands.proofs.conditions.runs.Statement.{statement}
-use Rattle.commands.proofs.conditions.runs.Tie as tie
+use Rattle.actions.proofs.ActionLaws.{run-is}
+use Rattle.actions.proofs.conditions.runs.Statement.{statement}
+use Rattle.actions.proofs.conditions.runs.Tie as tie
 
 returns : tie.Need-returns
 unfolding unless

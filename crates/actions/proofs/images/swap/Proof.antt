@@ -6,9 +6,9 @@ use borrow.Author.Needs.{needs}
 use borrow.Author.Tests.{le-leb, lt-leb}
 use Rattle.rules.specs.Step.{unless}
 use Rattle.rules.proofs.GotLaws.{holds, fails}
-use Rattle.commands.proofs.CommandLaws.{swap-unset, swap-set}
-use Rattle.commands.proofs.images.swap.Statement.{statement}
-use Rattle.commands.proofs.images.swap.Tie as tie
+use Rattle.actions.proofs.ActionLaws.{swap-unset, swap-set}
+use Rattle.actions.proofs.images.swap.Statement.{statement}
+use Rattle.actions.proofs.images.swap.Tie as tie
 
 returns : tie.Need-returns
 returns c = (search needs, λ s env i st a h. rw (swap-unset s _ env i st _ _ a (c .before .before .args .found .now) h (c .if1 .taken)))

@@ -8,7 +8,7 @@ ghost use Rattle.rules.specs.Commands.{run};
 ghost use Rattle.rules.specs.Step as Step;
 ghost use Rattle.slots.specs.Slot.{Holds};
 ghost use Rattle.slots.specs.Params.{meaning};
-ghost use Rattle.commands.specs.Machine.{Ends, At};
+ghost use Rattle.actions.specs.Action.{Ends, At};
 use slots::bytes::same_parts;
 use slots::params::Params;
 use slots::slot::DIGEST;

@@ -2,9 +2,9 @@ use borrow.Author.Needs.{needs}
 use borrow.Author.Tests.{eq-eqb, ne-eqb, not-true, not-false}
 use Rattle.rules.specs.Step.{passes}
 use Rattle.rules.proofs.GotLaws.{holds, fails}
-use Rattle.commands.proofs.CommandLaws.{match-unset, match-set}
-use Rattle.commands.proofs.conditions.matches.Statement.{statement}
-use Rattle.commands.proofs.conditions.matches.Tie as tie
+use Rattle.actions.proofs.ActionLaws.{match-unset, match-set}
+use Rattle.actions.proofs.conditions.matches.Statement.{statement}
+use Rattle.actions.proofs.conditions.matches.Tie as tie
 
 returns : tie.Need-returns
 returns c = (search needs, λ env i st a. rw (match-unset _ _ env i st _ _ a (c .if1 .taken)))

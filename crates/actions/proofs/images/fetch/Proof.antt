@@ -7,9 +7,9 @@ use borrow.Author.Tests.{eq-eqb, ne-eqb, le-leb, lt-leb}
 use Rattle.rules.specs.Bytes.{part, num}
 use Rattle.rules.specs.Step.{unless}
 use Rattle.rules.proofs.BytesLaws.{num-4}
-use Rattle.commands.proofs.CommandLaws.{fetch-unset, fetch-none, fetch-taken}
-use Rattle.commands.proofs.images.fetch.Statement.{statement}
-use Rattle.commands.proofs.images.fetch.Tie as tie
+use Rattle.actions.proofs.ActionLaws.{fetch-unset, fetch-none, fetch-taken}
+use Rattle.actions.proofs.images.fetch.Statement.{statement}
+use Rattle.actions.proofs.images.fetch.Tie as tie
 
 returns : tie.Need-returns
 returns c = (search needs, search needs, λ s env i st a x u. rw (fetch-unset s _ env i st _ _ a _ _ x u (c .if1 .taken)))

@@ -3,9 +3,9 @@ use borrow.Author.Needs.{needs}
 use borrow.Author.Tests.{le-leb, lt-leb}
 use Rattle.rules.specs.Step.{unless}
 use Rattle.rules.proofs.GotLaws.{holds, fails}
-use Rattle.commands.proofs.CommandLaws.{copy-unset, copy-set}
-use Rattle.commands.proofs.images.copy.Statement.{statement}
-use Rattle.commands.proofs.images.copy.Tie as tie
+use Rattle.actions.proofs.ActionLaws.{copy-unset, copy-set}
+use Rattle.actions.proofs.images.copy.Statement.{statement}
+use Rattle.actions.proofs.images.copy.Tie as tie
 
 returns : tie.Need-returns
 returns c = (search needs, λ s env i st a h. rw (copy-unset s _ env i st _ _ a (c .before .before .args .found .now) h (c .if1 .taken)))

@@ -18,7 +18,7 @@ use Rattle.rules.specs.Step.{Env, State, out, withSlots, withUsed, unless, give
 use Rattle.theorems.proofs.Effects.{same-number, image-length}
 use Rattle.slots.specs.declared.params.Params.{Params}
 use Rattle.slots.specs.Params.{optional, meaning}
-use Rattle.commands.specs.Machine.{At, SourceAt}
+use Rattle.actions.specs.Action.{At, SourceAt}
 use Rattle.slots.proofs.ImageLaws.{answer-image}
 
 -- the status and the size of an answer
