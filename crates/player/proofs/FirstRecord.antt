@@ -13,7 +13,7 @@ use Rattle.rules.specs.ProgramTest.{recordIn, recordsIn}
 use Rattle.rules.proofs.BytesLaws.{num-2}
 use Rattle.rules.proofs.GotLaws.{split₂, both}
 use Rattle.player.specs.Walk.{RecordsAt}
-use Rattle.records.proofs.PartLaws.{part-drop}
+use Rattle.entries.proofs.PartLaws.{part-drop}
 use Rattle.records.proofs.ReadRecord.{Kind, record-read}
 
 -- two bytes as a number

@@ -16,10 +16,10 @@ use Rattle.rules.proofs.GotLaws.{passed, split}
 use Rattle.slots.specs.declared.params.Params as Words
 use Rattle.slots.specs.Params.{meaning}
 use Rattle.commands.specs.Op.{opOf}
-use Rattle.records.specs.declared.entries.Entries.{Entries}
-use Rattle.records.specs.Records.{wordsOf, ParamsAre}
+use Rattle.entries.specs.declared.Entries.{Entries}
+use Rattle.entries.specs.Entries.{wordsOf, ParamsAre}
 use Rattle.player.specs.Step.{ArgumentAt, valueOf, GivenAs}
-use Rattle.records.proofs.PartLaws.{length-to}
+use Rattle.entries.proofs.PartLaws.{length-to}
 
 value-is : {A : Type 0} (a b : A) → _≡_ {A = Got A} (got a) (got b) → b ≡ a
 value-is a b e = let f : a ≡ b = cc in sym f

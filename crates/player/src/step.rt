@@ -4,11 +4,11 @@ ghost use Rattle.player.specs.Step.{ArgumentAt, GivenAs, valueOf, Onward
 use crate::walk::advance;
 use crate::walk::land;
 use actions::Done;
+use arguments::NONE;
 use commands::perform::perform;
+use entries::read_params;
 use numbers::two;
 use numbers::wide;
-use records::argument::NONE;
-use records::entries::read_params;
 use records::record::RECORD_BYTES;
 use slots::params::Params;
 

@@ -19,8 +19,8 @@ use Rattle.rules.specs.ProgramTest.{need, bad, marked, idsIn}
 use Rattle.rules.proofs.GotLaws.{and-true, passed, split₂, both, after, after-more, after-none}
 use Rattle.slots.specs.Slot.{namesAt}
 use Rattle.slots.proofs.SearchLaws.{name-at, names-count}
-use Rattle.records.proofs.PartLaws.{rest-at, same-3}
-use Rattle.records.specs.Records.{nextIn}
+use Rattle.entries.proofs.PartLaws.{rest-at, same-3}
+use Rattle.entries.specs.Entries.{nextIn}
 use Rattle.program.specs.Test.{NamesAre}
 
 pub marked-at : (p : Bytes) (at c : ℕ) → at + 3 ≤ length p →

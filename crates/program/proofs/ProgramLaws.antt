@@ -24,10 +24,11 @@ use Rattle.identifiers.specs.declared.Repeat.the-variants.{At, Nothing}
 use Rattle.identifiers.specs.Identifiers.{repeated}
 use Rattle.records.specs.declared.records.Records.{Records}
 use Rattle.program.specs.declared.test.Tested.{Tested}
-use Rattle.records.specs.Records.{nextIn, recordsAre}
+use Rattle.entries.specs.Entries.{nextIn}
+use Rattle.records.specs.Records.{recordsAre}
 use Rattle.program.specs.Test.{NamesAre, startFits, TestedAs}
 use Rattle.program.proofs.NameLaws.{Named, none-named, all-named}
-use Rattle.records.proofs.PartLaws.{same-3}
+use Rattle.entries.proofs.PartLaws.{same-3}
 use Rattle.program.proofs.RepeatLaws.{again, repeated-law}
 
 module _ (m : ℕ) where

@@ -3,7 +3,7 @@ ghost use mathlib.Core.Path.{_≡_};
 ghost use Prim.Native.Nat.{_+_, _≤_, _<_};
 ghost use lib.ListN.{length, drop};
 ghost use Rattle.rules.specs.ProgramTest as Rule;
-ghost use Rattle.records.specs.Records.{nextIn};
+ghost use Rattle.entries.specs.Entries.{nextIn};
 ghost use Rattle.program.specs.Test.{NamesAre};
 use numbers::wide;
 use rules::controller::Controller;

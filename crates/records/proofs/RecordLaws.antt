@@ -23,8 +23,10 @@ use Rattle.rules.specs.ProgramTest.{need, paramsIn, opIn, groupAllows, recordIn
 use Rattle.rules.proofs.BytesLaws.{num-2}
 use Rattle.rules.proofs.GotLaws.{passed, split}
 use Rattle.rules.proofs.TableLaws.{each-row, _&_, listed-some, listed-none}
-use Rattle.records.specs.Records.{accepted, nextIn, jumpFits, commandAt, recordAt}
-use Rattle.records.proofs.PartLaws.{part-drop, rest-at, same-2}
+use Rattle.entries.specs.Entries.{nextIn}
+use Rattle.arguments.specs.Arguments.{accepted}
+use Rattle.records.specs.Records.{jumpFits, commandAt, recordAt}
+use Rattle.entries.proofs.PartLaws.{part-drop, rest-at, same-2}
 
 -- a command's answer is handed on
 handed : {B : Type 0} (o : Option Row) (f : Row → Bool) (t : Bool) (h : Row → Got Op) (u : Op → Bool) (k : Op → B) →

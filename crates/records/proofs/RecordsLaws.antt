@@ -15,8 +15,9 @@ use Rattle.rules.specs.Got.{Got, refused, got, _>>=_}
 use Rattle.rules.specs.Program.{Rec, does, jump}
 use Rattle.rules.specs.ProgramTest.{recordIn, recordsIn, nonJumps}
 use Rattle.rules.proofs.GotLaws.{after, after-more, after-none}
-use Rattle.records.specs.Records.{nextIn, recordsAre}
-use Rattle.records.proofs.PartLaws.{rest-at}
+use Rattle.entries.specs.Entries.{nextIn}
+use Rattle.records.specs.Records.{recordsAre}
+use Rattle.entries.proofs.PartLaws.{rest-at}
 use Rattle.records.proofs.ReadRecord.{Kind, record-read}
 
 -- 1 for a record that is no jump, by its code

@@ -1,9 +1,7 @@
--- Records of commands and their arguments, by the places of a program's bytes.
+-- Records of commands, by the places of a program's bytes.
 use Prim.Native.Nat.{ℕ, _+_, _-_}
-use mathlib.Core.Path.{_≡_}
-use mathlib.Core.Bool.{Bool, true, false, _&&_, _||_, cond}
+use mathlib.Core.Bool.{Bool, true, false, _&&_, _||_}
 use mathlib.Core.List.{List}
-use mathlib.Core.Option.{Option, some, none}
 use lib.Dec.{eqb, ltb, leb}
 use lib.ListN.{length, getD, drop}
 use Rattle.rules.specs.declared.answers.Group.{Group}
@@ -13,43 +11,7 @@ use Rattle.rules.specs.Commands as Rules
 use Rattle.rules.specs.Got.{Got, refused, got, found, _>>=_}
 use Rattle.rules.specs.Program.{Rec, does, jump, NONE, targetOf}
 use Rattle.rules.specs.ProgramTest.{need, opIn, groupAllows, nonJumps}
-use Rattle.slots.specs.declared.params.Params.{Params}
-use Rattle.slots.specs.Params.{meaning, Fit}
-use Rattle.records.specs.declared.entries.Entries.{Entries}
 use Rattle.records.specs.declared.records.Records.{Records}
-
-abbrev pub accepted : {A : Type 0} → Got A → Bool
-accepted (refused r p) = false
-accepted (got a) = true
-
--- the place where a reading up to `to` ended, from the bytes that it left; 0 where it was refused
-abbrev pub nextIn : {A : Type 0} → ℕ → Got (A × Bytes) → ℕ
-nextIn to (refused r p) = 0
-nextIn to (got a) = to - length (a .1)
-
--- a parameter that stands from `at` to `next`, and there is none if these are equal: its value, and its numbers in Entries
-abbrev pub valueIn : Bytes → ℕ → ℕ → Option Bytes
-valueIn p at next = cond (eqb at next) none (some (part p (at + 2) (next - at - 2)))
-
-abbrev pub placeIn : ℕ → ℕ → ℕ
-placeIn at next = cond (eqb at next) 0 (at + 2)
-
-abbrev pub lengthIn : ℕ → ℕ → ℕ
-lengthIn at next = cond (eqb at next) 0 (next - at - 2)
-
-abbrev pub sourceIn : Bytes → ℕ → ℕ → ℕ
-sourceIn p at next = cond (eqb at next) 0 (num (part p (at + 2) 1) + 1)
-
-abbrev pub sizeIn : Bytes → ℕ → ℕ → ℕ
-sizeIn p at next = cond (eqb at next) 0 (num (part p (at + 2) 4) + 1)
-
-abbrev pub wordsOf : Entries → Params
-wordsOf e = record { uri = e .uri; length = e .length; source = e .source; digest = e .digest; size = e .size }
-
--- the parameters of n components, over the bytes p
-abbrev pub ParamsAre : Bytes → ℕ → Got Rules.Params → Entries → Type 0
-ParamsAre p n (refused r q) e = e .good ≡ false
-ParamsAre p n (got x) e = (e .good ≡ true) × (meaning p (wordsOf e) ≡ x) × Fit p n (wordsOf e)
 
 -- record n of `total`, at `at`, by places: the tests of a jump with an argument of len bytes
 abbrev pub jumpFits : Bytes → ℕ → ℕ → ℕ → ℕ → Bool

@@ -1,5 +1,3 @@
-// Records of commands in a program: what they may hold, and where they end.
-pub mod argument;
-pub mod entries;
+// Records of commands in a program, and where they end.
 pub mod record;
 pub mod records;
