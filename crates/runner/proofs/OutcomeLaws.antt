@@ -18,10 +18,10 @@ use Rattle.envelope.specs.declared.report.Report.{Report}
 use Rattle.envelope.specs.Report.{reportOf}
 use Rattle.frame.specs.declared.answer.Answer.the-variants.{Refused, Ran}
 use Rattle.frame.specs.declared.answer.Ending.{Ending}
-use Rattle.runner.specs.declared.cycle.Run.{Run}
+use Rattle.cycle.specs.declared.Run.{Run}
 use Rattle.slots.specs.Slot.{namesAt, Found}
 use Rattle.frame.specs.Answer.{stopOf, endingOf, Settles}
-use Rattle.runner.specs.Cycle.{outOf}
+use Rattle.cycle.specs.Cycle.{outOf}
 use Rattle.runner.specs.Sections.{SectionsJob, SectionsRan}
 use Rattle.accepted.specs.Accepted.{Accepted}
 use Rattle.accepted.proofs.AcceptedLaws.{known, named, refused-by}

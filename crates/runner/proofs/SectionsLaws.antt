@@ -17,12 +17,12 @@ use Rattle.rules.specs.Commands.{among}
 use Rattle.rules.specs.Manifest.{Seq, count, Section}
 use Rattle.rules.specs.Step.{Env, State, Out, out}
 use Rattle.rules.specs.Run.{on, runSeq, runAll, sectionsOf, chosen, planOf}
-use Rattle.runner.specs.declared.cycle.Run.{Run}
+use Rattle.cycle.specs.declared.Run.{Run}
 use Rattle.commands.specs.Machine.{stateAt}
-use Rattle.runner.specs.Cycle.{stateOf, SequenceJob, SequenceRan}
+use Rattle.cycle.specs.Cycle.{stateOf, SequenceJob, SequenceRan}
 use Rattle.runner.specs.Sections.{startOf, SectionsJob, SectionsRan}
 use Rattle.commands.proofs.LentLaws.{Moves, moves-seq}
-use Rattle.runner.proofs.Keeping.{Kept, ready-of, kept-of, kept-after, events-after}
+use Rattle.cycle.proofs.Keeping.{Kept, ready-of, kept-of, kept-after, events-after}
 use Rattle.accepted.proofs.SectionsRead.{Rest, Here, rest-start, rest-end}
 use Rattle.accepted.proofs.SectionPlaces.{Wanted, Taken, taken, skipped}
 

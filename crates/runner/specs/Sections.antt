@@ -10,9 +10,9 @@ use Rattle.rules.specs.Check.{check}
 use Rattle.rules.specs.Step.{Env}
 use Rattle.rules.specs.Run.{runAll}
 use Rattle.manifest.specs.Sections.{placed}
-use Rattle.runner.specs.declared.cycle.Run.{Run}
+use Rattle.cycle.specs.declared.Run.{Run}
 use Rattle.commands.specs.Machine.{stateAt}
-use Rattle.runner.specs.Cycle.{outOf, Ready}
+use Rattle.cycle.specs.Cycle.{outOf, Ready}
 
 -- the run at the start of the sequence at `from`, with what r has done
 abbrev pub startOf : ℕ → Run → Run

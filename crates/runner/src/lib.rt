@@ -16,7 +16,6 @@ use rules::answers::Refusal;
 use rules::controller::Controller;
 use sections::run_sections;
 
-pub mod cycle;
 pub mod sections;
 
 // The run of an envelope that check has accepted, by what check reported.

@@ -2,11 +2,11 @@
 ghost use mathlib.Core.Path.{_≡_};
 ghost use mathlib.Core.Bool.{true, false};
 ghost use Rattle.rules.specs.Run.{planOf};
-ghost use Rattle.runner.specs.Cycle.{SequenceJob, SequenceRan};
+ghost use Rattle.cycle.specs.Cycle.{SequenceJob, SequenceRan};
 ghost use Rattle.runner.specs.Sections.{startOf, SectionsJob, SectionsRan};
-use crate::cycle::Run;
-use crate::cycle::run_sequence;
 use accepted::sections::wanted;
+use cycle::Run;
+use cycle::run_sequence;
 use rules::answers::Group;
 use rules::controller::Controller;
 

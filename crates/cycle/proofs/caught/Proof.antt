@@ -1,6 +1,6 @@
 use borrow.Author.Tests.{eq-eqb, ne-eqb}
-use Rattle.runner.proofs.cycle.caught.Statement.{statement}
-use Rattle.runner.proofs.cycle.caught.Tie as tie
+use Rattle.cycle.proofs.caught.Statement.{statement}
+use Rattle.cycle.proofs.caught.Tie as tie
 
 returns : tie.Need-returns
 returns c = rw (c .before .before .if1 .taken, eq-eqb _ _ (c .before .if2 .taken), eq-eqb _ _ (c .if3 .taken))

@@ -11,7 +11,7 @@ use Rattle.rules.specs.Limits.{limits}
 use Rattle.rules.specs.Manifest.{Seq, Cmd}
 use Rattle.rules.specs.Step.{Env, State, Out, out}
 use Rattle.rules.specs.Run.{runSeq, runCmd, indexAfter, coerceAfter}
-use Rattle.runner.specs.declared.cycle.Run.{Run}
+use Rattle.cycle.specs.declared.Run.{Run}
 use Rattle.slots.specs.Params.{FitAll}
 use Rattle.commands.specs.Machine.{stateAt, Lent}
 use Rattle.accepted.specs.Arguments.{isTrue, One}

@@ -1,6 +1,6 @@
 use mathlib.Core.Path.{refl}
-use Rattle.runner.proofs.cycle.leave.Statement.{statement}
-use Rattle.runner.proofs.cycle.leave.Tie as tie
+use Rattle.cycle.proofs.leave.Statement.{statement}
+use Rattle.cycle.proofs.leave.Tie as tie
 
 returns : tie.Need-returns
 returns c = refl

@@ -13,13 +13,13 @@ use Rattle.rules.specs.Manifest.{one}
 use Rattle.rules.specs.Step.{Env, State, step}
 use Rattle.rules.specs.Run.{runSeq, runCmd}
 use Rattle.accepted.specs.declared.arguments.Args.{Args}
-use Rattle.runner.specs.declared.cycle.Run.{Run}
+use Rattle.cycle.specs.declared.Run.{Run}
 use Rattle.actions.specs.declared.Done.{Done}
 use Rattle.slots.specs.Params.{FitAll}
 use Rattle.commands.specs.Op.{opOf, IsCode}
 use Rattle.commands.specs.Machine.{stateAt, outAt}
 use Rattle.accepted.specs.Arguments.{paramsOf, ReadAs}
-use Rattle.runner.specs.Cycle.{LeafJob, CommandRan}
+use Rattle.cycle.specs.Cycle.{LeafJob, CommandRan}
 use Rattle.accepted.proofs.OneLaws.{one-plain, coerce-after}
 
 run-one : (env : Env) (p : ℕ) (op : Rules.Op) (b : Option Bool) (i : ℕ) (st : State) → runCmd env (one p op b) i st ≡ step env op (Rules.component op i) p st

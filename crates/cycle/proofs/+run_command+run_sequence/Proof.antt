@@ -5,26 +5,26 @@ use native.Mathlib.Omega.{arith}
 use borrow.Author.Needs.{needs}
 use Rattle.rules.specs.Run.{runSeq, runCmd}
 use Rattle.accepted.specs.Arguments.{isTrue}
-use Rattle.runner.specs.Cycle.{stateOf, CommandJob}
-use Rattle.runner.proofs.SequenceRuns.{CommandsJob, Loop, loop-starts, command-job, loop-goes-on, sequence-deep, sequence-head, commands-job, sequence-done, sequence-stopped}
+use Rattle.cycle.specs.Cycle.{stateOf, CommandJob}
+use Rattle.cycle.proofs.SequenceRuns.{CommandsJob, Loop, loop-starts, command-job, loop-goes-on, sequence-deep, sequence-head, commands-job, sequence-done, sequence-stopped}
 use borrow.Fn.Kinds.{In}
 use borrow.Fn.PlainCycle.{Measures, is, falls, and}
-use Rattle.runner.proofs.TryRuns.{AltsLoop, command-head, sub-head, sub-fits, sub-job, sub-ran, leaf-job, leaf-ran, tries-head, tries-start, tries-failed, choice-head, choice-fits, choice-job, choice-rest, tries-end, tries-on}
-use Rattle.runner.proofs.cycle.run_command.Reads as run-command
-use Rattle.runner.proofs.cycle.run_command.Kinds as run-command-kinds
-use Rattle.runner.proofs.cycle.+run_command+run_sequence.Lts-run_command as run-command-lts
-use Rattle.runner.proofs.cycle.run_sequence.Reads as run-sequence
-use Rattle.runner.proofs.cycle.run_sequence.Kinds as run-sequence-kinds
-use Rattle.runner.proofs.cycle.+run_command+run_sequence.Lts-run_sequence as run-sequence-lts
-use Rattle.runner.proofs.cycle.all_failed.Reads as all-failed-reads
-use Rattle.runner.proofs.cycle.caught.Reads as caught-reads
-use Rattle.runner.proofs.cycle.enter.Reads as enter-reads
-use Rattle.runner.proofs.cycle.leaf.Reads as leaf-reads
-use Rattle.runner.proofs.cycle.leave.Reads as leave-reads
+use Rattle.cycle.proofs.TryRuns.{AltsLoop, command-head, sub-head, sub-fits, sub-job, sub-ran, leaf-job, leaf-ran, tries-head, tries-start, tries-failed, choice-head, choice-fits, choice-job, choice-rest, tries-end, tries-on}
+use Rattle.cycle.proofs.run_command.Reads as run-command
+use Rattle.cycle.proofs.run_command.Kinds as run-command-kinds
+use Rattle.cycle.proofs.+run_command+run_sequence.Lts-run_command as run-command-lts
+use Rattle.cycle.proofs.run_sequence.Reads as run-sequence
+use Rattle.cycle.proofs.run_sequence.Kinds as run-sequence-kinds
+use Rattle.cycle.proofs.+run_command+run_sequence.Lts-run_sequence as run-sequence-lts
+use Rattle.cycle.proofs.all_failed.Reads as all-failed-reads
+use Rattle.cycle.proofs.caught.Reads as caught-reads
+use Rattle.cycle.proofs.enter.Reads as enter-reads
+use Rattle.cycle.proofs.leaf.Reads as leaf-reads
+use Rattle.cycle.proofs.leave.Reads as leave-reads
 use Rattle.accepted.proofs.heads.open.Reads as open-reads
 use Rattle.accepted.proofs.heads.skip.Reads as skip-reads
-use Rattle.runner.proofs.cycle.+run_command+run_sequence.{statement}
-use Rattle.runner.proofs.cycle.+run_command+run_sequence.Tie.{close}
+use Rattle.cycle.proofs.+run_command+run_sequence.{statement}
+use Rattle.cycle.proofs.+run_command+run_sequence.Tie.{close}
 
 abbrev μ-run-command : Measures 8 run-command-kinds.ps ℕ
 μ-run-command κs a = 2 * a .1 .0 + 1

@@ -17,15 +17,15 @@ use Rattle.rules.specs.Manifest.{Seq, Cmd, one, try, Alts, last, or, count}
 use Rattle.rules.specs.Check.{sequenceAt}
 use Rattle.rules.specs.Step.{Env, State, Out, out}
 use Rattle.rules.specs.Run.{on, next, runSeq, runCmd, runAlts, indexAfter, coerceAfter}
-use Rattle.runner.specs.declared.cycle.Run.{Run}
+use Rattle.cycle.specs.declared.Run.{Run}
 use Rattle.slots.specs.Params.{FitAll}
 use Rattle.accepted.specs.Heads.{Headed, Strings}
-use Rattle.runner.specs.Cycle.{stateOf, outOf, LeafJob, CommandJob, SequenceJob, CommandRan, SequenceRan}
+use Rattle.cycle.specs.Cycle.{stateOf, outOf, LeafJob, CommandJob, SequenceJob, CommandRan, SequenceRan}
 use Rattle.accepted.specs.Arguments.{One}
 use Rattle.accepted.proofs.ArgumentLaws.{command-one}
 use Rattle.accepted.proofs.HeadLaws.{item-headed, number-headed}
 use Rattle.commands.proofs.LentLaws.{Moves, moves-seq}
-use Rattle.runner.proofs.Keeping.{Kept, ready-of, kept-of, kept-after, events-after}
+use Rattle.cycle.proofs.Keeping.{Kept, ready-of, kept-of, kept-after, events-after}
 use Rattle.accepted.proofs.CommandPlaces.{Coded, coded, Sub, its-sequence, Tries, its-alternatives, listOf, alternatives-law}
 use Rattle.accepted.proofs.TryPlaces.{AltsAt, Choice, choice, no-choice, strings-at}
 

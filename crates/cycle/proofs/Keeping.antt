@@ -9,8 +9,8 @@ use Rattle.rules.specs.Step.{Env, Out}
 use Rattle.slots.specs.Params.{FitAll}
 use Rattle.commands.specs.Machine.{Lent}
 use Rattle.commands.proofs.LentLaws.{Moves, lent-after}
-use Rattle.runner.specs.declared.cycle.Run.{Run}
-use Rattle.runner.specs.Cycle.{stateOf, outOf, Ready}
+use Rattle.cycle.specs.declared.Run.{Run}
+use Rattle.cycle.specs.Cycle.{stateOf, outOf, Ready}
 
 -- Ready at a given environment
 pub record Kept (env : Env) (s vendor class : Bytes) (found : List ℕ) (answers slots : Bytes) (words : List ℕ) (trace : Bytes) (index : ℕ) : Type 0 where

@@ -1,8 +1,8 @@
 use native.Mathlib.Omega.{arith}
 use borrow.Author.Needs.{needs}
-use Rattle.runner.proofs.LeafLaws.{leaf-inside, leaf-fit, leaf-code, leaf-room, leaf-ran}
-use Rattle.runner.proofs.cycle.leaf.Statement.{statement}
-use Rattle.runner.proofs.cycle.leaf.Tie as tie
+use Rattle.cycle.proofs.LeafLaws.{leaf-inside, leaf-fit, leaf-code, leaf-room, leaf-ran}
+use Rattle.cycle.proofs.leaf.Statement.{statement}
+use Rattle.cycle.proofs.leaf.Tie as tie
 
 performs : tie.Need-perform-requires
 performs c κs =

@@ -3,7 +3,7 @@ ghost use mathlib.Core.Path.{_≡_};
 ghost use mathlib.Core.Bool.{cond};
 ghost use lib.Dec.{eqb};
 ghost use Rattle.rules.specs.Manifest.{one};
-ghost use Rattle.runner.specs.Cycle.{LeafJob, CommandJob, SequenceJob, CommandRan, SequenceRan, caughtBy};
+ghost use Rattle.cycle.specs.Cycle.{LeafJob, CommandJob, SequenceJob, CommandRan, SequenceRan, caughtBy};
 use accepted::arguments::read_one;
 use accepted::heads::open;
 use accepted::heads::skip;

@@ -1,6 +1,6 @@
 use borrow.Author.Tests.{eq-eqb, ne-eqb}
-use Rattle.runner.proofs.cycle.component.Statement.{statement}
-use Rattle.runner.proofs.cycle.component.Tie as tie
+use Rattle.cycle.proofs.component.Statement.{statement}
+use Rattle.cycle.proofs.component.Tie as tie
 
 new : tie.Need-returns
 new c = rw (eq-eqb _ _ (c .if1 .taken))

@@ -15,14 +15,14 @@ use Rattle.rules.specs.Limits.{limits}
 use Rattle.rules.specs.Manifest.{Seq, then, Cmd, countCmd}
 use Rattle.rules.specs.Step.{Env, State, Out, out}
 use Rattle.rules.specs.Run.{on, next, runSeq, runCmd, indexAfter, coerceAfter}
-use Rattle.runner.specs.declared.cycle.Run.{Run}
+use Rattle.cycle.specs.declared.Run.{Run}
 use Rattle.accepted.specs.Arguments.{isTrue}
-use Rattle.runner.specs.Cycle.{stateOf, outOf, Ready, CommandJob, SequenceJob, CommandRan, SequenceRan, caughtBy}
+use Rattle.cycle.specs.Cycle.{stateOf, outOf, Ready, CommandJob, SequenceJob, CommandRan, SequenceRan, caughtBy}
 use Rattle.accepted.specs.Heads.{Headed}
 use Rattle.accepted.proofs.HeadLaws.{item-headed}
 use Rattle.accepted.proofs.SequencePlaces.{CommandsAt, Start, start, Turn, turn, no-more}
 use Rattle.commands.proofs.LentLaws.{Moves, moves-cmd}
-use Rattle.runner.proofs.Keeping.{Kept, ready-of, kept-of, kept-after, events-after}
+use Rattle.cycle.proofs.Keeping.{Kept, ready-of, kept-of, kept-after, events-after}
 
 -- a run goes on after a command that went well
 goes-on : (env : Env) (c : Cmd) (cs : Seq) (own : Bool) (i : ℕ) (co : Bool) (st st′ : State) (n : ℕ) → n ≡ 0 → runCmd env c i st ≡ out (endOf n) st′ →

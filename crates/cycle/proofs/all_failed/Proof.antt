@@ -1,6 +1,6 @@
 use mathlib.Core.Path.{refl}
-use Rattle.runner.proofs.cycle.all_failed.Statement.{statement}
-use Rattle.runner.proofs.cycle.all_failed.Tie as tie
+use Rattle.cycle.proofs.all_failed.Statement.{statement}
+use Rattle.cycle.proofs.all_failed.Tie as tie
 
 returns : tie.Need-returns
 returns c = refl

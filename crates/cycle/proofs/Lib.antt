@@ -1,0 +1,4 @@
+pub mod LeafLaws
+pub mod Keeping
+pub mod SequenceRuns
+pub mod TryRuns
