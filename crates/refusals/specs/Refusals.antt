@@ -1,6 +1,6 @@
 -- A refusal, as text.
 use Prim.Native.Nat.{ℕ, _+_, _-_}
-use mathlib.Core.Bool.{Bool, cond}
+use mathlib.Core.Bool.{cond}
 use mathlib.Core.List.{_++_}
 use lib.Dec.{ltb}
 use lib.ListN.{length}

@@ -1,4 +1,3 @@
-use native.Mathlib.Omega.{arith}
 use borrow.Author.Needs.{needs}
 use Rattle.pieces.proofs.PieceLaws.{part-none, part-past, part-end}
 use Rattle.pieces.proofs.within.Statement.{statement}

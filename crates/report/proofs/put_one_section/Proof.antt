@@ -1,6 +1,5 @@
 use borrow.Author.Needs.{needs}
-use Rattle.text.proofs.TextLaws.{wrote-then}
-use Rattle.text.proofs.TextLaws.{wrote-none}
+use Rattle.text.proofs.TextLaws.{wrote-then, wrote-none}
 use Rattle.report.specs.Report.{sectionText}
 use borrow.Author.Tests.{eq-eqb, ne-eqb}
 use Rattle.report.proofs.put_one_section.Statement.{statement}
