@@ -9,7 +9,9 @@ ghost use Rattle.events.specs.Events.{fieldsText, eventText, eventsText}
 use numbers::two;
 use numbers::wide;
 use text::put;
+use text::put_byte;
 use text::put_padded;
+use text::put_spaces;
 use wording::put_command_wide;
 use wording::put_result;
 
@@ -19,9 +21,9 @@ fn put_fields(room: &mut [u8], at: usize, component: usize, place: usize, result
     let a = put_padded(room, at, component, 11);
     let b = put_padded(room, a, place, 7);
     let c = put_padded(room, b, result, 8);
-    let d = put(room, c, b"  ");
+    let d = put_spaces(room, c, 2);
     let e = put_result(room, d, result);
-    put(room, e, b"\n")
+    put_byte(room, e, b'\n')
 }
 
 fn put_event(room: &mut [u8], at: usize, trace: &[u8], k: usize) -> usize
@@ -34,7 +36,7 @@ fn put_event(room: &mut [u8], at: usize, trace: &[u8], k: usize) -> usize
     let place = two(trace, p + 4);
     let result = wide(trace[p + 6]);
     let a = put_padded(room, at, k, 5);
-    let b = put(room, a, b"  ");
+    let b = put_spaces(room, a, 2);
     let c = put_command_wide(room, b, code, 22);
     put_fields(room, c, component, place, result)
 }

@@ -11,13 +11,14 @@ use Rattle.refusals.specs.Refusals.{refusedText}
 use Rattle.events.specs.Events.{eventsText}
 use Rattle.abi.specs.declared.RunAnswer.{RunAnswer}
 
-unfoldable pub endText : ℕ → Bytes
-endText end = labelled (ascii "end ") end ++ ascii " (" ++ endWords end ++ ascii ")"
+unfoldable pub endText : ℕ → ℕ → Bytes
+endText end place = labelled (ascii "end ") end ++ ascii " (" ++ endWords end ++ labelled (ascii ") at ") place
+
+unfoldable pub countsText : ℕ → ℕ → Bytes
+countsText events used = counted (ascii ", ") events (ascii " event") ++ counted (ascii ", ") used (ascii " answer")
 
 unfoldable pub ranText : RunAnswer → Bytes
-ranText a =
-    endText (a .end) ++ labelled (ascii " at ") (a .place) ++ counted (ascii ", ") (a .events) (ascii " event") ++ counted (ascii ", ") (a .used) (ascii " answer")
-    ++ labelled (ascii " used, number ") (a .number) ++ ascii "\n"
+ranText a = endText (a .end) (a .place) ++ countsText (a .events) (a .used) ++ labelled (ascii " used, number ") (a .number) ++ ascii "\n"
 
 -- four bytes, big-endian
 abbrev pub fourAt : Bytes → ℕ → ℕ
@@ -33,10 +34,10 @@ presentText present = cond (eqb present 0) (ascii "  absent ") (ascii "  present
 unfoldable pub imageText : Bytes → ℕ → Bytes
 imageText s p =
     presentText (getD s (p + 37) 0) ++ labelled (ascii "  size ") (fourAt s (p + 38)) ++ ascii "  digest "
-    ++ hex (part s (p + 42) (p + 74))
+    ++ hex (part s (p + 42) (p + 74)) ++ ascii "\n"
 
 unfoldable pub slotText : Bytes → ℕ → Bytes
-slotText s k = labelled (ascii "slot ") k ++ nameText s (74 * k) ++ labelled (ascii "  capacity ") (fourAt s (74 * k + 33)) ++ imageText s (74 * k) ++ ascii "\n"
+slotText s k = labelled (ascii "slot ") k ++ nameText s (74 * k) ++ labelled (ascii "  capacity ") (fourAt s (74 * k + 33)) ++ imageText s (74 * k)
 
 unfoldable pub slotsText : Bytes → Bytes
 slotsText s = lines (slotText s) (length s / 74)

@@ -3,7 +3,7 @@ ghost use mathlib.Core.Path.{_≡_};
 ghost use Prim.Native.Nat.{_+_, _*_, _≤_};
 ghost use lib.ListN.{length};
 ghost use Rattle.text.specs.Text.{Wrote, least};
-ghost use Rattle.outcome.specs.Outcome.{endText, ranText, nameText, presentText, imageText, slotText, slotsText, runText};
+ghost use Rattle.outcome.specs.Outcome.{endText, countsText, ranText, nameText, presentText, imageText, slotText, slotsText, runText};
 use abi::RunAnswer;
 use events::put_events;
 use numbers::four;
@@ -13,28 +13,35 @@ use pieces::put_labelled;
 use pieces::put_part;
 use refusals::put_refused;
 use text::put;
+use text::put_byte;
+use text::put_spaces;
 
 const SLOT: usize = 74;
 
-fn put_end(room: &mut [u8], at: usize, end: usize) -> usize
-    ensures { λ r. ⌜ Wrote (endText end) at (now (room .entry)) r (now (room .exit)) ⌝ }
+fn put_end(room: &mut [u8], at: usize, end: usize, place: usize) -> usize
+    ensures { λ r. ⌜ Wrote (endText end place) at (now (room .entry)) r (now (room .exit)) ⌝ }
 {
     let a = put_labelled(room, at, b"end ", end);
     let b = put(room, a, b" (");
     let c = wording::put_end(room, b, end);
-    put(room, c, b")")
+    put_labelled(room, c, b") at ", place)
+}
+
+fn put_counts(room: &mut [u8], at: usize, events: usize, used: usize) -> usize
+    ensures { λ r. ⌜ Wrote (countsText events used) at (now (room .entry)) r (now (room .exit)) ⌝ }
+{
+    let a = put_counted(room, at, b", ", events, b" event");
+    put_counted(room, a, b", ", used, b" answer")
 }
 
 // The end of a run that was not refused.
 pub fn put_ran(room: &mut [u8], at: usize, answer: RunAnswer) -> usize
     ensures { λ r. ⌜ Wrote (ranText answer) at (now (room .entry)) r (now (room .exit)) ⌝ }
 {
-    let a = put_end(room, at, answer.end);
-    let b = put_labelled(room, a, b" at ", answer.place);
-    let c = put_counted(room, b, b", ", answer.events, b" event");
-    let d = put_counted(room, c, b", ", answer.used, b" answer");
-    let e = put_labelled(room, d, b" used, number ", answer.number);
-    put(room, e, b"\n")
+    let a = put_end(room, at, answer.end, answer.place);
+    let b = put_counts(room, a, answer.events, answer.used);
+    let c = put_labelled(room, b, b" used, number ", answer.number);
+    put_byte(room, c, b'\n')
 }
 
 // At most 32.
@@ -52,7 +59,7 @@ fn put_name(room: &mut [u8], at: usize, slots: &[u8], p: usize) -> usize
     ensures { λ r. ⌜ Wrote (nameText (now (slots .entry)) p) at (now (room .entry)) r (now (room .exit)) ⌝ }
 {
     let n = capped(wide(slots[p]));
-    let a = put(room, at, b"  ");
+    let a = put_spaces(room, at, 2);
     put_part(room, a, slots, p + 1, p + 1 + n)
 }
 
@@ -72,7 +79,8 @@ fn put_image(room: &mut [u8], at: usize, slots: &[u8], p: usize) -> usize
     let a = put_present(room, at, slots[p + 37]);
     let b = put_labelled(room, a, b"  size ", four(slots, p + 38));
     let c = put(room, b, b"  digest ");
-    put_part(room, c, slots, p + 42, p + 74)
+    let d = put_part(room, c, slots, p + 42, p + 74);
+    put_byte(room, d, b'\n')
 }
 
 fn put_slot(room: &mut [u8], at: usize, slots: &[u8], k: usize) -> usize
@@ -83,8 +91,7 @@ fn put_slot(room: &mut [u8], at: usize, slots: &[u8], k: usize) -> usize
     let a = put_labelled(room, at, b"slot ", k);
     let b = put_name(room, a, slots, p);
     let c = put_labelled(room, b, b"  capacity ", four(slots, p + 33));
-    let d = put_image(room, c, slots, p);
-    put(room, d, b"\n")
+    put_image(room, c, slots, p)
 }
 
 // The slots, as many as are whole.

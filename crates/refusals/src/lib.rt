@@ -9,6 +9,7 @@ use pieces::put_labelled;
 use pieces::put_part;
 use pieces::put_spaced;
 use text::put;
+use text::put_byte;
 use wording::put_refusal;
 
 fn put_refused_line(room: &mut [u8], at: usize, number: usize, place: usize) -> usize
@@ -18,7 +19,7 @@ fn put_refused_line(room: &mut [u8], at: usize, number: usize, place: usize) -> 
     let b = put_labelled(room, a, b" at ", place);
     let c = put(room, b, b": ");
     let d = put_refusal(room, c, number);
-    put(room, d, b"\n")
+    put_byte(room, d, b'\n')
 }
 
 fn back(p: usize) -> usize
@@ -35,7 +36,7 @@ fn put_before(room: &mut [u8], at: usize, s: &[u8], p: usize) -> usize
 {
     let from = back(p);
     let a = put_labelled(room, at, b"  ", from);
-    let b = put(room, a, b":");
+    let b = put_byte(room, a, b':');
     put_spaced(room, b, s, from, p)
 }
 
@@ -63,9 +64,9 @@ fn put_around(room: &mut [u8], at: usize, s: &[u8], p: usize) -> usize
     let b = put_before(room, at, s, p);
     let c = put(room, b, b" [");
     let d = put_part(room, c, s, p, p + 1);
-    let e = put(room, d, b"]");
+    let e = put_byte(room, d, b']');
     let f = put_after(room, e, s, p);
-    put(room, f, b"\n")
+    put_byte(room, f, b'\n')
 }
 
 pub fn put_refused(room: &mut [u8], at: usize, number: usize, place: usize, s: &[u8]) -> usize

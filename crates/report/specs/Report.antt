@@ -22,21 +22,27 @@ componentsText s ids n = lines (componentText s ids) (least n 8)
 abbrev pub sectionKey : ℕ → ℕ
 sectionKey j = cond (eqb j 0) 3 (j + 7)
 
+unfoldable pub spanText : ℕ → ℕ → Bytes
+spanText from to = labelled (ascii " at ") from ++ labelled (ascii " to ") to ++ ascii "\n"
+
 unfoldable pub sectionText : List ℕ → ℕ → Bytes
 sectionText t j =
     cond (eqb (getD t (2 * j + 1) 0) 0)
     []
-    (ascii "section " ++ sectionWords (sectionKey j) ++ labelled (ascii " at ") (getD t (2 * j) 0) ++ labelled (ascii " to ") (getD t (2 * j + 1) 0) ++ ascii "\n")
+    (ascii "section " ++ sectionWords (sectionKey j) ++ spanText (getD t (2 * j) 0) (getD t (2 * j + 1) 0))
 
 unfoldable pub sectionsText : List ℕ → Bytes
 sectionsText t = lines (sectionText t) 6
 
 unfoldable pub manifestText : ℕ → ℕ → Bytes
-manifestText from to = labelled (ascii "manifest at ") from ++ labelled (ascii " to ") to ++ ascii "\n"
+manifestText from to = ascii "manifest" ++ spanText from to
+
+unfoldable pub headText : ℕ → Bytes
+headText number = labelled (ascii "accepted\nnumber ") number ++ ascii "\n"
 
 unfoldable pub acceptedText : CheckAnswer → Bytes → Bytes
 acceptedText a s =
-    labelled (ascii "accepted\nnumber ") (a .number) ++ ascii "\n" ++ componentsText s (a .ids) (a .components) ++ sectionsText (a .sections) ++ manifestText (a .from) (a .to)
+    headText (a .number) ++ componentsText s (a .ids) (a .components) ++ sectionsText (a .sections) ++ manifestText (a .from) (a .to)
 
 unfoldable pub checkedText : CheckAnswer → Bytes → Bytes
 checkedText a s = cond (eqb (a .refusal) 0) (acceptedText a s) (refusedText (a .refusal) (a .place) s)

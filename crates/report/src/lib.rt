@@ -2,13 +2,15 @@
 ghost use mathlib.Core.Path.{_≡_};
 ghost use Prim.Native.Nat.{_<_};
 ghost use Rattle.text.specs.Text.{Wrote, least};
-ghost use Rattle.report.specs.Report.{componentText, componentsText, sectionKey, sectionText, sectionsText, manifestText, acceptedText, checkedText, whichText, newerText, translatedText};
+ghost use Rattle.report.specs.Report.{componentText, componentsText, sectionKey, sectionText, sectionsText, spanText, manifestText, headText, acceptedText, checkedText, whichText, newerText, translatedText};
 use abi::CheckAnswer;
 use abi::NewerAnswer;
 use pieces::put_labelled;
 use pieces::put_part;
 use refusals::put_refused;
 use text::put;
+use text::put_byte;
+use text::put_spaces;
 use wording::put_section;
 
 fn put_component(room: &mut [u8], at: usize, s: &[u8], ids: &[usize; 16], k: usize) -> usize
@@ -16,9 +18,9 @@ fn put_component(room: &mut [u8], at: usize, s: &[u8], ids: &[usize; 16], k: usi
     ensures { λ r. ⌜ Wrote (componentText (now (s .entry)) (now (ids .entry)) k) at (now (room .entry)) r (now (room .exit)) ⌝ }
 {
     let a = put_labelled(room, at, b"component ", k);
-    let b = put(room, a, b"  ");
+    let b = put_spaces(room, a, 2);
     let c = put_part(room, b, s, ids[2 * k], ids[2 * k + 1]);
-    put(room, c, b"\n")
+    put_byte(room, c, b'\n')
 }
 
 fn capped(n: usize) -> usize
@@ -53,6 +55,14 @@ fn section_key(j: usize) -> usize
     j + 7
 }
 
+fn put_span(room: &mut [u8], at: usize, from: usize, to: usize) -> usize
+    ensures { λ r. ⌜ Wrote (spanText from to) at (now (room .entry)) r (now (room .exit)) ⌝ }
+{
+    let a = put_labelled(room, at, b" at ", from);
+    let b = put_labelled(room, a, b" to ", to);
+    put_byte(room, b, b'\n')
+}
+
 fn put_one_section(room: &mut [u8], at: usize, sections: &[usize; 12], j: usize) -> usize
     requires { ⌜ j < 6 ⌝ }
     ensures { λ r. ⌜ Wrote (sectionText (now (sections .entry)) j) at (now (room .entry)) r (now (room .exit)) ⌝ }
@@ -63,9 +73,7 @@ fn put_one_section(room: &mut [u8], at: usize, sections: &[usize; 12], j: usize)
     }
     let a = put(room, at, b"section ");
     let b = put_section(room, a, section_key(j));
-    let c = put_labelled(room, b, b" at ", sections[2 * j]);
-    let d = put_labelled(room, c, b" to ", end);
-    put(room, d, b"\n")
+    put_span(room, b, sections[2 * j], end)
 }
 
 fn put_sections(room: &mut [u8], at: usize, sections: &[usize; 12]) -> usize
@@ -83,9 +91,15 @@ fn put_sections(room: &mut [u8], at: usize, sections: &[usize; 12]) -> usize
 fn put_manifest(room: &mut [u8], at: usize, from: usize, to: usize) -> usize
     ensures { λ r. ⌜ Wrote (manifestText from to) at (now (room .entry)) r (now (room .exit)) ⌝ }
 {
-    let a = put_labelled(room, at, b"manifest at ", from);
-    let b = put_labelled(room, a, b" to ", to);
-    put(room, b, b"\n")
+    let a = put(room, at, b"manifest");
+    put_span(room, a, from, to)
+}
+
+fn put_head(room: &mut [u8], at: usize, number: usize) -> usize
+    ensures { λ r. ⌜ Wrote (headText number) at (now (room .entry)) r (now (room .exit)) ⌝ }
+{
+    let a = put_labelled(room, at, b"accepted\nnumber ", number);
+    put_byte(room, a, b'\n')
 }
 
 fn put_accepted(room: &mut [u8], at: usize, answer: CheckAnswer, envelope: &[u8]) -> usize
@@ -93,11 +107,10 @@ fn put_accepted(room: &mut [u8], at: usize, answer: CheckAnswer, envelope: &[u8]
 {
     let ids = answer.ids;
     let sections = answer.sections;
-    let a = put_labelled(room, at, b"accepted\nnumber ", answer.number);
-    let b = put(room, a, b"\n");
-    let c = put_components(room, b, envelope, &ids, answer.components);
-    let d = put_sections(room, c, &sections);
-    put_manifest(room, d, answer.from, answer.to)
+    let a = put_head(room, at, answer.number);
+    let b = put_components(room, a, envelope, &ids, answer.components);
+    let c = put_sections(room, b, &sections);
+    put_manifest(room, c, answer.from, answer.to)
 }
 
 // What check answered for the envelope.

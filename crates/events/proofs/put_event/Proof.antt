@@ -10,8 +10,8 @@ returns c =
     let p4 = c .before .before in
     let p3 = p4 .before .before .before .before in
     let p2 = p3 .before .before .before .before in
-    let p1 = p2 .before .before .before .before .before in
-    rw (← p1 .before .before .before .before .before .before .before .wide .ensures .0, ← p1 .before .before .before .before .before .wide2 .ensures .0, ← p1 .before .before .before .before .two .ensures .0, ← p1 .before .before .wide3 .ensures .0) (wrote-then (wrote-then (wrote-then (p1 .put-padded .ensures) (p2 .put .ensures)) (p3 .put-command-wide .ensures)) (p4 .put-fields .ensures))
+    let p1 = p2 .before .before .before .before in
+    rw (← p1 .before .before .before .before .before .before .before .wide .ensures .0, ← p1 .before .before .before .before .before .wide2 .ensures .0, ← p1 .before .before .before .before .two .ensures .0, ← p1 .before .before .wide3 .ensures .0) (wrote-then (wrote-then (wrote-then (p1 .put-padded .ensures) (p2 .put-spaces .ensures)) (p3 .put-command-wide .ensures)) (p4 .put-fields .ensures))
 
 pub put-event-spec : {M : Type 1} → statement M
 put-event-spec =
@@ -30,7 +30,6 @@ put-event-spec =
     (λ c. search needs)
     (λ c κs. search needs)
     (λ c κs. search needs)
-    (λ c. search needs)
     (λ c κs. search needs)
     (λ c κs. search needs)
     (λ c κs. search needs)

@@ -8,12 +8,12 @@ returns : tie.Need-returns
 unfolding fieldsText
 returns c =
     let p6 = c .before .before in
-    let p5 = p6 .before .before .before .before .before in
+    let p5 = p6 .before .before .before .before in
     let p4 = p5 .before .before .before .before in
-    let p3 = p4 .before .before .before .before .before in
+    let p3 = p4 .before .before .before .before in
     let p2 = p3 .before .before .before .before in
     let p1 = p2 .before .before .before .before in
-    wrote-then (wrote-then (wrote-then (wrote-then (wrote-then (p1 .put-padded .ensures) (p2 .put-padded2 .ensures)) (p3 .put-padded3 .ensures)) (p4 .put .ensures)) (p5 .put-result .ensures)) (p6 .put2 .ensures)
+    wrote-then (wrote-then (wrote-then (wrote-then (wrote-then (p1 .put-padded .ensures) (p2 .put-padded2 .ensures)) (p3 .put-padded3 .ensures)) (p4 .put-spaces .ensures)) (p5 .put-result .ensures)) (p6 .put-byte .ensures)
 
 pub put-fields-spec : {M : Type 1} → statement M
 put-fields-spec =
@@ -22,10 +22,8 @@ put-fields-spec =
     (λ c κs. search needs)
     (λ c κs. search needs)
     (λ c κs. search needs)
-    (λ c. search needs)
     (λ c κs. search needs)
     (λ c κs. search needs)
-    (λ c. search needs)
     (λ c κs. search needs)
     (λ c. search needs)
     returns)

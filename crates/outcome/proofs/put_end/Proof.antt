@@ -11,7 +11,7 @@ returns c =
     let p3 = p4 .before .before .before .before .before in
     let p2 = p3 .before .before .before .before in
     let p1 = p2 .before .before .before .before .before in
-    wrote-then (wrote-then (wrote-then (p1 .put-labelled .ensures) (p2 .put .ensures)) (p3 .put-end .ensures)) (p4 .put2 .ensures)
+    wrote-then (wrote-then (wrote-then (p1 .put-labelled .ensures) (p2 .put .ensures)) (p3 .put-end .ensures)) (p4 .put-labelled2 .ensures)
 
 pub put-end-spec : {M : Type 1} → statement M
 put-end-spec =

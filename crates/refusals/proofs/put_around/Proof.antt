@@ -16,12 +16,12 @@ returns-2 : tie.Need-returns-2
 unfolding aroundText
 returns-2 c =
     let p6 = c .before .before in
-    let p5 = p6 .before .before .before .before .before in
+    let p5 = p6 .before .before .before .before in
     let p4 = p5 .before .before .before .before in
-    let p3 = p4 .before .before .before .before .before in
+    let p3 = p4 .before .before .before .before in
     let p2 = p3 .before .before .before .before in
     let p1 = p2 .before .before .before .before .before in
-    rw (lt-ltb _ _ (p1 .before .before .if1 .left)) (wrote-then (wrote-then (wrote-then (wrote-then (wrote-then (p1 .put-before2 .ensures) (p2 .put2 .ensures)) (p3 .put-part .ensures)) (p4 .put3 .ensures)) (p5 .put-after .ensures)) (p6 .put4 .ensures))
+    rw (lt-ltb _ _ (p1 .before .before .if1 .left)) (wrote-then (wrote-then (wrote-then (wrote-then (wrote-then (p1 .put-before2 .ensures) (p2 .put2 .ensures)) (p3 .put-part .ensures)) (p4 .put-byte .ensures)) (p5 .put-after .ensures)) (p6 .put-byte2 .ensures))
 
 pub put-around-spec : {M : Type 1} → statement M
 put-around-spec =
@@ -37,10 +37,8 @@ put-around-spec =
     (λ c κs. search needs)
     (λ c. search needs)
     (λ c κs. search needs)
-    (λ c. search needs)
     (λ c κs. search needs)
     (λ c κs. search needs)
-    (λ c. search needs)
     (λ c κs. search needs)
     (λ c. search needs)
     returns-2)

@@ -8,11 +8,11 @@ returns : tie.Need-returns
 unfolding refusedLine
 returns c =
     let p5 = c .before .before in
-    let p4 = p5 .before .before .before .before .before in
+    let p4 = p5 .before .before .before .before in
     let p3 = p4 .before .before .before .before in
     let p2 = p3 .before .before .before .before .before in
     let p1 = p2 .before .before .before .before .before in
-    wrote-then (wrote-then (wrote-then (wrote-then (p1 .put-labelled .ensures) (p2 .put-labelled2 .ensures)) (p3 .put .ensures)) (p4 .put-refusal .ensures)) (p5 .put2 .ensures)
+    wrote-then (wrote-then (wrote-then (wrote-then (p1 .put-labelled .ensures) (p2 .put-labelled2 .ensures)) (p3 .put .ensures)) (p4 .put-refusal .ensures)) (p5 .put-byte .ensures)
 
 pub put-refused-line-spec : {M : Type 1} → statement M
 put-refused-line-spec =
@@ -25,7 +25,6 @@ put-refused-line-spec =
     (λ c. search needs)
     (λ c κs. search needs)
     (λ c κs. search needs)
-    (λ c. search needs)
     (λ c κs. search needs)
     (λ c. search needs)
     returns)

@@ -8,10 +8,10 @@ returns : tie.Need-returns
 unfolding componentText
 returns c =
     let p4 = c .before .before in
-    let p3 = p4 .before .before .before .before .before in
+    let p3 = p4 .before .before .before .before in
     let p2 = p3 .before .before .before .before .before .before in
-    let p1 = p2 .before .before .before .before .before in
-    wrote-then (wrote-then (wrote-then (p1 .put-labelled .ensures) (p2 .put .ensures)) (p3 .put-part .ensures)) (p4 .put2 .ensures)
+    let p1 = p2 .before .before .before .before in
+    wrote-then (wrote-then (wrote-then (p1 .put-labelled .ensures) (p2 .put-spaces .ensures)) (p3 .put-part .ensures)) (p4 .put-byte .ensures)
 
 pub put-component-spec : {M : Type 1} → statement M
 put-component-spec =
@@ -19,7 +19,6 @@ put-component-spec =
     (tie.spec
     (λ c. search needs)
     (λ c κs. search needs)
-    (λ c. search needs)
     (λ c κs. search needs)
     (λ c. search needs)
     (λ c. search needs)
@@ -29,7 +28,6 @@ put-component-spec =
     (λ c. search needs)
     (λ c. search needs)
     (λ c κs. search needs)
-    (λ c. search needs)
     (λ c κs. search needs)
     (λ c. search needs)
     returns)

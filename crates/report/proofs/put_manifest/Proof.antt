@@ -7,20 +7,11 @@ use Rattle.report.proofs.put_manifest.Tie as tie
 returns : tie.Need-returns
 unfolding manifestText
 returns c =
-    let p3 = c .before .before in
-    let p2 = p3 .before .before .before .before .before in
-    let p1 = p2 .before .before .before .before .before in
-    wrote-then (wrote-then (p1 .put-labelled .ensures) (p2 .put-labelled2 .ensures)) (p3 .put .ensures)
+    let p2 = c .before .before in
+    let p1 = p2 .before .before .before .before in
+    wrote-then (p1 .put .ensures) (p2 .put-span .ensures)
 
 pub put-manifest-spec : {M : Type 1} → statement M
 put-manifest-spec =
     tie.close
-    (tie.spec
-    (λ c. search needs)
-    (λ c κs. search needs)
-    (λ c. search needs)
-    (λ c κs. search needs)
-    (λ c. search needs)
-    (λ c κs. search needs)
-    (λ c. search needs)
-    returns)
+    (tie.spec (λ c. search needs) (λ c κs. search needs) (λ c κs. search needs) (λ c. search needs) returns)
