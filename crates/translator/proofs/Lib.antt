@@ -1,4 +1,1 @@
-pub mod PlanLaws
-pub mod NameLaws
-pub mod SectionLaws
 pub mod TranslateLaws

@@ -27,8 +27,9 @@ use Rattle.sizing.specs.declared.sizes.Size.{Size}
 use Rattle.translator.specs.declared.Translated.the-variants.{Refused, Program}
 use Rattle.sizing.specs.Size.{most}
 use Rattle.record_writer.specs.Record.{written, Filled}
-use Rattle.translator.specs.Sections.{SectionsHere, SectionsSized, SectionsJob}
-use Rattle.translator.specs.Translate.{Translates, startBytes}
+use Rattle.program_parts.specs.Sections.{SectionsHere, SectionsSized, SectionsJob}
+use Rattle.program_parts.specs.Start.{startBytes}
+use Rattle.translator.specs.Translate.{Translates}
 use Rattle.rules.proofs.BytesLaws.{length-part}
 use Rattle.record_writer.proofs.FillLaws.{put-append, filled-length}
 

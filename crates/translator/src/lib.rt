@@ -1,47 +1,23 @@
 // Translate: the program of an accepted envelope's group, written to lent room.
-ghost use mathlib.Core.Path.{_≡_};
-ghost use Prim.Native.Nat.{_≤_, _<_};
 ghost use lib.ListN.{length};
-ghost use Rattle.rules.specs.Bytes.{put};
 ghost use Rattle.rules.specs.Program as Rule;
 ghost use Rattle.accepted.specs.Accepted.{Accepted};
-ghost use Rattle.translator.specs.Translate.{Translates, startBytes};
+ghost use Rattle.translator.specs.Translate.{Translates};
 use envelope::check;
 use envelope::report::Checked;
-use names::size_names;
-use names::write_names;
+use program_parts::names::size_names;
+use program_parts::names::write_names;
+use program_parts::sections::size_sections;
+use program_parts::sections::write_sections;
+use program_parts::start::START_BYTES;
+use program_parts::start::put_start;
 use rules::answers::Group;
 use rules::answers::Refusal;
-use sections::size_sections;
-use sections::write_sections;
-
-pub mod names;
-pub mod sections;
 
 // A refusal with its place, or how long the program is.
 pub enum Translated {
     Refused(Refusal, usize),
     Program(usize),
-}
-
-const START_BYTES: usize = 11;
-
-// `53 50 fe`, group, sequence number in 4, component count, record count in 2.
-fn put_start(room: &mut [u8], group: Group, number: usize, components: usize, records: usize)
-    requires { ⌜ (11 ≤ length (now room)) × (components < 256) ⌝ }
-    ensures { λ _. ⌜ now (room .exit) ≡ put (now (room .entry)) 0 (startBytes group number components records) ⌝ }
-{
-    room[0] = 0x53;
-    room[1] = 0x50;
-    room[2] = 0xfe;
-    room[3] = group.number();
-    room[4] = (number / 16777216 % 256) as u8;
-    room[5] = (number / 65536 % 256) as u8;
-    room[6] = (number / 256 % 256) as u8;
-    room[7] = (number % 256) as u8;
-    room[8] = components as u8;
-    room[9] = (records / 256 % 256) as u8;
-    room[10] = (records % 256) as u8;
 }
 
 // The program of an envelope that check has accepted, by what check reported.

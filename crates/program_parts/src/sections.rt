@@ -7,7 +7,7 @@ ghost use Rattle.rules.specs.Run.{planOf};
 ghost use Rattle.sizing.specs.Size.{SequenceHere, SequenceSized};
 ghost use Rattle.record_writer.specs.Record.{written, Wrote};
 ghost use Rattle.writer.specs.Write.{SequenceJob};
-ghost use Rattle.translator.specs.Sections.{SectionsHere, SectionsSized, SectionsJob, startOf};
+ghost use Rattle.program_parts.specs.Sections.{SectionsHere, SectionsSized, SectionsJob, startOf};
 use accepted::sections::wanted;
 use record_writer::record::NO_TARGET;
 use record_writer::record::Pen;

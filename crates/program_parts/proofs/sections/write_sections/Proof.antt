@@ -3,10 +3,10 @@ use mathlib.Core.Path.{_≡_, refl}
 use native.Mathlib.Omega.{arith}
 use lib.ListN.{length}
 use borrow.Author.Needs.{needs}
-use Rattle.translator.specs.Sections.{SectionsJob}
-use Rattle.translator.proofs.SectionLaws.{Writing, writing-starts, writing-done, writing-job, writing-on}
-use Rattle.translator.proofs.sections.write_sections.Statement.{statement}
-use Rattle.translator.proofs.sections.write_sections.Tie as tie
+use Rattle.program_parts.specs.Sections.{SectionsJob}
+use Rattle.program_parts.proofs.SectionLaws.{Writing, writing-starts, writing-done, writing-job, writing-on}
+use Rattle.program_parts.proofs.sections.write_sections.Statement.{statement}
+use Rattle.program_parts.proofs.sections.write_sections.Tie as tie
 
 abbrev Inv-loop : tie.InvT-loop
 Inv-loop s group sections to room₀ now₀ k₀ room now k =

@@ -1,10 +1,10 @@
 use Prim.Native.Nat.{_-_}
 use native.Mathlib.Omega.{arith}
 use borrow.Author.Needs.{needs}
-use Rattle.translator.specs.Sections.{SectionsHere}
-use Rattle.translator.proofs.SectionLaws.{Sizing, sizing-starts, sizing-done, sizing-job, sizing-on, sizing-adds}
-use Rattle.translator.proofs.sections.size_sections.Statement.{statement}
-use Rattle.translator.proofs.sections.size_sections.Tie as tie
+use Rattle.program_parts.specs.Sections.{SectionsHere}
+use Rattle.program_parts.proofs.SectionLaws.{Sizing, sizing-starts, sizing-done, sizing-job, sizing-on, sizing-adds}
+use Rattle.program_parts.proofs.sections.size_sections.Statement.{statement}
+use Rattle.program_parts.proofs.sections.size_sections.Tie as tie
 
 abbrev Inv-loop : tie.InvT-loop
 Inv-loop s group sections now₀ k₀ now k = (j : SectionsHere s sections) → Sizing s group sections j k now

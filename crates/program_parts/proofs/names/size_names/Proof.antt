@@ -5,9 +5,9 @@ use lib.ListN.{length}
 use borrow.Author.Needs.{needs}
 use Rattle.rules.specs.Bytes.{Bytes}
 use Rattle.identifiers.specs.Identifiers.{InBytes}
-use Rattle.translator.proofs.NameLaws.{named, namesLeft, names-all, names-none, left-size}
-use Rattle.translator.proofs.names.size_names.Statement.{statement}
-use Rattle.translator.proofs.names.size_names.Tie as tie
+use Rattle.program_parts.proofs.NameLaws.{named, namesLeft, names-all, names-none, left-size}
+use Rattle.program_parts.proofs.names.size_names.Statement.{statement}
+use Rattle.program_parts.proofs.names.size_names.Tie as tie
 
 abbrev Inv-loop : tie.InvT-loop
 Inv-loop ids n sum₀ k₀ sum k =

@@ -6,8 +6,8 @@ use lib.Seq.{length-sets}
 use borrow.Author.Needs.{needs}
 use Rattle.rules.specs.Bytes.{part}
 use Rattle.rules.proofs.BytesLaws.{length-part}
-use Rattle.translator.proofs.names.put_name.Statement.{statement}
-use Rattle.translator.proofs.names.put_name.Tie as tie
+use Rattle.program_parts.proofs.names.put_name.Statement.{statement}
+use Rattle.program_parts.proofs.names.put_name.Tie as tie
 
 returns : tie.Need-returns
 returns c =

@@ -5,9 +5,9 @@ use native.Mathlib.Omega.{arith}
 use lib.ListN.{length}
 use borrow.Author.Needs.{needs}
 use Rattle.rules.specs.Bytes.{put}
-use Rattle.translator.proofs.NameLaws.{named, namesLeft, names-all, names-none, left-size, left-put, left-next}
-use Rattle.translator.proofs.names.write_names.Statement.{statement}
-use Rattle.translator.proofs.names.write_names.Tie as tie
+use Rattle.program_parts.proofs.NameLaws.{named, namesLeft, names-all, names-none, left-size, left-put, left-next}
+use Rattle.program_parts.proofs.names.write_names.Statement.{statement}
+use Rattle.program_parts.proofs.names.write_names.Tie as tie
 
 abbrev Inv-loop : tie.InvT-loop
 Inv-loop s ids n room₀ at to₀ k₀ room to k =

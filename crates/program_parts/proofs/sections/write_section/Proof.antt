@@ -3,8 +3,8 @@ use borrow.Author.Needs.{needs}
 use borrow.Author.Tests.{not-true, not-false}
 use Rattle.accepted.proofs.SectionPlaces.{one-answer}
 use Rattle.writer.proofs.WriteLaws.{wrote-at}
-use Rattle.translator.proofs.sections.write_section.Statement.{statement}
-use Rattle.translator.proofs.sections.write_section.Tie as tie
+use Rattle.program_parts.proofs.sections.write_section.Statement.{statement}
+use Rattle.program_parts.proofs.sections.write_section.Tie as tie
 
 skip : tie.Need-returns
 skip c = ((λ w. one-answer _ w (not-true _ (c .if1 .taken))), λ w. (refl, refl))

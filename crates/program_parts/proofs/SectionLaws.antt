@@ -20,9 +20,9 @@ use Rattle.record_writer.specs.declared.record.Pen.{Pen}
 use Rattle.sizing.specs.Size.{most, SequenceHere, SequenceSized}
 use Rattle.record_writer.specs.Record.{written, Wrote}
 use Rattle.writer.specs.Write.{SequenceJob}
-use Rattle.translator.specs.Sections.{SectionsHere, SectionsSized, startOf}
+use Rattle.program_parts.specs.Sections.{SectionsHere, SectionsSized, startOf}
 use Rattle.accepted.proofs.SectionPlaces.{Wanted}
-use Rattle.translator.proofs.PlanLaws.{PlanAt, seqsOf, plan-start, plan-end, Skipped, skip, Taken, take}
+use Rattle.program_parts.proofs.PlanLaws.{PlanAt, seqsOf, plan-start, plan-end, Skipped, skip, Taken, take}
 use Rattle.writer.proofs.WriteLaws.{bytes-seq, wrote-none, wrote-then, same-room}
 
 size-first : (a : Seq) (xs : List Seq) → (sizeAll (a ∷ xs) ≡ size a + sizeAll xs) × (argSizeAll (a ∷ xs) ≡ argSize a + argSizeAll xs)

@@ -1,8 +1,8 @@
 use mathlib.Core.Path.{refl}
 use borrow.Author.Tests.{not-true, not-false}
 use Rattle.accepted.proofs.SectionPlaces.{one-answer}
-use Rattle.translator.proofs.sections.size_section.Statement.{statement}
-use Rattle.translator.proofs.sections.size_section.Tie as tie
+use Rattle.program_parts.proofs.sections.size_section.Statement.{statement}
+use Rattle.program_parts.proofs.sections.size_section.Tie as tie
 
 skip : tie.Need-returns
 skip c = ((λ w. one-answer _ w (not-true _ (c .if1 .taken))), λ w. (refl, refl))

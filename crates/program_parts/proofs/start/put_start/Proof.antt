@@ -1,9 +1,9 @@
 use native.Mathlib.Omega.{arith}
 use lib.ListN.{length-set}
 use borrow.Author.Needs.{needs}
-use Rattle.translator.specs.Translate.{startBytes}
-use Rattle.translator.proofs.put_start.Statement.{statement}
-use Rattle.translator.proofs.put_start.Tie as tie
+use Rattle.program_parts.specs.Start.{startBytes}
+use Rattle.program_parts.proofs.start.put_start.Statement.{statement}
+use Rattle.program_parts.proofs.start.put_start.Tie as tie
 
 returns : tie.Need-returns
 unfolding startBytes
