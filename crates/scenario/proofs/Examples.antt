@@ -7,7 +7,8 @@ use lib.ListN.{replicate}
 use Rattle.rules.specs.Bytes.{Bytes}
 use Rattle.text.specs.Text.{ascii}
 use Rattle.words.specs.Words.{until, lines, trim, word, rest, oneMore, numberFrom, number, digit, allDigits, unhex, bytes, isBytes, upToBytes}
-use Rattle.scenario.specs.Scenario.{isImage, image, isState, isSlot, identifier, slot, status, isAnswer, answer, start, verdictLine, vendorLine, classLine, numberLine, eventLine, setting, Said, slotLine, answerLine, line, linesFrom, described}
+use Rattle.slot_text.specs.SlotText.{isImage, image, isState, isSlot, identifier, slot, status, isAnswer, answer}
+use Rattle.scenario.specs.Scenario.{start, verdictLine, vendorLine, classLine, numberLine, eventLine, setting, Said, slotLine, answerLine, line, linesFrom, described}
 
 -- lines, each with its end
 abbrev pub text : List String → Bytes

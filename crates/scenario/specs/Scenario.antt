@@ -1,63 +1,15 @@
 -- Device descriptions: the input of a run (01, How a run goes) as a text. docs/DEPOT.md has the format.
-use Prim.Native.Nat.{ℕ, suc, _+_, _-_, _/_, _%_}
+use Prim.Native.Nat.{ℕ, suc, _+_}
 use mathlib.Core.Path.{_≡_}
 use mathlib.Core.Bool.{Bool, true, false, cond}
 use mathlib.Core.List.{List, [], _∷_, _++_}
-use lib.Dec.{eqb, ltb, leb}
-use lib.ListN.{length, replicate}
-use Rattle.rules.specs.Bytes.{Bytes, be4, same, put}
+use lib.Dec.{eqb, leb}
+use Rattle.rules.specs.Bytes.{Bytes, same, put}
 use Rattle.rules.specs.Slots.{slotBytes, answerBytes}
 use Rattle.text.specs.Text.{ascii}
-use Rattle.words.specs.Words.{lines, trim, word, rest, none, number, isNumber, bytes, isBytes, upToBytes}
+use Rattle.words.specs.Words.{lines, trim, word, rest, number, isNumber, bytes, isBytes}
+use Rattle.slot_text.specs.SlotText.{zeros, isSlot, slot, isAnswer, answer}
 use Rattle.scenario.specs.declared.Scenario.{Scenario}
-
-abbrev pub zeros : ℕ → Bytes
-zeros n = replicate n 0
-
--- an image: SIZE DIGEST
-unfoldable pub isImage : Bytes → Bool
-isImage t = cond (isNumber (word t)) (isBytes 32 (rest t)) false
-
--- one that is left out has size 0 and a digest of zeros
-unfoldable pub image : Bytes → Bytes
-image t = cond (eqb (length t) 0) (zeros 36) (be4 (number (word t)) ++ bytes (rest t))
-
--- a slot: IDENTIFIER CAPACITY present IMAGE, or IDENTIFIER CAPACITY absent, and an image or none
-unfoldable pub isState : Bytes → Bytes → Bool
-isState w t =
-    cond (same w (ascii "present")) (isImage t)
-    (cond (same w (ascii "absent")) (cond (eqb (length t) 0) true (isImage t))
-    false)
-
-unfoldable pub isSlot : Bytes → Bool
-isSlot t =
-    cond (upToBytes 32 (word t))
-    (cond (isNumber (word (rest t)))
-    (isState (word (rest (rest t))) (rest (rest (rest t))))
-    false)
-    false
-
-abbrev pub presence : Bytes → ℕ
-presence w = cond (same w (ascii "present")) 1 0
-
--- its identifier in 33 bytes, the length first
-unfoldable pub identifier : Bytes → Bytes
-identifier w = (length w / 2 % 256 ∷ []) ++ bytes w ++ zeros (32 - length w / 2)
-
--- its 74 bytes (the layout of rules, Slots)
-unfoldable pub slot : Bytes → Bytes
-slot t =
-    identifier (word t) ++ be4 (number (word (rest t))) ++ (presence (word (rest (rest t))) ∷ []) ++ image (rest (rest (rest t)))
-
--- an answer: STATUS IMAGE, and its 37 bytes; the status is good, bad or a number below 256
-unfoldable pub status : Bytes → ℕ
-status w = cond (same w (ascii "good")) 0 (cond (same w (ascii "bad")) 1 (number w))
-
-unfoldable pub isAnswer : Bytes → Bool
-isAnswer t = cond (ltb (status (word t)) 256) (isImage (rest t)) false
-
-unfoldable pub answer : Bytes → Bytes
-answer t = (status (word t) % 256 ∷ []) ++ image (rest t)
 
 -- what a text says before its first line
 unfoldable pub start : Scenario

@@ -5,11 +5,11 @@ ghost use lib.Dec.{leb};
 ghost use lib.ListN.{length};
 ghost use Rattle.rules.specs.Bytes.{put};
 ghost use Rattle.scenario.specs.Scenario as Rule;
-use crate::put::put_answer;
-use crate::put::put_slot;
-use crate::put::sixteen;
-use crate::shape::is_answer;
-use crate::shape::is_slot;
+use slot_text::put::put_answer;
+use slot_text::put::put_slot;
+use slot_text::put::sixteen;
+use slot_text::shape::is_answer;
+use slot_text::shape::is_slot;
 use slots::image::IMAGE_BYTES;
 use slots::slot::SLOT_BYTES;
 use words::is;
@@ -20,9 +20,6 @@ use words::read::decimal;
 use words::read::is_bytes;
 use words::rest;
 use words::word;
-
-mod put;
-mod shape;
 
 // '#'.
 const COMMENT: u8 = 35;

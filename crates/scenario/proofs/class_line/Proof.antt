@@ -3,7 +3,7 @@ use mathlib.Core.Bool.{true, false}
 use borrow.Author.Needs.{needs}
 use Rattle.words.specs.Words as Words
 use Rattle.scenario.specs.Scenario as Rule
-use Rattle.scenario.proofs.ScenarioLaws.{sixteen-all}
+use Rattle.slot_text.proofs.LengthLaws.{sixteen-all}
 use Rattle.scenario.proofs.class_line.Statement.{statement}
 use Rattle.scenario.proofs.class_line.Tie as tie
 
