@@ -1,18 +1,16 @@
 -- Items one after the other, and what is written in parts.
 use Prim.Native.Nat.{ℕ, zero, suc, _+_, _-_, _≤_, _<_}
 use mathlib.Core.Path.{_≡_, refl, sym, _∙_}
-use mathlib.Core.List.{[], _∷_, _++_}
+use mathlib.Core.List.{[], _++_}
 use mathlib.Core.Bool.{Bool, true, false}
 use lib.Dec.{leb}
-use lib.ListN.{length, getD, take, drop, replicate, length-drop}
-use lib.Seq.{sets, length-sets, take-all, drop-cons, drop-nil}
+use lib.ListN.{length, take, drop, replicate, length-drop}
+use lib.Seq.{sets, length-sets, take-all}
 use native.Mathlib.Omega.{arith}
-use native.Mathlib.Numerals.{add-one}
 use borrow.Author.Tests.{leb-true, leb-false, lt-ltb, le-ltb, eq-eqb, ne-eqb}
 use Rattle.text.specs.Text.{Bytes, Wrote, least}
 use Rattle.text.proofs.TextLaws.{sets-past, wrote-none, wrote-then, wrote-length}
 use Rattle.listing.specs.Items.{sizeIn, itemsText, afterItems}
-use Rattle.listing.specs.Listing.{visible, shown}
 
 pub size-short : (s : Bytes) (head more : ℕ) → length s < head → sizeIn s head more ≡ 0
 unfolding sizeIn
@@ -187,22 +185,3 @@ wrote-wide {a} {at} {room} {p} {room₁} {k} {q} {room₂} width f e g = wrote-t
     go : (t : Bool) → leb (at + length a) (length room) ≡ t → Wrote (replicate (width - length a) 32) p room₁ q room₂
     go true h = fits (leb-true _ _ h)
     go false h = past (leb-false _ _ h)
-
--- one byte more of a text that is shown
-pub visible-more : (s : Bytes) (i b : ℕ) → i < length s → b ≡ shown (getD s i 0) → visible (drop i s) ≡ (b ∷ []) ++ visible (drop (i + 1) s)
-unfolding visible
-visible-more s i b h e = rw (add-one i, drop-cons s i 0 h, e)
-
-pub visible-none : (s : Bytes) (i : ℕ) → length s ≤ i → visible (drop i s) ≡ []
-unfolding visible
-visible-none s i h =
-    let e : drop i s ≡ [] = all s i h in
-    rw e
-  where
-    all : (s : Bytes) (i : ℕ) → length s ≤ i → drop i s ≡ []
-    all [] i h = drop-nil i
-    all (x ∷ s) zero h = absurd (none h)
-      where
-        none : suc (length s) ≤ 0 → ⊥
-        none l = omega arith
-    all (x ∷ s) (suc i) h = all s i (omega arith)

@@ -1,10 +1,10 @@
 -- The text of a program: a line for the program, for each component, each record and each parameter (01, The flat program).
 use Prim.Native.Nat.{ℕ, _+_, _*_}
 use mathlib.Core.Bool.{cond}
-use mathlib.Core.List.{[], _∷_, _++_}
+use mathlib.Core.List.{[], _++_}
 use lib.Dec.{eqb, ltb}
 use lib.ListN.{length, getD, take, drop, replicate}
-use Rattle.text.specs.Text.{Bytes, ascii, decimal, padded, hex}
+use Rattle.text.specs.Text.{Bytes, ascii, decimal, padded, hex, quoted}
 use Rattle.wording.specs.Words.{wide, commandWords, parameterWords}
 use Rattle.listing.specs.Items.{sizeIn, itemsText, afterItems}
 
@@ -19,24 +19,13 @@ fourAt s at = ((getD s at 0 * 256 + getD s (at + 1) 0) * 256 + getD s (at + 2) 0
 abbrev pub indent : Bytes
 indent = replicate 12 32
 
--- ASCII as it is, and a point for any other byte
-abbrev pub shown : ℕ → ℕ
-shown b = cond (ltb b 32) 46 (cond (ltb 126 b) 46 b)
-
-unfoldable pub visible : Bytes → Bytes
-visible [] = []
-visible (b ∷ bs) = shown b ∷ visible bs
-
 -- a number of one byte or four
 unfoldable pub numberText : Bytes → Bytes
 numberText v = cond (eqb (length v) 4) (decimal (fourAt v 0)) (cond (eqb (length v) 1) (decimal (getD v 0 0)) (hex v))
 
-unfoldable pub quotedText : Bytes → Bytes
-quotedText v = ascii "\"" ++ visible v ++ ascii "\""
-
 -- the value of a parameter: 6 the URI, 11 the digest
 unfoldable pub valueText : ℕ → Bytes → Bytes
-valueText key v = cond (eqb key 6) (quotedText v) (cond (eqb key 11) (hex v) (numberText v))
+valueText key v = cond (eqb key 6) (quoted v) (cond (eqb key 11) (hex v) (numberText v))
 
 -- 'key 1, length 1, value'
 unfoldable pub parameterSize : Bytes → ℕ

@@ -3,14 +3,13 @@ ghost use mathlib.Core.Path.{_≡_};
 ghost use Prim.Native.Nat.{_+_, _≤_};
 ghost use lib.ListN.{length, getD};
 ghost use Rattle.text.specs.Text.{Wrote};
-ghost use Rattle.listing.specs.Listing.{visible, quotedText, numberText, valueText, parameterSize, parameterText, strayText, parametersText};
-ghost use Rattle.listing.specs.Listing.{shown as Listing·shown};
+ghost use Rattle.listing.specs.Listing.{numberText, valueText, parameterSize, parameterText, strayText, parametersText};
 use numbers::four;
 use numbers::wide;
 use text::put;
-use text::put_byte;
 use text::put_decimal;
 use text::put_hex;
+use text::put_quoted;
 use text::put_spaces;
 
 // The bytes of a parameter before its value.
@@ -25,39 +24,6 @@ const DIGEST: usize = 11;
 
 // The spaces before what stands below a record.
 pub const INDENT: usize = 12;
-
-// ASCII as it is, and a point for any other byte.
-fn shown(b: u8) -> u8
-    ensures { λ r. ⌜ r ≡ Listing·shown b ⌝ }
-{
-    if b < 32 {
-        return 46;
-    }
-    if 126 < b {
-        return 46;
-    }
-    b
-}
-
-fn put_visible(room: &mut [u8], at: usize, s: &[u8]) -> usize
-    ensures { λ r. ⌜ Wrote (visible (now (s .entry))) at (now (room .entry)) r (now (room .exit)) ⌝ }
-{
-    let mut to = at;
-    let mut i = 0;
-    while i < s.len() {
-        to = put_byte(room, to, shown(s[i]));
-        i += 1;
-    }
-    to
-}
-
-fn put_quoted(room: &mut [u8], at: usize, s: &[u8]) -> usize
-    ensures { λ r. ⌜ Wrote (quotedText (now (s .entry))) at (now (room .entry)) r (now (room .exit)) ⌝ }
-{
-    let a = put(room, at, b"\"");
-    let b = put_visible(room, a, s);
-    put(room, b, b"\"")
-}
 
 // A number of one byte or four.
 fn put_number(room: &mut [u8], at: usize, s: &[u8]) -> usize

@@ -1,24 +1,12 @@
 -- What is shown one after the other.
-use Prim.Native.Nat.{ℕ, _+_, _≤_, _<_}
+use Prim.Native.Nat.{ℕ}
 use mathlib.Core.Path.{_≡_, refl, sym, ap, _∙_}
-use mathlib.Core.List.{[], _∷_, _++_, map, map-append, append-assoc, append-nil}
-use native.Mathlib.Numerals.{add-one}
-use lib.ListN.{length, take, getD}
-use lib.Seq.{take-suc, take-all}
+use mathlib.Core.List.{[], _++_, append-assoc, append-nil}
+use lib.ListN.{length}
 use Rattle.text.specs.Text.{Bytes, Wrote}
 use Rattle.text.proofs.TextLaws.{wrote-none, wrote-then, wrote-length}
 use Rattle.show.specs.declared.walk.Put.{Put}
 use Rattle.show.specs.Shown.{Shown, none, behind, andThen, Shows}
-
--- one byte more of s, each as f gives it
-pub map-next : (f : ℕ → ℕ) (s : Bytes) (i : ℕ) {at : ℕ} {room : Bytes} {p : ℕ} {room₁ : Bytes} {q : ℕ} {room₂ : Bytes} → i < length s →
-    Wrote (map f (take i s)) at room p room₁ → Wrote (f (getD s i 0) ∷ []) p room₁ q room₂ → Wrote (map f (take (i + 1) s)) at room q room₂
-map-next f s i h w x = rw (add-one i, take-suc s i 0 h, map-append f (take i s) (getD s i 0 ∷ [])) (wrote-then w x)
-
--- and all of them
-pub map-all : (f : ℕ → ℕ) (s : Bytes) (i : ℕ) {at : ℕ} {room : Bytes} {p : ℕ} {room₁ : Bytes} → length s ≤ i → Wrote (map f (take i s)) at room p room₁ →
-    Wrote (map f s) at room p room₁
-map-all f s i h w = rw (take-all i s h) at w
 
 -- what was written so far, and x, which is left, make the whole
 pub record Rest (whole : Shown) (to : ℕ) (room : Bytes) (x : Shown) (end : ℕ) (room′ : Bytes) : Type 0 where

@@ -1,12 +1,12 @@
 -- The pieces of a line.
 use Prim.Native.Nat.{ℕ, _-_, _*_}
 use mathlib.Core.Bool.{cond}
-use mathlib.Core.List.{[], _∷_, _++_, map}
+use mathlib.Core.List.{[], _∷_, _++_}
 use lib.Dec.{eqb, ltb}
 use lib.ListN.{length, replicate}
 use Rattle.rules.specs.Bytes.{Bytes, part}
 use Rattle.rules.specs.Cbor.{NUMBER, BYTES, TEXT, ARRAY, MAP, FALSE, TRUE, NIL}
-use Rattle.text.specs.Text.{ascii, decimal, padded, hex}
+use Rattle.text.specs.Text.{ascii, decimal, padded, hex, quoted}
 use Rattle.wording.specs.Words.{commandWords, parameterWords}
 use Rattle.show.specs.declared.items.Item.{Item}
 
@@ -28,13 +28,6 @@ codeText n = ascii " (" ++ decimal n ++ ascii ")"
 -- a command's place, name and code
 unfoldable pub titleText : ℕ → ℕ → ℕ → Bytes
 titleText depth at code = padded 6 at ++ marginText 2 depth ++ commandWords code ++ codeText code
-
--- a byte of a text: a dot where it is none of ASCII's that print
-abbrev pub printable : ℕ → ℕ
-printable b = cond (ltb b 32) 46 (cond (ltb 126 b) 46 b)
-
-unfoldable pub quoted : Bytes → Bytes
-quoted b = (34 ∷ []) ++ map printable b ++ (34 ∷ [])
 
 -- the string from `from` to `to`: a text in quotes, any other in hexadecimal
 unfoldable pub stringText : Bytes → ℕ → ℕ → ℕ → Bytes

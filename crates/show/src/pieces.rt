@@ -1,22 +1,18 @@
 // The pieces of a line.
 ghost use mathlib.Core.Path.{_≡_};
-ghost use mathlib.Core.List.{map};
 ghost use Prim.Native.Nat.{_-_, _*_};
 ghost use Rattle.text.specs.Text.{Wrote};
-ghost use Rattle.show.specs.Pieces.{marginText, codeText, titleText, printable as Pieces·printable, quoted, stringText, itemText, countText, argumentText, alternativeText, parameterText};
+ghost use Rattle.show.specs.Pieces.{marginText, codeText, titleText, stringText, itemText, countText, argumentText, alternativeText, parameterText};
 use crate::items::Item;
 use text::put;
 use text::put_byte;
 use text::put_decimal;
 use text::put_hex;
 use text::put_padded;
+use text::put_quoted;
 use text::put_spaces;
 
 pub const NEWLINE: u8 = 10;
-
-const QUOTE: u8 = 34;
-
-const DOT: u8 = 46;
 
 // Two columns for each level.
 fn indent(depth: usize) -> usize
@@ -51,38 +47,6 @@ pub fn put_title(room: &mut [u8], at: usize, depth: usize, place: usize, code: u
     let b = put_margin(room, a, 2, depth);
     let c = wording::put_command(room, b, code);
     put_code(room, c, code)
-}
-
-fn printable(b: u8) -> u8
-    ensures { λ r. ⌜ r ≡ Pieces·printable b ⌝ }
-{
-    if b < 32 {
-        return DOT;
-    }
-    if 126 < b {
-        return DOT;
-    }
-    b
-}
-
-fn put_printed(room: &mut [u8], at: usize, s: &[u8]) -> usize
-    ensures { λ r. ⌜ Wrote (map Pieces·printable (now (s .entry))) at (now (room .entry)) r (now (room .exit)) ⌝ }
-{
-    let mut to = at;
-    let mut i = 0;
-    while i < s.len() {
-        to = put_byte(room, to, printable(s[i]));
-        i += 1;
-    }
-    to
-}
-
-fn put_quoted(room: &mut [u8], at: usize, s: &[u8]) -> usize
-    ensures { λ r. ⌜ Wrote (quoted (now (s .entry))) at (now (room .entry)) r (now (room .exit)) ⌝ }
-{
-    let a = put_byte(room, at, QUOTE);
-    let b = put_printed(room, a, s);
-    put_byte(room, b, QUOTE)
 }
 
 // The string from `from` to `end`: a text in quotes, any other in hexadecimal.

@@ -1,7 +1,7 @@
 -- What is written one after the other.
 use Prim.Native.Nat.{ℕ, zero, suc, _+_, _-_, _/_, _%_, _≤_, _<_}
 use mathlib.Core.Path.{_≡_, refl, sym, ap, _∙_}
-use mathlib.Core.List.{List, [], _∷_, _++_}
+use mathlib.Core.List.{List, [], _∷_, _++_, map, map-append}
 use mathlib.Core.Bool.{Bool, true, false, cond}
 use lib.Dec.{leb, ltb}
 use borrow.Author.Tests.{leb-true, leb-false, lt-ltb, le-ltb}
@@ -92,6 +92,16 @@ wrote-again x n f g = rw (add-one n, ← more x n) (wrote-then f g)
     more : (x n : ℕ) → replicate n x ++ (x ∷ []) ≡ x ∷ replicate n x
     more x zero = refl
     more x (suc n) = ap (λ (l : Bytes). x ∷ l) (more x n)
+
+-- one byte more of s, each as f gives it
+pub map-next : (f : ℕ → ℕ) (s : Bytes) (i : ℕ) {at : ℕ} {room : Bytes} {p : ℕ} {room₁ : Bytes} {q : ℕ} {room₂ : Bytes} → i < length s →
+    Wrote (map f (take i s)) at room p room₁ → Wrote (f (getD s i 0) ∷ []) p room₁ q room₂ → Wrote (map f (take (i + 1) s)) at room q room₂
+map-next f s i h w x = rw (add-one i, take-suc s i 0 h, map-append f (take i s) (getD s i 0 ∷ [])) (wrote-then w x)
+
+-- and all of them
+pub map-all : (f : ℕ → ℕ) (s : Bytes) (i : ℕ) {at : ℕ} {room : Bytes} {p : ℕ} {room₁ : Bytes} → length s ≤ i → Wrote (map f (take i s)) at room p room₁ →
+    Wrote (map f s) at room p room₁
+map-all f s i h w = rw (take-all i s h) at w
 
 pub hex-append : (a b : Bytes) → hex (a ++ b) ≡ hex a ++ hex b
 unfolding hex

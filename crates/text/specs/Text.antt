@@ -4,7 +4,7 @@ use Prim.Native.Char.{code}
 use Prim.Native.String.{String, [] as []ᵗ, _∷_ as _∷ᵗ_}
 use mathlib.Core.Path.{_≡_}
 use mathlib.Core.Bool.{cond}
-use mathlib.Core.List.{List, [], _∷_, _++_}
+use mathlib.Core.List.{List, [], _∷_, _++_, map}
 use lib.Dec.{ltb}
 use lib.ListN.{length, replicate}
 use lib.Seq.{sets}
@@ -46,3 +46,11 @@ padded width n = replicate (width - length (decimal n)) 32 ++ decimal n
 unfoldable pub hex : Bytes → Bytes
 hex [] = []
 hex (b ∷ bs) = digit (b / 16) ∷ digit (b % 16) ∷ hex bs
+
+-- ASCII that prints as it is, and a point for any other byte
+abbrev pub printable : ℕ → ℕ
+printable b = cond (ltb b 32) 46 (cond (ltb 126 b) 46 b)
+
+-- a text in quotes
+unfoldable pub quoted : Bytes → Bytes
+quoted b = (34 ∷ []) ++ map printable b ++ (34 ∷ [])

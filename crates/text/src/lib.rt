@@ -1,15 +1,19 @@
 // Text in lent room. Each function writes from `at` on, as far as the room goes, and gives the place after what it wrote.
 ghost use mathlib.Core.Path.{_≡_};
-ghost use mathlib.Core.List.{[], _∷_};
+ghost use mathlib.Core.List.{[], _∷_, map};
 ghost use Prim.Native.Nat.{_<_};
 ghost use lib.ListN.{length, replicate};
-ghost use Rattle.text.specs.Text.{Wrote, decimal, padded, hex};
-ghost use Rattle.text.specs.Text.{digits as Text·digits, digit as Text·digit};
+ghost use Rattle.text.specs.Text.{Wrote, decimal, padded, hex, quoted};
+ghost use Rattle.text.specs.Text.{digits as Text·digits, digit as Text·digit, printable as Text·printable};
 
 // A decimal number of 64 bits.
 const DIGITS: usize = 20;
 
 const SPACE: u8 = 32;
+
+const QUOTE: u8 = 34;
+
+const POINT: u8 = 46;
 
 pub fn put_byte(room: &mut [u8], at: usize, b: u8) -> usize
     ensures { λ r. ⌜ Wrote (b ∷ []) at (now (room .entry)) r (now (room .exit)) ⌝ }
@@ -118,4 +122,37 @@ fn put_hex_byte(room: &mut [u8], at: usize, b: u8) -> usize
     let n = b as usize;
     let to = put_byte(room, at, digit(n / 16));
     put_byte(room, to, digit(n % 16))
+}
+
+fn printable(b: u8) -> u8
+    ensures { λ r. ⌜ r ≡ Text·printable b ⌝ }
+{
+    if b < 32 {
+        return POINT;
+    }
+    if 126 < b {
+        return POINT;
+    }
+    b
+}
+
+fn put_printed(room: &mut [u8], at: usize, s: &[u8]) -> usize
+    ensures { λ r. ⌜ Wrote (map Text·printable (now (s .entry))) at (now (room .entry)) r (now (room .exit)) ⌝ }
+{
+    let mut to = at;
+    let mut i = 0;
+    while i < s.len() {
+        to = put_byte(room, to, printable(s[i]));
+        i += 1;
+    }
+    to
+}
+
+// A text in quotes.
+pub fn put_quoted(room: &mut [u8], at: usize, s: &[u8]) -> usize
+    ensures { λ r. ⌜ Wrote (quoted (now (s .entry))) at (now (room .entry)) r (now (room .exit)) ⌝ }
+{
+    let a = put_byte(room, at, QUOTE);
+    let b = put_printed(room, a, s);
+    put_byte(room, b, QUOTE)
 }

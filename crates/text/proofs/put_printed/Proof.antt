@@ -1,13 +1,11 @@
 use Prim.Native.Nat.{_-_, _≤_}
 use mathlib.Core.List.{map}
 use lib.ListN.{length, take}
-use Rattle.text.specs.Text.{Wrote}
-use Rattle.text.proofs.TextLaws.{wrote-none, wrote-length}
-use Rattle.show.specs.Pieces.{printable}
-use Rattle.show.proofs.ShownLaws.{map-next, map-all}
+use Rattle.text.specs.Text.{Wrote, printable}
+use Rattle.text.proofs.TextLaws.{wrote-none, wrote-length, map-next, map-all}
 use borrow.Author.Needs.{needs}
-use Rattle.show.proofs.pieces.put_printed.Statement.{statement}
-use Rattle.show.proofs.pieces.put_printed.Tie as tie
+use Rattle.text.proofs.put_printed.Statement.{statement}
+use Rattle.text.proofs.put_printed.Tie as tie
 
 -- The invariant: the bytes passed were written.
 abbrev Inv-loop : tie.InvT-loop

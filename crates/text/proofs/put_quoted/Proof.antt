@@ -1,8 +1,8 @@
 use Rattle.text.proofs.TextLaws.{wrote-then}
-use Rattle.show.specs.Pieces.{quoted}
+use Rattle.text.specs.Text.{quoted}
 use borrow.Author.Needs.{needs}
-use Rattle.show.proofs.pieces.put_quoted.Statement.{statement}
-use Rattle.show.proofs.pieces.put_quoted.Tie as tie
+use Rattle.text.proofs.put_quoted.Statement.{statement}
+use Rattle.text.proofs.put_quoted.Tie as tie
 
 returns : tie.Need-returns
 unfolding quoted

@@ -1,6 +1,6 @@
 use borrow.Author.Tests.{lt-ltb, le-ltb}
-use Rattle.show.proofs.pieces.printable.Statement.{statement}
-use Rattle.show.proofs.pieces.printable.Tie as tie
+use Rattle.text.proofs.printable.Statement.{statement}
+use Rattle.text.proofs.printable.Tie as tie
 
 returns : tie.Need-returns
 returns c = rw (lt-ltb _ _ (c .if1 .taken))
