@@ -4,16 +4,14 @@ ghost use lib.ListN.{length};
 ghost use Rattle.text.specs.Text.{Wrote};
 ghost use Rattle.listing.specs.Listing.{countText, groupText, countsText, startText, programText};
 
-pub mod components;
-pub mod parameters;
-pub mod records;
+mod components;
 
 use components::after_components;
 use components::put_components;
 use numbers::four;
 use numbers::two;
 use numbers::wide;
-use records::put_records;
+use record_lines::put_records;
 use text::put;
 use text::put_decimal;
 

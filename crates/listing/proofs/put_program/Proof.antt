@@ -3,7 +3,7 @@ use lib.ListN.{length}
 use borrow.Author.Tests.{lt-ltb, le-ltb}
 use Rattle.listing.specs.Listing.{programText}
 use Rattle.text.proofs.TextLaws.{wrote-then}
-use Rattle.listing.proofs.ListingLaws.{from-drop}
+use Rattle.argument_lines.proofs.ItemLaws.{from-drop}
 use borrow.Author.Needs.{needs}
 use Rattle.listing.proofs.put_program.Statement.{statement}
 use Rattle.listing.proofs.put_program.Tie as tie

@@ -2,8 +2,9 @@
 use Prim.Native.Nat.{_-_}
 use mathlib.Core.Path.{_∙_}
 use lib.ListN.{getD}
-use Rattle.listing.specs.Listing.{componentSize, componentText, missingText, componentsText}
-use Rattle.listing.proofs.ListingLaws.{Going, size-lies, going-start, going-length, going-more, going-missing, going-end}
+use Rattle.listing.specs.Listing.{componentSize, componentText, componentsText}
+use Rattle.record_lines.specs.Lines.{missingText}
+use Rattle.argument_lines.proofs.ItemLaws.{Going, size-lies, going-start, going-length, going-more, going-missing, going-end}
 use Rattle.text.proofs.TextLaws.{wrote-length}
 use borrow.Author.Needs.{needs}
 use Rattle.listing.proofs.components.put_components.Statement.{statement}

@@ -1,7 +1,7 @@
 use mathlib.Core.Path.{sym}
 use lib.ListN.{getD}
 use Rattle.listing.specs.Listing.{componentSize}
-use Rattle.listing.proofs.ListingLaws.{size-short, size-past, size-whole}
+use Rattle.argument_lines.proofs.ItemLaws.{size-short, size-past, size-whole}
 use borrow.Author.Needs.{needs}
 use Rattle.listing.proofs.components.size_of.Statement.{statement}
 use Rattle.listing.proofs.components.size_of.Tie as tie

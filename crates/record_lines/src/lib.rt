@@ -1,0 +1,157 @@
+// The lines of a program's records: commands and jumps.
+ghost use mathlib.Core.Path.{_≡_};
+ghost use Prim.Native.Nat.{_+_, _-_, _≤_};
+ghost use lib.ListN.{length};
+ghost use Rattle.text.specs.Text.{Wrote};
+ghost use Rattle.wording.specs.Words.{wide as Words·wide};
+ghost use Rattle.argument_lines.specs.Items.{twoAt};
+ghost use Rattle.record_lines.specs.Lines.{nameText, lineText, targetText, failureText, jumpText, recordSize, commandText, recordText, recordsText};
+use argument_lines::put_argument;
+use numbers::two;
+use numbers::wide;
+use text::put;
+use text::put_decimal;
+use text::put_padded;
+use text::put_spaces;
+use wording::put_command;
+
+// The bytes of a record before its argument.
+const HEAD: usize = 10;
+
+const JUMP: usize = 255;
+
+// No target.
+const NONE: usize = 65535;
+
+// Where the component stands in a line, from the command's name on.
+const COLUMN: usize = 26;
+
+fn put_name(room: &mut [u8], at: usize, code: usize) -> usize
+    ensures { λ r. ⌜ Wrote (nameText code) at (now (room .entry)) r (now (room .exit)) ⌝ }
+{
+    let a = put_command(room, at, code);
+    let b = put(room, a, b" (");
+    let c = put_decimal(room, b, code);
+    put(room, c, b")")
+}
+
+// The spaces after a name that was written from one place to another.
+fn gap(from: usize, to: usize) -> usize
+    ensures { λ r. ⌜ r ≡ 26 - (to - from) ⌝ }
+{
+    if to < from {
+        return COLUMN;
+    }
+    if COLUMN < to - from {
+        return 0;
+    }
+    COLUMN - (to - from)
+}
+
+fn put_label(room: &mut [u8], at: usize, code: usize) -> usize
+    ensures { λ r. ⌜ Wrote (Words·wide 26 (nameText code)) at (now (room .entry)) r (now (room .exit)) ⌝ }
+{
+    let a = put_name(room, at, code);
+    put_spaces(room, a, gap(at, a))
+}
+
+fn put_line(room: &mut [u8], at: usize, code: usize, component: usize, place: usize) -> usize
+    ensures { λ r. ⌜ Wrote (lineText code component place) at (now (room .entry)) r (now (room .exit)) ⌝ }
+{
+    let a = put_label(room, at, code);
+    let b = put(room, a, b"component ");
+    let c = put_decimal(room, b, component);
+    let d = put(room, c, b"  place ");
+    put_padded(room, d, place, 5)
+}
+
+fn put_target(room: &mut [u8], at: usize, total: usize, target: usize) -> usize
+    ensures { λ r. ⌜ Wrote (targetText total target) at (now (room .entry)) r (now (room .exit)) ⌝ }
+{
+    if target == NONE {
+        return put(room, at, b"ends");
+    }
+    if target == total {
+        return put(room, at, b"finished");
+    }
+    let a = put(room, at, b"record ");
+    put_decimal(room, a, target)
+}
+
+// Where a failed condition goes on; codes 1 to 3 are conditions.
+fn put_failure(room: &mut [u8], at: usize, total: usize, code: usize, target: usize) -> usize
+    ensures { λ r. ⌜ Wrote (failureText total code target) at (now (room .entry)) r (now (room .exit)) ⌝ }
+{
+    if 3 < code {
+        return put(room, at, b"\n");
+    }
+    let a = put(room, at, b"  on failure: ");
+    let b = put_target(room, a, total, target);
+    put(room, b, b"\n")
+}
+
+fn put_jump(room: &mut [u8], at: usize, total: usize, target: usize) -> usize
+    ensures { λ r. ⌜ Wrote (jumpText total target) at (now (room .entry)) r (now (room .exit)) ⌝ }
+{
+    if target == total {
+        return put(room, at, b"jump, finished\n");
+    }
+    let a = put(room, at, b"jump to record ");
+    let b = put_decimal(room, a, target);
+    put(room, b, b"\n")
+}
+
+// How long the record at the start of the bytes is, 0 if none lies there.
+fn size_of(s: &[u8]) -> usize
+    ensures { λ r. ⌜ (r ≡ recordSize (now (s .entry))) × (r ≤ length (now (s .entry))) ⌝ }
+{
+    if s.len() < HEAD {
+        return 0;
+    }
+    let size = HEAD + two(s, 8);
+    if s.len() < size {
+        return 0;
+    }
+    size
+}
+
+fn put_command_record(room: &mut [u8], at: usize, total: usize, s: &[u8]) -> usize
+    requires { ⌜ 10 + twoAt (now s) 8 ≤ length (now s) ⌝ }
+    ensures { λ r. ⌜ Wrote (commandText total (now (s .entry))) at (now (room .entry)) r (now (room .exit)) ⌝ }
+{
+    let code = wide(s[2]);
+    let a = put_line(room, at, code, wide(s[3]), two(s, 4));
+    let b = put_failure(room, a, total, code, two(s, 6));
+    let end = HEAD + two(s, 8);
+    put_argument(room, b, code, &s[HEAD..end])
+}
+
+fn put_record(room: &mut [u8], at: usize, total: usize, n: usize, s: &[u8]) -> usize
+    requires { ⌜ 10 + twoAt (now s) 8 ≤ length (now s) ⌝ }
+    ensures { λ r. ⌜ Wrote (recordText total n (now (s .entry))) at (now (room .entry)) r (now (room .exit)) ⌝ }
+{
+    let a = put_padded(room, at, n, 4);
+    let b = put(room, a, b"  ");
+    if wide(s[2]) == JUMP {
+        return put_jump(room, b, total, two(s, 6));
+    }
+    put_command_record(room, b, total, s)
+}
+
+pub fn put_records(room: &mut [u8], at: usize, s: &[u8], total: usize) -> usize
+    ensures { λ r. ⌜ Wrote (recordsText total (now (s .entry))) at (now (room .entry)) r (now (room .exit)) ⌝ }
+{
+    let mut to = at;
+    let mut rest = s;
+    let mut n = 0;
+    while n < total {
+        let size = size_of(rest);
+        if size == 0 {
+            return put(room, to, b"?\n");
+        }
+        to = put_record(room, to, total, n, rest);
+        rest = &rest[size..];
+        n += 1;
+    }
+    to
+}
