@@ -8,10 +8,10 @@ use native.Mathlib.Omega.{arith}
 use Rattle.rules.specs.Bytes.{Bytes}
 use Rattle.rules.specs.Cbor.{NUMBER, BYTES, ARRAY, MAP}
 use Rattle.cbor.proofs.ReadingLaws.{above}
-use Rattle.show.specs.declared.items.Item.{Item}
+use Rattle.items.specs.declared.Item.{Item}
 use Rattle.show.specs.declared.walk.Put.{Put}
-use Rattle.show.specs.Items.{itemAt, itemOf}
-use Rattle.show.specs.Pieces.{newline, titleText, argumentText, parameterText, alternativeText}
+use Rattle.items.specs.Items.{itemAt, itemOf}
+use Rattle.items.specs.Line.{newline, titleText, argumentText, parameterText, alternativeText}
 use Rattle.show.specs.Shown.{Shown, Shows, none, behind, andThen, stopped, parametersShown, nestedShown, alternativesShown, commandShown, commandsShown, sequenceShown}
 use Rattle.show.proofs.ShownLaws.{Rest, rest-shown}
 

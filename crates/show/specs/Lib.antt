@@ -1,4 +1,2 @@
-pub mod Items
 pub mod Manifest
-pub mod Pieces
 pub mod Shown

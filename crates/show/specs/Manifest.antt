@@ -10,7 +10,7 @@ use Rattle.rules.specs.Limits.{limits}
 use Rattle.envelope.specs.declared.report.Report.{Report}
 use Rattle.text.specs.Text.{ascii, decimal, least}
 use Rattle.wording.specs.Words.{sectionWords}
-use Rattle.show.specs.Pieces.{newline, codeText, stringText}
+use Rattle.items.specs.Line.{newline, codeText, stringText}
 use Rattle.show.specs.Shown.{sequenceShown}
 
 -- component k, whose identifier stands from `from` to `to`

@@ -9,8 +9,8 @@ use Rattle.rules.specs.Bytes.{Bytes}
 use Rattle.rules.specs.Cbor.{NUMBER, BYTES, ARRAY, MAP}
 use Rattle.text.specs.Text.{Wrote}
 use Rattle.show.specs.declared.walk.Put.{Put}
-use Rattle.show.specs.Items.{itemAt, itemOf}
-use Rattle.show.specs.Pieces.{newline, mark, titleText, argumentText, alternativeText, parameterText, marginText}
+use Rattle.items.specs.Items.{itemAt, itemOf}
+use Rattle.items.specs.Line.{newline, mark, titleText, argumentText, alternativeText, parameterText, marginText}
 
 -- a text, and the place after what it shows
 abbrev pub Shown : Type 0

@@ -4,17 +4,15 @@ ghost use Prim.Native.Nat.{_≤_};
 ghost use Rattle.text.specs.Text.{Wrote, least};
 ghost use Rattle.show.specs.Manifest.{componentText, componentsText, sectionText, sectionsText, partsText, manifestText};
 use envelope::report::Report;
-use pieces::NEWLINE;
-use pieces::put_code;
-use pieces::put_string;
+use items::line::NEWLINE;
+use items::line::put_code;
+use items::line::put_string;
 use rules::controller::Controller;
 use text::put;
 use text::put_byte;
 use text::put_decimal;
 use walk::put_sequence;
 
-mod items;
-mod pieces;
 mod walk;
 
 // Component `k`, whose identifier stands from `from` to `end`.

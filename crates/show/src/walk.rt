@@ -1,14 +1,14 @@
 // Commands and sequences of any bytes. Where a code, a key, a string or a sequence is not there, a mark stands for it, and the walk goes on
 // after its container.
 ghost use Rattle.show.specs.Shown.{Shows, stopped, parametersShown, nestedShown, alternativesShown, commandShown, commandsShown, sequenceShown};
-use crate::items::look;
-use crate::items::want;
-use crate::pieces::NEWLINE;
-use crate::pieces::put_alternative;
-use crate::pieces::put_argument;
-use crate::pieces::put_margin;
-use crate::pieces::put_parameter;
-use crate::pieces::put_title;
+use items::line::NEWLINE;
+use items::line::put_alternative;
+use items::line::put_argument;
+use items::line::put_margin;
+use items::line::put_parameter;
+use items::line::put_title;
+use items::look;
+use items::want;
 use text::put;
 use text::put_byte;
 

@@ -26,11 +26,11 @@ use Rattle.show.proofs.walk.+put_alternatives+put_command+put_commands+
 use Rattle.show.proofs.walk.put_sequence.Reads as put-sequence
 use Rattle.show.proofs.walk.put_sequence.Kinds as put-sequence-kinds
 use Rattle.show.proofs.walk.+put_alternatives+put_command+put_commands+put_nested+put_sequence.Lts-put_sequence as put-sequence-lts
-use Rattle.show.proofs.items.look.Reads as look-reads
-use Rattle.show.proofs.items.want.Reads as want-reads
-use Rattle.show.proofs.pieces.put_alternative.Reads as put-alternative-reads
-use Rattle.show.proofs.pieces.put_argument.Reads as put-argument-reads
-use Rattle.show.proofs.pieces.put_title.Reads as put-title-reads
+use Rattle.items.proofs.look.Reads as look-reads
+use Rattle.items.proofs.want.Reads as want-reads
+use Rattle.items.proofs.line.put_alternative.Reads as put-alternative-reads
+use Rattle.items.proofs.line.put_argument.Reads as put-argument-reads
+use Rattle.items.proofs.line.put_title.Reads as put-title-reads
 use Rattle.show.proofs.walk.put_parameters.Reads as put-parameters-reads
 use Rattle.show.proofs.walk.put_stop.Reads as put-stop-reads
 use Rattle.text.proofs.put_byte.Reads as put-byte-reads
