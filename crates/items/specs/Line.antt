@@ -7,6 +7,7 @@ use lib.ListN.{length, replicate}
 use Rattle.rules.specs.Bytes.{Bytes, part}
 use Rattle.rules.specs.Cbor.{NUMBER, BYTES, TEXT, ARRAY, MAP, FALSE, TRUE, NIL}
 use Rattle.text.specs.Text.{ascii, decimal, padded, hex, quoted}
+use Rattle.pieces.specs.Pieces.{counted}
 use Rattle.wording.specs.Words.{commandWords, parameterWords}
 use Rattle.items.specs.declared.Item.{Item}
 
@@ -45,15 +46,12 @@ itemText s i =
     (cond (eqb (i .kind) TRUE) (ascii "true")
     mark))))
 
-unfoldable pub countText : ℕ → Bytes
-countText n = ascii ", " ++ decimal n ++ cond (eqb n 1) (ascii " alternative") (ascii " alternatives")
-
 -- an argument on its command's line
 unfoldable pub argumentText : Bytes → Item → Bytes
 argumentText s i =
     cond (eqb (i .kind) NIL) []
     (cond (eqb (i .kind) MAP) []
-    (cond (eqb (i .kind) ARRAY) (countText (i .num))
+    (cond (eqb (i .kind) ARRAY) (counted (ascii ", ") (i .num) (ascii " alternative"))
     (ascii " " ++ itemText s i)))
 
 -- the line above alternative n

@@ -2,8 +2,9 @@
 ghost use mathlib.Core.Path.{_≡_};
 ghost use Prim.Native.Nat.{_-_, _*_};
 ghost use Rattle.text.specs.Text.{Wrote};
-ghost use Rattle.items.specs.Line.{marginText, codeText, titleText, stringText, itemText, countText, argumentText, alternativeText, parameterText};
+ghost use Rattle.items.specs.Line.{marginText, codeText, titleText, stringText, itemText, argumentText, alternativeText, parameterText};
 use crate::Item;
+use pieces::put_counted;
 use text::put;
 use text::put_byte;
 use text::put_decimal;
@@ -94,17 +95,6 @@ fn put_item(room: &mut [u8], at: usize, s: &[u8], i: Item) -> usize
     put(room, at, b"?")
 }
 
-fn put_count(room: &mut [u8], at: usize, n: usize) -> usize
-    ensures { λ r. ⌜ Wrote (countText n) at (now (room .entry)) r (now (room .exit)) ⌝ }
-{
-    let a = put(room, at, b", ");
-    let b = put_decimal(room, a, n);
-    if n == 1 {
-        return put(room, b, b" alternative");
-    }
-    put(room, b, b" alternatives")
-}
-
 // An argument on its command's line.
 pub fn put_argument(room: &mut [u8], at: usize, s: &[u8], i: Item) -> usize
     ensures { λ r. ⌜ Wrote (argumentText (now (s .entry)) i) at (now (room .entry)) r (now (room .exit)) ⌝ }
@@ -117,7 +107,7 @@ pub fn put_argument(room: &mut [u8], at: usize, s: &[u8], i: Item) -> usize
         return at;
     }
     if kind == cbor::ARRAY {
-        return put_count(room, at, i.num);
+        return put_counted(room, at, b", ", i.num, b" alternative");
     }
     let a = put(room, at, b" ");
     put_item(room, a, s, i)

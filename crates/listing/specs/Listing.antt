@@ -5,6 +5,7 @@ use mathlib.Core.List.{[], _++_}
 use lib.Dec.{eqb, ltb}
 use lib.ListN.{length, getD, take, drop}
 use Rattle.text.specs.Text.{Bytes, ascii, decimal, hex}
+use Rattle.pieces.specs.Pieces.{counted}
 use Rattle.argument_lines.specs.Items.{twoAt, fourAt, sizeIn, itemsText}
 use Rattle.record_lines.specs.Lines.{missingText, recordsText}
 
@@ -26,17 +27,13 @@ componentsText count s = itemsText componentSize componentText missingText count
 unfoldable pub afterComponents : ℕ → Bytes → Bytes
 afterComponents count s = afterItems componentSize count s
 
--- one thing, or several
-unfoldable pub countText : ℕ → Bytes → Bytes
-countText n word = decimal n ++ ascii " " ++ word ++ cond (eqb n 1) [] (ascii "s")
-
 -- 'group (0 install, 1 boot)'
 unfoldable pub groupText : ℕ → Bytes
 groupText group = cond (eqb group 1) (ascii "boot") (ascii "install")
 
 unfoldable pub countsText : ℕ → ℕ → Bytes
 countsText components records =
-    ascii ", " ++ countText components (ascii "component") ++ ascii ", " ++ countText records (ascii "record") ++ ascii "\n"
+    counted (ascii ", ") components (ascii " component") ++ counted (ascii ", ") records (ascii " record") ++ ascii "\n"
 
 -- 'mark, FE, group [..], sequence number 4, component count 1, command record count 2'
 unfoldable pub startText : Bytes → Bytes

@@ -2,7 +2,7 @@
 ghost use Prim.Native.Nat.{_≤_};
 ghost use lib.ListN.{length};
 ghost use Rattle.text.specs.Text.{Wrote};
-ghost use Rattle.listing.specs.Listing.{countText, groupText, countsText, startText, programText};
+ghost use Rattle.listing.specs.Listing.{groupText, countsText, startText, programText};
 
 mod components;
 
@@ -11,25 +11,13 @@ use components::put_components;
 use numbers::four;
 use numbers::two;
 use numbers::wide;
+use pieces::put_counted;
 use record_lines::put_records;
 use text::put;
 use text::put_decimal;
 
 // The bytes of the program's start.
 const START: usize = 11;
-
-// One thing, or several.
-fn put_count(room: &mut [u8], at: usize, n: usize, word: &[u8]) -> usize
-    ensures { λ r. ⌜ Wrote (countText n (now (word .entry))) at (now (room .entry)) r (now (room .exit)) ⌝ }
-{
-    let a = put_decimal(room, at, n);
-    let b = put(room, a, b" ");
-    let c = put(room, b, word);
-    if n == 1 {
-        return c;
-    }
-    put(room, c, b"s")
-}
 
 fn put_group(room: &mut [u8], at: usize, group: usize) -> usize
     ensures { λ r. ⌜ Wrote (groupText group) at (now (room .entry)) r (now (room .exit)) ⌝ }
@@ -43,11 +31,9 @@ fn put_group(room: &mut [u8], at: usize, group: usize) -> usize
 fn put_counts(room: &mut [u8], at: usize, components: usize, records: usize) -> usize
     ensures { λ r. ⌜ Wrote (countsText components records) at (now (room .entry)) r (now (room .exit)) ⌝ }
 {
-    let a = put(room, at, b", ");
-    let b = put_count(room, a, components, b"component");
-    let c = put(room, b, b", ");
-    let d = put_count(room, c, records, b"record");
-    put(room, d, b"\n")
+    let a = put_counted(room, at, b", ", components, b" component");
+    let b = put_counted(room, a, b", ", records, b" record");
+    put(room, b, b"\n")
 }
 
 fn put_start(room: &mut [u8], at: usize, p: &[u8]) -> usize

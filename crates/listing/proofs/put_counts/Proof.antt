@@ -7,13 +7,11 @@ use Rattle.listing.proofs.put_counts.Tie as tie
 returns : tie.Need-returns
 unfolding countsText
 returns c =
-    let at-put3 = c .before .before in
-    let at-put-count2 = at-put3 .before .before .before .before .before in
-    let at-put2 = at-put-count2 .before .before .before .before .before in
-    let at-put-count = at-put2 .before .before .before .before .before in
-    let at-put = at-put-count .before .before .before .before .before in
-    wrote-then (wrote-then (wrote-then (wrote-then (at-put .put .ensures) (at-put-count .put-count .ensures)) (at-put2 .put2 .ensures)) (at-put-count2 .put-count2 .ensures)) (at-put3 .put3 .ensures)
+    let at-put = c .before .before in
+    let at-put-counted2 = at-put .before .before .before .before .before in
+    let at-put-counted = at-put-counted2 .before .before .before .before .before .before in
+    wrote-then (wrote-then (at-put-counted .put-counted .ensures) (at-put-counted2 .put-counted2 .ensures)) (at-put .put .ensures)
 
 pub put-counts-spec : {M : Type 1} → statement M
 put-counts-spec =
-    tie.close (tie.spec (λ c. search needs) (λ c κs. search needs) (λ c. search needs) (λ c κs. search needs) (λ c. search needs) (λ c κs. search needs) (λ c. search needs) (λ c κs. search needs) (λ c. search needs) (λ c κs. search needs) (λ c. search needs) returns)
+    tie.close (tie.spec (λ c. search needs) (λ c. search needs) (λ c κs. search needs) (λ c. search needs) (λ c. search needs) (λ c κs. search needs) (λ c. search needs) (λ c κs. search needs) (λ c. search needs) returns)

@@ -19,10 +19,10 @@ returns-3 : tie.Need-returns-3
 unfolding argumentText
 returns-3 c =
     let p = c .before .before in
-    let q = p .before .before in
+    let q = p .before .before .before .before in
     let r = q .before in
     let s = r .before in
-    rw (ne-eqb _ _ (s .if1 .left), ne-eqb _ _ (r .if2 .left), eq-eqb _ _ (q .if3 .taken)) (p .put-count .ensures)
+    rw (ne-eqb _ _ (s .if1 .left), ne-eqb _ _ (r .if2 .left), eq-eqb _ _ (q .if3 .taken)) (p .put-counted .ensures)
 
 returns-4 : tie.Need-returns-4
 unfolding argumentText
@@ -40,6 +40,8 @@ put-argument-spec =
     (tie.spec
     returns
     returns-2
+    (λ c. search needs)
+    (λ c. search needs)
     (λ c κs. search needs)
     (λ c. search needs)
     returns-3
