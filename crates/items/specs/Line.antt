@@ -7,7 +7,7 @@ use lib.ListN.{length, replicate}
 use Rattle.rules.specs.Bytes.{Bytes, part}
 use Rattle.rules.specs.Cbor.{NUMBER, BYTES, TEXT, ARRAY, MAP, FALSE, TRUE, NIL}
 use Rattle.text.specs.Text.{ascii, decimal, padded, hex, quoted}
-use Rattle.pieces.specs.Pieces.{counted}
+use Rattle.pieces.specs.Pieces.{labelled, counted, coded}
 use Rattle.wording.specs.Words.{commandWords, parameterWords}
 use Rattle.items.specs.declared.Item.{Item}
 
@@ -22,13 +22,9 @@ mark = ascii "?"
 unfoldable pub marginText : ℕ → ℕ → Bytes
 marginText columns depth = replicate columns 32 ++ replicate (2 * (3 - depth)) 32
 
--- a code or key, behind its name
-unfoldable pub codeText : ℕ → Bytes
-codeText n = ascii " (" ++ decimal n ++ ascii ")"
-
 -- a command's place, name and code
 unfoldable pub titleText : ℕ → ℕ → ℕ → Bytes
-titleText depth at code = padded 6 at ++ marginText 2 depth ++ commandWords code ++ codeText code
+titleText depth at code = padded 6 at ++ marginText 2 depth ++ commandWords code ++ coded code
 
 -- the string from `from` to `to`: a text in quotes, any other in hexadecimal
 unfoldable pub stringText : Bytes → ℕ → ℕ → ℕ → Bytes
@@ -56,7 +52,7 @@ argumentText s i =
 
 -- the line above alternative n
 unfoldable pub alternativeText : ℕ → ℕ → Bytes
-alternativeText depth n = marginText 8 depth ++ ascii "alternative " ++ decimal n ++ newline
+alternativeText depth n = marginText 8 depth ++ labelled (ascii "alternative ") n ++ newline
 
 -- a parameter and its value
 unfoldable pub parameterText : Bytes → ℕ → ℕ → Item → Bytes

@@ -2,9 +2,11 @@
 ghost use mathlib.Core.Path.{_≡_};
 ghost use Prim.Native.Nat.{_-_, _*_};
 ghost use Rattle.text.specs.Text.{Wrote};
-ghost use Rattle.items.specs.Line.{marginText, codeText, titleText, stringText, itemText, argumentText, alternativeText, parameterText};
+ghost use Rattle.items.specs.Line.{marginText, titleText, stringText, itemText, argumentText, alternativeText, parameterText};
 use crate::Item;
+use pieces::put_code;
 use pieces::put_counted;
+use pieces::put_labelled;
 use text::put;
 use text::put_byte;
 use text::put_decimal;
@@ -30,14 +32,6 @@ pub fn put_margin(room: &mut [u8], at: usize, columns: usize, depth: usize) -> u
 {
     let to = put_spaces(room, at, columns);
     put_spaces(room, to, indent(depth))
-}
-
-pub fn put_code(room: &mut [u8], at: usize, n: usize) -> usize
-    ensures { λ r. ⌜ Wrote (codeText n) at (now (room .entry)) r (now (room .exit)) ⌝ }
-{
-    let a = put(room, at, b" (");
-    let b = put_decimal(room, a, n);
-    put(room, b, b")")
 }
 
 // The place, name and code of the command at `place`.
@@ -118,9 +112,8 @@ pub fn put_alternative(room: &mut [u8], at: usize, depth: usize, n: usize) -> us
     ensures { λ r. ⌜ Wrote (alternativeText depth n) at (now (room .entry)) r (now (room .exit)) ⌝ }
 {
     let a = put_margin(room, at, 8, depth);
-    let b = put(room, a, b"alternative ");
-    let c = put_decimal(room, b, n);
-    put_byte(room, c, NEWLINE)
+    let b = put_labelled(room, a, b"alternative ", n);
+    put_byte(room, b, NEWLINE)
 }
 
 // A parameter and its value.

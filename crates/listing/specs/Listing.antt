@@ -4,8 +4,8 @@ use mathlib.Core.Bool.{cond}
 use mathlib.Core.List.{[], _++_}
 use lib.Dec.{eqb, ltb}
 use lib.ListN.{length, getD, take, drop}
-use Rattle.text.specs.Text.{Bytes, ascii, decimal, hex}
-use Rattle.pieces.specs.Pieces.{counted}
+use Rattle.text.specs.Text.{Bytes, ascii, hex}
+use Rattle.pieces.specs.Pieces.{labelled, counted}
 use Rattle.argument_lines.specs.Items.{twoAt, fourAt, sizeIn, itemsText}
 use Rattle.record_lines.specs.Lines.{missingText, recordsText}
 
@@ -19,7 +19,7 @@ unfoldable pub componentSize : Bytes → ℕ
 componentSize s = sizeIn s 4 (getD s 3 0)
 
 unfoldable pub componentText : ℕ → Bytes → Bytes
-componentText n s = ascii "component " ++ decimal n ++ ascii "  " ++ hex (take (getD s 3 0) (drop 4 s)) ++ ascii "\n"
+componentText n s = labelled (ascii "component ") n ++ ascii "  " ++ hex (take (getD s 3 0) (drop 4 s)) ++ ascii "\n"
 
 unfoldable pub componentsText : ℕ → Bytes → Bytes
 componentsText count s = itemsText componentSize componentText missingText count 0 s
@@ -38,7 +38,7 @@ countsText components records =
 -- 'mark, FE, group [..], sequence number 4, component count 1, command record count 2'
 unfoldable pub startText : Bytes → Bytes
 startText p =
-    groupText (getD p 3 0) ++ ascii " program, number " ++ decimal (fourAt p 4) ++ countsText (getD p 8 0) (twoAt p 9)
+    groupText (getD p 3 0) ++ labelled (ascii " program, number ") (fourAt p 4) ++ countsText (getD p 8 0) (twoAt p 9)
 
 unfoldable pub programText : Bytes → Bytes
 programText p =

@@ -5,8 +5,8 @@ ghost use lib.ListN.{length, getD};
 ghost use Rattle.text.specs.Text.{Wrote};
 ghost use Rattle.listing.specs.Listing.{componentSize, componentText, componentsText, afterComponents};
 use numbers::wide;
+use pieces::put_labelled;
 use text::put;
-use text::put_decimal;
 use text::put_hex;
 
 // The bytes of a component before its identifier.
@@ -30,12 +30,11 @@ fn put_component(room: &mut [u8], at: usize, n: usize, s: &[u8]) -> usize
     requires { ⌜ 4 + getD (now s) 3 0 ≤ length (now s) ⌝ }
     ensures { λ r. ⌜ Wrote (componentText n (now (s .entry))) at (now (room .entry)) r (now (room .exit)) ⌝ }
 {
-    let a = put(room, at, b"component ");
-    let b = put_decimal(room, a, n);
-    let c = put(room, b, b"  ");
+    let a = put_labelled(room, at, b"component ", n);
+    let b = put(room, a, b"  ");
     let end = HEAD + wide(s[3]);
-    let d = put_hex(room, c, &s[HEAD..end]);
-    put(room, d, b"\n")
+    let c = put_hex(room, b, &s[HEAD..end]);
+    put(room, c, b"\n")
 }
 
 pub fn put_components(room: &mut [u8], at: usize, s: &[u8], count: usize) -> usize

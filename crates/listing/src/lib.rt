@@ -12,9 +12,9 @@ use numbers::four;
 use numbers::two;
 use numbers::wide;
 use pieces::put_counted;
+use pieces::put_labelled;
 use record_lines::put_records;
 use text::put;
-use text::put_decimal;
 
 // The bytes of the program's start.
 const START: usize = 11;
@@ -41,9 +41,8 @@ fn put_start(room: &mut [u8], at: usize, p: &[u8]) -> usize
     ensures { λ r. ⌜ Wrote (startText (now (p .entry))) at (now (room .entry)) r (now (room .exit)) ⌝ }
 {
     let a = put_group(room, at, wide(p[3]));
-    let b = put(room, a, b" program, number ");
-    let c = put_decimal(room, b, four(p, 4));
-    put_counts(room, c, wide(p[8]), two(p, 9))
+    let b = put_labelled(room, a, b" program, number ", four(p, 4));
+    put_counts(room, b, wide(p[8]), two(p, 9))
 }
 
 pub fn put_program(room: &mut [u8], at: usize, p: &[u8]) -> usize

@@ -23,6 +23,10 @@ labelled label n = label ++ decimal n
 unfoldable pub counted : Bytes → ℕ → Bytes → Bytes
 counted label n thing = labelled label n ++ thing ++ cond (eqb n 1) [] (ascii "s")
 
+-- a code or key, behind its name
+unfoldable pub coded : ℕ → Bytes
+coded n = labelled (ascii " (") n ++ ascii ")"
+
 -- the texts of the numbers below n, one after the other
 unfoldable pub lines : (ℕ → Bytes) → ℕ → Bytes
 lines f zero = []

@@ -4,7 +4,7 @@ ghost use mathlib.Core.List.{[], _∷_};
 ghost use Prim.Native.Nat.{_≤_};
 ghost use lib.ListN.{length};
 ghost use Rattle.text.specs.Text.{Wrote, hex};
-ghost use Rattle.pieces.specs.Pieces.{part, spaced, labelled, counted};
+ghost use Rattle.pieces.specs.Pieces.{part, spaced, labelled, counted, coded};
 use text::put;
 use text::put_byte;
 use text::put_decimal;
@@ -87,4 +87,12 @@ pub fn put_counted(room: &mut [u8], at: usize, label: &[u8], n: usize, thing: &[
         return b;
     }
     put_byte(room, b, b's')
+}
+
+// A code or key, behind its name.
+pub fn put_code(room: &mut [u8], at: usize, n: usize) -> usize
+    ensures { λ r. ⌜ Wrote (coded n) at (now (room .entry)) r (now (room .exit)) ⌝ }
+{
+    let to = put_labelled(room, at, b" (", n);
+    put_byte(room, to, b')')
 }

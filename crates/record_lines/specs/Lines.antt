@@ -4,29 +4,30 @@ use mathlib.Core.Bool.{cond}
 use mathlib.Core.List.{_++_}
 use lib.Dec.{eqb, ltb}
 use lib.ListN.{getD, take, drop}
-use Rattle.text.specs.Text.{Bytes, ascii, decimal, padded}
+use Rattle.text.specs.Text.{Bytes, ascii, padded}
+use Rattle.pieces.specs.Pieces.{labelled, coded}
 use Rattle.wording.specs.Words.{wide, commandWords}
 use Rattle.argument_lines.specs.Items.{twoAt, sizeIn, itemsText}
 use Rattle.argument_lines.specs.Arguments.{argumentText}
 
 unfoldable pub nameText : ℕ → Bytes
-nameText code = commandWords code ++ ascii " (" ++ decimal code ++ ascii ")"
+nameText code = commandWords code ++ coded code
 
 unfoldable pub lineText : ℕ → ℕ → ℕ → Bytes
 lineText code component place =
-    wide 26 (nameText code) ++ ascii "component " ++ decimal component ++ ascii "  place " ++ padded 5 place
+    wide 26 (nameText code) ++ labelled (ascii "component ") component ++ ascii "  place " ++ padded 5 place
 
 -- 'the record where a failure goes on, FFFF if uncaught'; 'the record count means finished'
 unfoldable pub targetText : ℕ → ℕ → Bytes
 targetText total target =
-    cond (eqb target 0xffff) (ascii "ends") (cond (eqb target total) (ascii "finished") (ascii "record " ++ decimal target))
+    cond (eqb target 0xffff) (ascii "ends") (cond (eqb target total) (ascii "finished") (labelled (ascii "record ") target))
 
 -- codes 1 to 3 are conditions
 unfoldable pub failureText : ℕ → ℕ → ℕ → Bytes
 failureText total code target = cond (ltb 3 code) (ascii "\n") (ascii "  on failure: " ++ targetText total target ++ ascii "\n")
 
 unfoldable pub jumpText : ℕ → ℕ → Bytes
-jumpText total target = cond (eqb target total) (ascii "jump, finished\n") (ascii "jump to record " ++ decimal target ++ ascii "\n")
+jumpText total target = cond (eqb target total) (ascii "jump, finished\n") (labelled (ascii "jump to record ") target ++ ascii "\n")
 
 -- 'mark, code, component [..], place 2, target 2, argument length 2, argument'
 unfoldable pub recordSize : Bytes → ℕ

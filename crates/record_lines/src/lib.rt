@@ -9,8 +9,9 @@ ghost use Rattle.record_lines.specs.Lines.{nameText, lineText, targetTex
 use argument_lines::put_argument;
 use numbers::two;
 use numbers::wide;
+use pieces::put_code;
+use pieces::put_labelled;
 use text::put;
-use text::put_decimal;
 use text::put_padded;
 use text::put_spaces;
 use wording::put_command;
@@ -29,10 +30,8 @@ const COLUMN: usize = 26;
 fn put_name(room: &mut [u8], at: usize, code: usize) -> usize
     ensures { λ r. ⌜ Wrote (nameText code) at (now (room .entry)) r (now (room .exit)) ⌝ }
 {
-    let a = put_command(room, at, code);
-    let b = put(room, a, b" (");
-    let c = put_decimal(room, b, code);
-    put(room, c, b")")
+    let to = put_command(room, at, code);
+    put_code(room, to, code)
 }
 
 // The spaces after a name that was written from one place to another.
@@ -59,10 +58,9 @@ fn put_line(room: &mut [u8], at: usize, code: usize, component: usize, place: us
     ensures { λ r. ⌜ Wrote (lineText code component place) at (now (room .entry)) r (now (room .exit)) ⌝ }
 {
     let a = put_label(room, at, code);
-    let b = put(room, a, b"component ");
-    let c = put_decimal(room, b, component);
-    let d = put(room, c, b"  place ");
-    put_padded(room, d, place, 5)
+    let b = put_labelled(room, a, b"component ", component);
+    let c = put(room, b, b"  place ");
+    put_padded(room, c, place, 5)
 }
 
 fn put_target(room: &mut [u8], at: usize, total: usize, target: usize) -> usize
@@ -74,8 +72,7 @@ fn put_target(room: &mut [u8], at: usize, total: usize, target: usize) -> usize
     if target == total {
         return put(room, at, b"finished");
     }
-    let a = put(room, at, b"record ");
-    put_decimal(room, a, target)
+    put_labelled(room, at, b"record ", target)
 }
 
 // Where a failed condition goes on; codes 1 to 3 are conditions.
@@ -96,9 +93,8 @@ fn put_jump(room: &mut [u8], at: usize, total: usize, target: usize) -> usize
     if target == total {
         return put(room, at, b"jump, finished\n");
     }
-    let a = put(room, at, b"jump to record ");
-    let b = put_decimal(room, a, target);
-    put(room, b, b"\n")
+    let to = put_labelled(room, at, b"jump to record ", target);
+    put(room, to, b"\n")
 }
 
 // How long the record at the start of the bytes is, 0 if none lies there.

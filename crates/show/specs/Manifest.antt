@@ -8,15 +8,16 @@ use Rattle.rules.specs.Bytes.{Bytes}
 use Rattle.rules.specs.Cbor.{BYTES}
 use Rattle.rules.specs.Limits.{limits}
 use Rattle.envelope.specs.declared.report.Report.{Report}
-use Rattle.text.specs.Text.{ascii, decimal, least}
+use Rattle.text.specs.Text.{ascii, least}
+use Rattle.pieces.specs.Pieces.{labelled, coded}
 use Rattle.wording.specs.Words.{sectionWords}
-use Rattle.items.specs.Line.{newline, codeText, stringText}
+use Rattle.items.specs.Line.{newline, stringText}
 use Rattle.show.specs.Shown.{sequenceShown}
 
 -- component k, whose identifier stands from `from` to `to`
 unfoldable pub componentText : Bytes → ℕ → ℕ → ℕ → Bytes
 componentText s k from to =
-    ascii "component " ++ decimal k ++ ascii "  " ++ stringText s BYTES from to ++ ascii "  at " ++ decimal from ++ newline
+    labelled (ascii "component ") k ++ ascii "  " ++ stringText s BYTES from to ++ labelled (ascii "  at ") from ++ newline
 
 -- the first k
 unfoldable pub componentsText : Bytes → List ℕ → ℕ → Bytes
@@ -26,7 +27,7 @@ componentsText s ids (suc k) = componentsText s ids k ++ componentText s k (getD
 -- the section under `key`, whose sequence stands from `from` to `to`; one that is not there ends at 0
 unfoldable pub sectionText : Bytes → ℕ → ℕ → ℕ → Bytes
 sectionText s key from to =
-    cond (eqb to 0) [] (sectionWords key ++ codeText key ++ newline ++ sequenceShown s (limits .depth) to from .0)
+    cond (eqb to 0) [] (sectionWords key ++ coded key ++ newline ++ sequenceShown s (limits .depth) to from .0)
 
 unfoldable pub sectionsText : Bytes → List ℕ → Bytes
 sectionsText s places =
@@ -37,7 +38,7 @@ sectionsText s places =
 -- by the number, how many components there are, and the places of the identifiers and of the sections
 unfoldable pub partsText : Bytes → ℕ → ℕ → List ℕ → List ℕ → Bytes
 partsText s number components ids sections =
-    ascii "number " ++ decimal number ++ newline ++ componentsText s ids (least components (limits .components)) ++ sectionsText s sections
+    labelled (ascii "number ") number ++ newline ++ componentsText s ids (least components (limits .components)) ++ sectionsText s sections
 
 unfoldable pub manifestText : Bytes → Report → Bytes
 manifestText s r = partsText s (r .number) (r .components) (r .ids) (r .sections)

@@ -5,12 +5,12 @@ ghost use Rattle.text.specs.Text.{Wrote, least};
 ghost use Rattle.show.specs.Manifest.{componentText, componentsText, sectionText, sectionsText, partsText, manifestText};
 use envelope::report::Report;
 use items::line::NEWLINE;
-use items::line::put_code;
 use items::line::put_string;
+use pieces::put_code;
+use pieces::put_labelled;
 use rules::controller::Controller;
 use text::put;
 use text::put_byte;
-use text::put_decimal;
 use walk::put_sequence;
 
 mod walk;
@@ -19,13 +19,11 @@ mod walk;
 fn put_component(room: &mut [u8], at: usize, s: &[u8], k: usize, from: usize, end: usize) -> usize
     ensures { λ r. ⌜ Wrote (componentText (now (s .entry)) k from end) at (now (room .entry)) r (now (room .exit)) ⌝ }
 {
-    let a = put(room, at, b"component ");
-    let b = put_decimal(room, a, k);
-    let c = put(room, b, b"  ");
-    let d = put_string(room, c, s, cbor::BYTES, from, end);
-    let e = put(room, d, b"  at ");
-    let f = put_decimal(room, e, from);
-    put_byte(room, f, NEWLINE)
+    let a = put_labelled(room, at, b"component ", k);
+    let b = put(room, a, b"  ");
+    let c = put_string(room, b, s, cbor::BYTES, from, end);
+    let d = put_labelled(room, c, b"  at ", from);
+    put_byte(room, d, NEWLINE)
 }
 
 // The first `n` components.
@@ -89,11 +87,10 @@ pub fn put_parts(
 ) -> usize
     ensures { λ r. ⌜ Wrote (partsText (now (s .entry)) number components (now (ids .entry)) (now (sections .entry))) at (now (room .entry)) r (now (room .exit)) ⌝ }
 {
-    let a = put(room, at, b"number ");
-    let b = put_decimal(room, a, number);
-    let c = put_byte(room, b, NEWLINE);
-    let d = put_components(room, c, s, listed(components), ids);
-    put_sections(room, d, s, sections)
+    let a = put_labelled(room, at, b"number ", number);
+    let b = put_byte(room, a, NEWLINE);
+    let c = put_components(room, b, s, listed(components), ids);
+    put_sections(room, c, s, sections)
 }
 
 // The manifest of an envelope that check has accepted, by check's report.

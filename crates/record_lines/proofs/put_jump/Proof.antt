@@ -16,13 +16,12 @@ returns c =
 returns-2 : tie.Need-returns-2
 unfolding jumpText
 returns-2 c =
-    let at-put3 = c .before .before in
-    let at-put-decimal = at-put3 .before .before .before .before .before in
-    let at-put2 = at-put-decimal .before .before .before .before in
-    let at-if1 = at-put2 .before .before .before in
+    let at-put2 = c .before .before in
+    let at-put-labelled = at-put2 .before .before .before .before .before in
+    let at-if1 = at-put-labelled .before .before .before in
     let start = at-if1 .before .before in
-    rw (ne-eqb (start .args .target) (start .args .total) (at-if1 .if1 .left)) (wrote-then (wrote-then (at-put2 .put2 .ensures) (at-put-decimal .put-decimal .ensures)) (at-put3 .put3 .ensures))
+    rw (ne-eqb (start .args .target) (start .args .total) (at-if1 .if1 .left)) (wrote-then (at-put-labelled .put-labelled .ensures) (at-put2 .put2 .ensures))
 
 pub put-jump-spec : {M : Type 1} → statement M
 put-jump-spec =
-    tie.close (tie.spec (λ c. search needs) (λ c κs. search needs) (λ c. search needs) returns (λ c. search needs) (λ c κs. search needs) (λ c κs. search needs) (λ c. search needs) (λ c κs. search needs) (λ c. search needs) returns-2)
+    tie.close (tie.spec (λ c. search needs) (λ c κs. search needs) (λ c. search needs) returns (λ c. search needs) (λ c κs. search needs) (λ c. search needs) (λ c κs. search needs) (λ c. search needs) returns-2)

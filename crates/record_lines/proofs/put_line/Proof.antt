@@ -8,12 +8,11 @@ returns : tie.Need-returns
 unfolding lineText
 returns c =
     let at-put-padded = c .before .before in
-    let at-put2 = at-put-padded .before .before .before .before in
-    let at-put-decimal = at-put2 .before .before .before .before .before in
-    let at-put = at-put-decimal .before .before .before .before in
-    let at-put-label = at-put .before .before .before .before .before in
-    wrote-then (wrote-then (wrote-then (wrote-then (at-put-label .put-label .ensures) (at-put .put .ensures)) (at-put-decimal .put-decimal .ensures)) (at-put2 .put2 .ensures)) (at-put-padded .put-padded .ensures)
+    let at-put = at-put-padded .before .before .before .before in
+    let at-put-labelled = at-put .before .before .before .before .before in
+    let at-put-label = at-put-labelled .before .before .before .before .before in
+    wrote-then (wrote-then (wrote-then (at-put-label .put-label .ensures) (at-put-labelled .put-labelled .ensures)) (at-put .put .ensures)) (at-put-padded .put-padded .ensures)
 
 pub put-line-spec : {M : Type 1} → statement M
 put-line-spec =
-    tie.close (tie.spec (λ c κs. search needs) (λ c. search needs) (λ c κs. search needs) (λ c κs. search needs) (λ c. search needs) (λ c κs. search needs) (λ c κs. search needs) (λ c. search needs) returns)
+    tie.close (tie.spec (λ c κs. search needs) (λ c. search needs) (λ c κs. search needs) (λ c. search needs) (λ c κs. search needs) (λ c κs. search needs) (λ c. search needs) returns)

@@ -1,6 +1,5 @@
 use borrow.Author.Tests.{eq-eqb, ne-eqb}
 use Rattle.record_lines.specs.Lines.{targetText}
-use Rattle.text.proofs.TextLaws.{wrote-then}
 use borrow.Author.Needs.{needs}
 use Rattle.record_lines.proofs.put_target.Statement.{statement}
 use Rattle.record_lines.proofs.put_target.Tie as tie
@@ -25,13 +24,12 @@ returns-2 c =
 returns-3 : tie.Need-returns-3
 unfolding targetText
 returns-3 c =
-    let at-put-decimal = c .before .before in
-    let at-put3 = at-put-decimal .before .before .before .before in
-    let at-if2 = at-put3 .before .before .before in
+    let at-put-labelled = c .before .before in
+    let at-if2 = at-put-labelled .before .before .before in
     let at-if1 = at-if2 .before in
     let start = at-if1 .before .before in
-    rw (ne-eqb (start .args .target) 0xffff (at-if1 .if1 .left), ne-eqb (start .args .target) (start .args .total) (at-if2 .if2 .left)) (wrote-then (at-put3 .put3 .ensures) (at-put-decimal .put-decimal .ensures))
+    rw (ne-eqb (start .args .target) 0xffff (at-if1 .if1 .left), ne-eqb (start .args .target) (start .args .total) (at-if2 .if2 .left)) (at-put-labelled .put-labelled .ensures)
 
 pub put-target-spec : {M : Type 1} → statement M
 put-target-spec =
-    tie.close (tie.spec (λ c. search needs) (λ c κs. search needs) (λ c. search needs) returns (λ c. search needs) (λ c κs. search needs) (λ c. search needs) returns-2 (λ c. search needs) (λ c κs. search needs) (λ c κs. search needs) (λ c. search needs) returns-3)
+    tie.close (tie.spec (λ c. search needs) (λ c κs. search needs) (λ c. search needs) returns (λ c. search needs) (λ c κs. search needs) (λ c. search needs) returns-2 (λ c. search needs) (λ c κs. search needs) (λ c. search needs) returns-3)
