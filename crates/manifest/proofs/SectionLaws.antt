@@ -16,7 +16,7 @@ use Rattle.rules.specs.Manifest.{Seq, count, Section, countAll}
 use Rattle.rules.specs.Check.{key, inBytes, sequenceAt, sectionAt, sectionsAt, commonSeq}
 use Rattle.cbor.specs.declared.reading.Reading.{Reading}
 use Rattle.cbor.specs.Reading.{fault, ends, reading}
-use Rattle.sequences.specs.Sequences as Q
+use Rattle.opening.specs.Opening as Q
 use Rattle.manifest.specs.Sections.{sectionNo, placedOne, Placed}
 use Rattle.cbor.proofs.ReadingLaws.{Stopped, alike, bind-assoc, reading-went}
 use Rattle.sequences.proofs.SequenceLaws.{read}

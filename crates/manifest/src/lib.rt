@@ -10,11 +10,11 @@ use cbor::reading::Reading;
 use cbor::reading::item;
 use cbor::reading::refuse;
 use identifiers::components;
+use leaves::number;
 use rules::answers::Refusal;
 use rules::controller::Controller;
 use sections::common_sequence;
 use sections::sections;
-use sequences::leaves::number;
 
 pub mod sections;
 

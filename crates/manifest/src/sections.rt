@@ -7,7 +7,7 @@ ghost use Rattle.rules.specs.Tables.{byNumber};
 ghost use Rattle.rules.specs.Manifest.{count, countAll};
 ghost use Rattle.rules.specs.Check as Check;
 ghost use Rattle.cbor.specs.Reading.{reading};
-ghost use Rattle.sequences.specs.Sequences.{Section};
+ghost use Rattle.opening.specs.Opening.{Section};
 ghost use Rattle.manifest.specs.Sections.{sectionNo, Placed};
 use cbor::reading::Reading;
 use cbor::reading::item;

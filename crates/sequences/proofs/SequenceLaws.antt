@@ -1,22 +1,17 @@
 -- Sequences and commands, read by their places and counts, end where the rules of check end them.
 use Prim.Native.Nat.{ℕ, zero, suc, _+_, _-_, _/_, _%_, _≤_, _<_}
 use mathlib.Core.Path.{_≡_, refl, sym, ap, _∙_}
-use mathlib.Core.Bool.{true, false}
-use mathlib.Core.Option.{some, none}
 use native.Mathlib.Omega.{arith}
 use native.Mathlib.Nat.{add-assoc, add-zero}
 use lib.Dec.{ltb, eqb}
-use borrow.Author.Tests.{lt-ltb, le-ltb, eq-eqb, ne-eqb, ltb-true}
+use borrow.Author.Tests.{eq-eqb, ne-eqb, ltb-true}
 use Rattle.rules.specs.declared.answers.Refusal.the-variants.{NotCbor, Malformed, TooDeep, UnknownCommand, NotAllowed, TooManyCommands, NoSuchComponent}
 use Rattle.rules.specs.Limits.{limits}
 use Rattle.rules.specs.Bytes.{Bytes, Span, span}
 use Rattle.rules.specs.Got.{Got, refused, got, need, found, _>>=_}
 use Rattle.rules.specs.Cbor.{BYTES, ARRAY, MAP, NIL, Head, after, item}
-use Rattle.rules.specs.Commands.{Row, Form, sixteen, nil, below, alternatives, parameters, sequence, commands, rowOf, isAllowed}
-use Rattle.rules.specs.declared.tables.Command.{Command}
-use Rattle.rules.specs.declared.tables.Listed.the-variants as L
-use Rattle.rules.specs.Tables.{kindOf, weightOf, asCommand, listed}
-use Rattle.rules.proofs.TableLaws.{allowed-bit, listed-some, listed-none}
+use Rattle.rules.specs.Commands.{Form, sixteen, nil, below, alternatives, parameters, sequence, commands, rowOf, isAllowed}
+use Rattle.rules.specs.Tables.{kindOf}
 use Rattle.rules.specs.Manifest.{Seq, then, Cmd, try, Alts, or, count, countCmd, countAlts}
 use Rattle.rules.specs.Check.{Read, nothing, number, inBytes, entries, alternativesAt, argument, command, commandsAt, sequenceAt}
 use Rattle.rules.proofs.GotLaws.{passed, split}
@@ -24,10 +19,10 @@ use Rattle.rules.proofs.CheckLaws.{item-law, bytes-after}
 use Rattle.cbor.specs.Reading.{fault, ends, reading}
 use Rattle.cbor.specs.declared.reading.Reading.{Reading}
 use Rattle.cbor.proofs.ReadingLaws.{Stopped, alike, bind-assoc, reading-went}
-use Rattle.sequences.specs.Leaves.{componentAt, entriesAt, argumentAt}
-use Rattle.sequences.specs.Sequences.{opening, nested}
-use Rattle.sequences.specs.Sequences as Q
-use Rattle.sequences.proofs.LeafLaws.{forget, forget-bind, string-ends, entries-end}
+use Rattle.leaves.specs.Leaves.{componentAt, entriesAt, argumentAt}
+use Rattle.opening.specs.Opening.{opening}
+use Rattle.leaves.proofs.LeafLaws.{forget, forget-bind, string-ends, entries-end}
+use Rattle.sequences.specs.Sequences.{nested}
 
 -- f of what was read, and the place after it
 abbrev pub counted : {A : Type 0} → (A → ℕ) → Got (A × ℕ) → Got (ℕ × ℕ)
@@ -156,37 +151,6 @@ module _ (s : Bytes) (deeper : ℕ → Read Seq) where
       plus : (c : Cmd) (x : Got (Seq × ℕ)) → counted (λ a. m + count a) (x >>= λ t. got (then c (t .0), t .1)) ≡ counted (λ a. m + countCmd c + count a) x
       plus c (refused r p) = refl
       plus c (got t) = ap (λ (j : ℕ). got (j, t .1)) (sym (add-assoc m (countCmd c) (count (t .0))))
-
--- what a look-up of a command found
--- the start of a command, by the tests in their order
-module _ (s : Bytes) (n section m e at : ℕ) where
-  pub open-stop : (r : Reading) → Stopped (number s e at) r → r ≡ reading (λ k. k) (opening s n section m e at)
-  unfolding opening
-  open-stop r x = rw (x .was) (x .is)
-
-  module _ (code p : ℕ) (q : number s e at ≡ got (code, p)) where
-    pub open-unknown : listed (rowOf code commands) ≡ L.Unlisted → fault UnknownCommand at ≡ reading (λ k. k) (opening s n section m e at)
-    unfolding opening
-    open-unknown u = rw (q, listed-none (rowOf code commands) u)
-
-    module _ (c : Command) (u : listed (rowOf code commands) ≡ L.Command c) (is : Q.Section section) where
-      allowed : (r : Row) → rowOf code commands ≡ some r → asCommand r ≡ c → isAllowed section (r .allowed) ≡ eqb (c .sections / weightOf section % 2) 1
-      allowed r f g = allowed-bit code section r f is ∙ ap (λ (x : Command). eqb (x .sections / weightOf section % 2) 1) g
-
-      pub open-not-allowed : eqb (c .sections / weightOf section % 2) 1 ≡ false → fault NotAllowed at ≡ reading (λ k. k) (opening s n section m e at)
-      unfolding opening
-      open-not-allowed a = let (r, f, g) = listed-some _ c u in rw (q, f, allowed r f g, a)
-
-      module _ (a : eqb (c .sections / weightOf section % 2) 1 ≡ true) where
-        pub open-many : limits .commands ≤ m → fault TooManyCommands at ≡ reading (λ k. k) (opening s n section m e at)
-        unfolding opening
-        open-many l = let (r, f, g) = listed-some _ c u in rw (q, f, allowed r f g, a, le-ltb _ _ l)
-
-        pub open-argument : m < limits .commands → (x : Reading) → x ≡ reading (λ k. k) (argumentAt s n (c .argument) e p) → x ≡ reading (λ k. k) (opening s n section m e at)
-        unfolding opening
-        open-argument l x y =
-            let (r, f, g) = listed-some _ c u in
-            rw (q, f, allowed r f g, a, lt-ltb _ _ l) (y ∙ ap (λ (z : Command). reading (λ k. k) (argumentAt s n (z .argument) e p)) (sym g))
 
 -- the sequences that a command holds, one after the other
 module _ (s : Bytes) (deeper : ℕ → Read Seq) (k m e at : ℕ) where

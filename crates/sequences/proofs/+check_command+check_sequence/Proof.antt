@@ -19,7 +19,7 @@ use Rattle.sequences.proofs.check_sequence.Kinds as check-sequence-kind
 use Rattle.sequences.proofs.+check_command+check_sequence.Lts-check_sequence as check-sequence-lts
 use Rattle.cbor.proofs.reading.item.Reads as item-reads
 use Rattle.cbor.proofs.reading.refuse.Reads as refuse-reads
-use Rattle.sequences.proofs.open_command.Reads as open-command-reads
+use Rattle.opening.proofs.open_command.Reads as open-command-reads
 use Rattle.sequences.proofs.+check_command+check_sequence.{statement}
 use Rattle.sequences.proofs.+check_command+check_sequence.Tie.{close}
 

@@ -6,7 +6,7 @@ use native.Mathlib.Omega.{arith}
 use borrow.Author.Tests.{eqb-true, ne-eqb}
 use lib.Dec.{eqb}
 use Rattle.rules.specs.Commands.{among}
-use Rattle.sequences.specs.Sequences.{Section}
+use Rattle.opening.specs.Opening.{Section}
 use Rattle.manifest.proofs.sections.section_number.Statement.{statement}
 use Rattle.manifest.proofs.sections.section_number.Tie as tie
 

@@ -1,10 +1,10 @@
 use mathlib.Core.Path.{_∙_}
 use borrow.Author.Needs.{needs}
 use borrow.Author.Tests.{le-ltb, lt-ltb}
-use Rattle.sequences.specs.Leaves.{componentAt}
+use Rattle.leaves.specs.Leaves.{componentAt}
 use Rattle.cbor.proofs.ReadingLaws.{number-stopped, number-went}
-use Rattle.sequences.proofs.leaves.component.Statement.{statement}
-use Rattle.sequences.proofs.leaves.component.Tie as tie
+use Rattle.leaves.proofs.component.Statement.{statement}
+use Rattle.leaves.proofs.component.Tie as tie
 
 stop : tie.Need-returns
 unfolding componentAt

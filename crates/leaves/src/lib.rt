@@ -6,7 +6,7 @@ ghost use lib.ListN.{length};
 ghost use Rattle.rules.specs.Tables.{byNumber};
 ghost use Rattle.rules.specs.Check as Check;
 ghost use Rattle.cbor.specs.Reading.{reading, placeReading, unnumbered};
-ghost use Rattle.sequences.specs.Leaves.{stringAt, componentAt, parameterAt, entriesAt, argumentAt};
+ghost use Rattle.leaves.specs.Leaves.{stringAt, componentAt, parameterAt, entriesAt, argumentAt};
 use cbor::reading::Reading;
 use cbor::reading::item;
 use cbor::reading::one_of;

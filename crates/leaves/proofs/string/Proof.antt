@@ -1,9 +1,9 @@
 use native.Mathlib.Omega.{arith}
 use borrow.Author.Needs.{needs}
-use Rattle.sequences.specs.Leaves.{stringAt}
+use Rattle.leaves.specs.Leaves.{stringAt}
 use Rattle.cbor.proofs.ReadingLaws.{item-stopped, item-went, string-fits}
-use Rattle.sequences.proofs.leaves.string.Statement.{statement}
-use Rattle.sequences.proofs.leaves.string.Tie as tie
+use Rattle.leaves.proofs.string.Statement.{statement}
+use Rattle.leaves.proofs.string.Tie as tie
 
 stop : tie.Need-returns
 unfolding stringAt

@@ -1,7 +1,7 @@
 use native.Mathlib.Nat.{div-one}
 use borrow.Author.Tests.{ne-eqb}
-use Rattle.sequences.proofs.has_section.Statement.{statement}
-use Rattle.sequences.proofs.has_section.Tie as tie
+use Rattle.opening.proofs.has_section.Statement.{statement}
+use Rattle.opening.proofs.has_section.Tie as tie
 
 common : tie.Need-returns-6
 common c =

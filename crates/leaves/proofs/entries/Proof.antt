@@ -3,11 +3,11 @@ use native.Mathlib.Omega.{arith}
 use borrow.Author.Needs.{needs}
 use Rattle.rules.proofs.CheckLaws.{number-law}
 use Rattle.cbor.specs.Reading.{placeReading}
-use Rattle.sequences.specs.Leaves.{entriesAt}
+use Rattle.leaves.specs.Leaves.{entriesAt}
 use Rattle.cbor.proofs.ReadingLaws.{number-stopped, number-went, place-stopped, place-went, pos}
-use Rattle.sequences.proofs.LeafLaws.{known-some, known-none, entries-none, entries-stop, entries-low, entries-unknown, entries-bad, entries-more}
-use Rattle.sequences.proofs.leaves.entries.Statement.{statement}
-use Rattle.sequences.proofs.leaves.entries.Tie as tie
+use Rattle.leaves.proofs.LeafLaws.{known-some, known-none, entries-none, entries-stop, entries-low, entries-unknown, entries-bad, entries-more}
+use Rattle.leaves.proofs.entries.Statement.{statement}
+use Rattle.leaves.proofs.entries.Tie as tie
 
 -- the reading of all is the reading of what is left
 abbrev Inv-loop : tie.InvT-loop

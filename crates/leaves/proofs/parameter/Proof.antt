@@ -1,10 +1,10 @@
 use mathlib.Core.Path.{refl, _∙_}
 use mathlib.Core.Logic.{inl, inr}
 use borrow.Author.Needs.{needs}
-use Rattle.sequences.specs.Leaves.{parameterAt}
-use Rattle.sequences.proofs.LeafLaws.{parameter-coerce, parameter-size}
-use Rattle.sequences.proofs.leaves.parameter.Statement.{statement}
-use Rattle.sequences.proofs.leaves.parameter.Tie as tie
+use Rattle.leaves.specs.Leaves.{parameterAt}
+use Rattle.leaves.proofs.LeafLaws.{parameter-coerce, parameter-size}
+use Rattle.leaves.proofs.parameter.Statement.{statement}
+use Rattle.leaves.proofs.parameter.Tie as tie
 
 coerce : tie.Need-returns
 coerce c = rw (c .before .before .enum-told .given .1) (c .place .ensures ∙ parameter-coerce _ _ _ _ _ (c .before .one-of .ensures))

@@ -21,7 +21,7 @@ use Rattle.rules.proofs.CheckLaws.{item-law, bytes-after, text-after}
 use Rattle.cbor.specs.Reading.{fault, ends, headReading, placeReading, reading, unnumbered}
 use Rattle.cbor.proofs.ReadingLaws.{Stopped, alike, head-place, number-place}
 use Rattle.cbor.specs.declared.reading.Reading.{Reading}
-use Rattle.sequences.specs.Leaves.{stringAt, componentAt, parameterAt, entriesAt, argumentAt}
+use Rattle.leaves.specs.Leaves.{stringAt, componentAt, parameterAt, entriesAt, argumentAt}
 
 -- the place after what was read
 abbrev pub forget : {A : Type 0} → Got (A × ℕ) → Got ℕ

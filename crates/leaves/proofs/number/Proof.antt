@@ -1,9 +1,9 @@
 use mathlib.Core.Path.{_∙_}
 use borrow.Author.Needs.{needs}
 use Rattle.rules.specs.Cbor.{item}
-use Rattle.sequences.proofs.LeafLaws.{number-reading}
-use Rattle.sequences.proofs.leaves.number.Statement.{statement}
-use Rattle.sequences.proofs.leaves.number.Tie as tie
+use Rattle.leaves.proofs.LeafLaws.{number-reading}
+use Rattle.leaves.proofs.number.Statement.{statement}
+use Rattle.leaves.proofs.number.Tie as tie
 
 returns : tie.Need-returns
 returns c = c .item .ensures ∙ number-reading _ _ _

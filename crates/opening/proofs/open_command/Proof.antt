@@ -3,9 +3,9 @@ use native.Mathlib.Omega.{arith}
 use borrow.Author.Needs.{needs}
 use borrow.Author.Tests.{not-true, not-false}
 use Rattle.cbor.proofs.ReadingLaws.{number-stopped, number-went}
-use Rattle.sequences.proofs.SequenceLaws.{open-stop, open-unknown, open-not-allowed, open-many, open-argument}
-use Rattle.sequences.proofs.open_command.Statement.{statement}
-use Rattle.sequences.proofs.open_command.Tie as tie
+use Rattle.opening.proofs.OpeningLaws.{open-stop, open-unknown, open-not-allowed, open-many, open-argument}
+use Rattle.opening.proofs.open_command.Statement.{statement}
+use Rattle.opening.proofs.open_command.Tie as tie
 
 stop : tie.Need-returns
 stop c = open-stop _ _ _ _ _ _ _ (number-stopped _ _ _ _ (c .before .number .ensures) (c .if1 .taken))

@@ -2,9 +2,9 @@ use mathlib.Core.Path.{refl, _∙_}
 use mathlib.Core.Logic.{inl}
 use borrow.Author.Needs.{needs}
 use Rattle.cbor.proofs.ReadingLaws.{item-stopped, item-went}
-use Rattle.sequences.proofs.LeafLaws.{argument-sixteen, argument-nil, argument-index, argument-alternatives, argument-no-map, argument-parameters, argument-sequence}
-use Rattle.sequences.proofs.leaves.read_argument.Statement.{statement}
-use Rattle.sequences.proofs.leaves.read_argument.Tie as tie
+use Rattle.leaves.proofs.LeafLaws.{argument-sixteen, argument-nil, argument-index, argument-alternatives, argument-no-map, argument-parameters, argument-sequence}
+use Rattle.leaves.proofs.read_argument.Statement.{statement}
+use Rattle.leaves.proofs.read_argument.Tie as tie
 
 no-map : tie.Need-returns
 no-map c = rw (c .before .before .enum-told5 .given .1) (argument-no-map _ _ _ _ _ (item-stopped _ _ _ _ _ _ _ (c .before .item3 .ensures) (c .if1 .taken)))
