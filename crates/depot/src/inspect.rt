@@ -1,0 +1,120 @@
+// What is told of files: check, show, newer, list.
+ghost use Rattle.io.specs.Counts.{Counts};
+use crate::files::load;
+use crate::pages::page;
+use crate::pages::print;
+use abi::pitvorgas_check;
+use abi::pitvorgas_newer;
+use listing::put_program;
+use program::test::test_program;
+use refusals::put_refused;
+use report::put_checked;
+use report::put_newer;
+use rules::answers::Refusal;
+use show::put_parts;
+
+const FILE: usize = 2;
+
+const SECOND: usize = 3;
+
+pub(crate) fn check_file() {
+    let mut file = io::large_buffer();
+    let loaded = load(FILE, &mut file);
+    if !loaded.ok {
+        return;
+    }
+    let n = loaded.n;
+    let mut text = page();
+    let answer = pitvorgas_check(&file[..n]);
+    let to = put_checked(&mut text, 0, answer, &file[..n]);
+    print(&text, to);
+}
+
+// The manifest of an envelope, or its refusal, at the start of the room: the place after it.
+fn put_shown(room: &mut [u8], envelope: &[u8]) -> usize
+    ensures { λ r. ⌜ Counts r (now (room .exit)) ⌝ }
+{
+    let answer = pitvorgas_check(envelope);
+    if answer.refusal != 0 {
+        return put_refused(room, 0, answer.refusal, answer.place, envelope);
+    }
+    let ids = answer.ids;
+    let sections = answer.sections;
+    put_parts(
+        room,
+        0,
+        envelope,
+        answer.number,
+        answer.components,
+        &ids,
+        &sections,
+    )
+}
+
+pub(crate) fn show_file() {
+    let mut file = io::large_buffer();
+    let loaded = load(FILE, &mut file);
+    if !loaded.ok {
+        return;
+    }
+    let n = loaded.n;
+    let mut text = page();
+    let to = put_shown(&mut text, &file[..n]);
+    print(&text, to);
+}
+
+pub(crate) fn newer_file() {
+    let mut first = io::large_buffer();
+    let one = load(FILE, &mut first);
+    if !one.ok {
+        return;
+    }
+    let mut second = io::large_buffer();
+    let two = load(SECOND, &mut second);
+    if !two.ok {
+        return;
+    }
+    let n = one.n;
+    let m = two.n;
+    let mut text = page();
+    let to = put_newest(&mut text, &first[..n], &second[..m]);
+    print(&text, to);
+}
+
+// Which of two envelopes is newer, and its number.
+fn put_newest(room: &mut [u8], first: &[u8], second: &[u8]) -> usize
+    ensures { λ r. ⌜ Counts r (now (room .exit)) ⌝ }
+{
+    let answer = pitvorgas_newer(first, second);
+    let which = answer.second;
+    if which == 0 {
+        let checked = pitvorgas_check(first);
+        return put_newer(room, 0, answer, checked.number);
+    }
+    let checked = pitvorgas_check(second);
+    put_newer(room, 0, answer, checked.number)
+}
+
+// The records of a program, or its refusal.
+fn put_listed(room: &mut [u8], program: &[u8]) -> usize
+    ensures { λ r. ⌜ Counts r (now (room .exit)) ⌝ }
+{
+    let mut ids = [0usize; 16];
+    let tested = test_program(program, &mut ids);
+    if tested.good {
+        return put_program(room, 0, program);
+    }
+    put_refused(room, 0, Refusal::BadProgram.number() as usize, 0, program)
+}
+
+pub(crate) fn list_file() {
+    let mut file = io::large_buffer();
+    let loaded = load(FILE, &mut file);
+    if !loaded.ok {
+        return;
+    }
+    let n = loaded.n;
+    let mut text = page();
+    let to = put_listed(&mut text, &file[..n]);
+    print(&text, to);
+}

@@ -1,0 +1,111 @@
+// Runs on a described device.
+ghost use mathlib.Core.Path.{_≡_};
+ghost use lib.ListN.{length};
+use crate::files::load;
+use crate::pages::group_word;
+use crate::pages::page;
+use crate::pages::print;
+use crate::pages::say_group;
+use crate::pages::say_line;
+use abi::Device;
+use abi::RunAnswer;
+use abi::pitvorgas_run;
+use abi::pitvorgas_run_program;
+use outcome::put_run;
+use scenario::Scenario;
+use scenario::describe;
+use usage::Asked;
+
+// What is run. A program has its group in itself.
+enum Run {
+    Install,
+    Boot,
+    Program,
+}
+
+fn trace_room() -> [u8; 2048]
+    ensures { λ r. ⌜ 2048 ≡ length r ⌝ }
+{
+    [0; 2048]
+}
+
+fn device_of(d: Scenario) -> Device {
+    let vendor = d.vendor;
+    let class = d.class;
+    Device {
+        vendor,
+        class,
+        number: d.number,
+        event: d.event,
+    }
+}
+
+fn run_as(
+    what: Run,
+    bytes: &[u8],
+    d: Scenario,
+    slots: &mut [u8],
+    answers: &[u8],
+    trace: &mut [u8],
+) -> RunAnswer {
+    let device = device_of(d);
+    match what {
+        Run::Install => pitvorgas_run(bytes, false, d.verdict, device, slots, answers, trace),
+        Run::Boot => pitvorgas_run(bytes, true, d.verdict, device, slots, answers, trace),
+        Run::Program => pitvorgas_run_program(bytes, d.verdict, device, slots, answers, trace),
+    }
+}
+
+// Runs the bytes, and prints what the run did or why it was refused.
+fn run_bytes(bytes: &[u8], what: Run, d: Scenario, slots: &mut [u8], answers: &[u8]) {
+    let mut trace = trace_room();
+    let answer = run_as(what, bytes, d, slots, answers, &mut trace);
+    let mut text = page();
+    let to = put_run(&mut text, 0, answer, bytes, &trace, slots);
+    print(&text, to);
+}
+
+// Reads the description, and runs on the device that it describes. There is room for twice as many slots as a run takes, so that the run tells of too
+// many, and for 64 answers.
+fn run_described(bytes: &[u8], what: Run, description: &[u8]) {
+    let mut slots = [0u8; 1184];
+    let mut answers = [0u8; 2368];
+    let d = describe(description, &mut slots, &mut answers);
+    let refused = d.refused;
+    if refused != 0 {
+        say_line(refused);
+        return;
+    }
+    let n = d.slots;
+    let m = d.answers;
+    run_bytes(bytes, what, d, &mut slots[..n], &answers[..m]);
+}
+
+// The files that two words of the command line name: what is run, and the description.
+fn run_files(what: Run, file: usize, device: usize) {
+    let mut bytes = io::large_buffer();
+    let one = load(file, &mut bytes);
+    if !one.ok {
+        return;
+    }
+    let mut description = io::large_buffer();
+    let two = load(device, &mut description);
+    if !two.ok {
+        return;
+    }
+    let n = one.n;
+    let m = two.n;
+    run_described(&bytes[..n], what, &description[..m]);
+}
+
+pub(crate) fn run_file() {
+    match group_word() {
+        Asked::Install => run_files(Run::Install, 3, 4),
+        Asked::Boot => run_files(Run::Boot, 3, 4),
+        Asked::Unknown => say_group(),
+    }
+}
+
+pub(crate) fn run_program_file() {
+    run_files(Run::Program, 2, 3)
+}
