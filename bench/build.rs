@@ -10,8 +10,8 @@ fn main() {
     let folder = here.join("../target/staticlib");
     println!(
         "cargo::rerun-if-changed={}",
-        folder.join("libabi.a").display()
+        folder.join("libpitvorgas.a").display()
     );
     println!("cargo::rustc-link-search=native={}", folder.display());
-    println!("cargo::rustc-link-lib=static=abi");
+    println!("cargo::rustc-link-lib=static=pitvorgas");
 }

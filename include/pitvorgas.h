@@ -1,11 +1,11 @@
 /* Pitvorgas: check, compare, run and translate SUIT manifests for gate controllers.
  *
- * Link target/staticlib/libabi.a, which `rt staticlib abi` writes. Nothing is allocated, nothing is kept between calls, and no call
+ * Link target/staticlib/libpitvorgas.a, which `rt staticlib pitvorgas` writes. Nothing is allocated, nothing is kept between calls, and no call
  * keeps a pointer. A slice is a pointer, never null, and a length; a slice that is written to overlaps no other of the same call.
  *
  * Every function is proved: for every input it ends, reads and writes only what it is lent, and gives what its comment says. "The rule"
  * is the definition of that name in crates/rules/specs, which is document 01, "Manifest rules for gate controllers", as definitions.
- * The contracts stand over the functions of the same names in crates/abi/src/lib.rt.
+ * The contracts stand over the functions of the same names in crates/pitvorgas/src/lib.rt.
  */
 #ifndef PITVORGAS_H
 #define PITVORGAS_H

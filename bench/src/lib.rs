@@ -6,7 +6,7 @@
 //! - `compare N SEED` has the library and the reading answer generated inputs.
 //! - `time` times both.
 //!
-//! The last two need the feature `ours` and the library's `libabi.a`.
+//! The last two need the feature `ours` and the library's `libpitvorgas.a`.
 
 pub mod answer;
 pub mod conformance;

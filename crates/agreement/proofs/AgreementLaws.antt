@@ -15,13 +15,13 @@ use Rattle.rules.specs.Check.{check}
 use Rattle.rules.specs.Run.{Input, runEnvelope}
 use Rattle.rules.specs.Program.{programOf, programBytes, translate}
 use Rattle.rules.specs.ProgramRun.{runProgram}
-use Rattle.theorems.proofs.Demand3.{demand-3}
-use Rattle.frame.specs.declared.answer.Answer.the-variants as Answer
-use Rattle.frame.specs.declared.answer.Outcome.{Outcome}
-use Rattle.frame.specs.Answer.{inputOf, Settles}
-use Rattle.translator.specs.declared.Translated.{Translated}
-use Rattle.translator.specs.declared.Translated.the-variants.{Refused, Program}
-use Rattle.translator.specs.Translate.{Translates}
+use Rattle.rules_theorems.proofs.Demand3.{demand-3}
+use Rattle.run_admission.specs.declared.answer.Answer.the-variants as Answer
+use Rattle.run_admission.specs.declared.answer.Outcome.{Outcome}
+use Rattle.run_admission.specs.Answer.{inputOf, Settles}
+use Rattle.translate.specs.declared.Translated.{Translated}
+use Rattle.translate.specs.declared.Translated.the-variants.{Refused, Program}
+use Rattle.translate.specs.Translate.{Translates}
 use Rattle.agreement.specs.Agreement.{Agreed}
 
 -- the two answers of a translation differ

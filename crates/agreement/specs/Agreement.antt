@@ -13,10 +13,10 @@ use Rattle.rules.specs.Check.{check}
 use Rattle.rules.specs.Run.{runEnvelope}
 use Rattle.rules.specs.Program.{programOf, programBytes, translate}
 use Rattle.rules.specs.ProgramRun.{runProgram}
-use Rattle.frame.specs.declared.answer.Answer.the-variants as Answer
-use Rattle.frame.specs.Answer.{inputOf, Settles}
-use Rattle.translator.specs.declared.Translated.the-variants.{Refused, Program}
-use Rattle.translator.specs.Translate.{Translates}
+use Rattle.run_admission.specs.declared.answer.Answer.the-variants as Answer
+use Rattle.run_admission.specs.Answer.{inputOf, Settles}
+use Rattle.translate.specs.declared.Translated.the-variants.{Refused, Program}
+use Rattle.translate.specs.Translate.{Translates}
 use Rattle.agreement.specs.declared.Agreement.{Agreement}
 
 pub record Agreed (s : Bytes) (group : Group) (verdict : Bool) (device : Controller) (answers room room′ pslots pslots′ ptrace ptrace′ eslots eslots′ etrace etrace′ : Bytes) (r : Agreement) : Type 0 where

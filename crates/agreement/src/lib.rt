@@ -1,13 +1,13 @@
 // Demand 3 over the jobs: an envelope is translated, its program is run, and the envelope itself is run.
 ghost use Rattle.agreement.specs.Agreement.{Agreed};
-use frame::answer::Answer;
-use frame::answer::Outcome;
-use player::run_program;
+use program_run::run_program;
 use rules::answers::Group;
 use rules::controller::Controller;
-use runner::run;
-use translator::Translated;
-use translator::translate;
+use run_admission::answer::Answer;
+use run_admission::answer::Outcome;
+use run_envelope::run;
+use translate::Translated;
+use translate::translate;
 
 // What each of the three jobs answered. Where the translation was refused, no program was run, and its answer is that refusal.
 pub struct Agreement {

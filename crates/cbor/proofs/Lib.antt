@@ -1,1 +1,4 @@
 pub mod ReadingLaws
+pub mod Held
+pub mod Made
+pub mod ReadLaws

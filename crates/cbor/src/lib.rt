@@ -6,10 +6,11 @@ ghost use Rattle.rules.specs.declared.answers.Refusal.the-variants.{NotCbor};
 ghost use Rattle.rules.specs.Got.{refused, got};
 ghost use Rattle.rules.specs.Cbor.{head, whole, item, oneOf, after};
 ghost use Rattle.cbor.specs.Answer.{headOf, headMeans, itemMeans};
-use numbers::four;
-use numbers::two;
-use numbers::wide;
+use byte_buffer::four;
+use byte_buffer::two;
+use byte_buffer::wide;
 
+pub mod reader;
 pub mod reading;
 
 // Kinds of items.

@@ -2,9 +2,9 @@
 // and that many bytes.
 ghost use mathlib.Core.Path.{_≡_};
 ghost use lib.ListN.{length};
+use byte_buffer::two;
 use libc::STDIN_FILENO;
 use libc::STDOUT_FILENO;
-use numbers::two;
 
 // Room for any line: a program of 65,535 bytes in hexadecimal, and the words around it.
 fn room() -> [u8; 140000]
@@ -16,7 +16,7 @@ fn room() -> [u8; 140000]
 // Writes the line of a case; false where it cannot be written.
 fn write_line(case: &[u8]) -> bool {
     let mut line = room();
-    let to = cases::answer(case, &mut line);
+    let to = conformance_cases::answer(case, &mut line);
     io::write_all(STDOUT_FILENO, &line[..to])
 }
 

@@ -14,11 +14,11 @@ use Rattle.rules.specs.Got.{Got, refused, got, need, _>>=_}
 use Rattle.rules.specs.Manifest.{Manifest}
 use Rattle.rules.specs.Check.{check}
 use Rattle.rules.specs.Program.{translate, programBytes, programOf}
-use Rattle.abi.specs.declared.TranslateAnswer.{TranslateAnswer}
-use Rattle.abi.specs.Answers.{translatedOf}
-use Rattle.scenario.specs.declared.Scenario.{Scenario}
-use Rattle.scenario.specs.Scenario.{described, Describes}
-use Rattle.scenario.proofs.ScenarioLaws.{described-fits}
+use Rattle.pitvorgas.specs.declared.TranslateAnswer.{TranslateAnswer}
+use Rattle.pitvorgas.specs.Answers.{translatedOf}
+use Rattle.device_description.specs.declared.Scenario.{Scenario}
+use Rattle.device_description.specs.Scenario.{described, Describes}
+use Rattle.device_description.proofs.ScenarioLaws.{described-fits}
 use Rattle.io.specs.Counts.{Counts}
 use Rattle.text.specs.Text.{Bytes, Wrote}
 use Rattle.text.proofs.TextLaws.{wrote-length}

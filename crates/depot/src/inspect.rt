@@ -3,15 +3,15 @@ ghost use Rattle.io.specs.Counts.{Counts};
 use crate::files::load;
 use crate::pages::page;
 use crate::pages::print;
-use abi::pitvorgas_check;
-use abi::pitvorgas_newer;
-use listing::put_program;
-use program::test::test_program;
-use refusals::put_refused;
-use report::put_checked;
-use report::put_newer;
+use depot_listing::put_program;
+use depot_refusals::put_refused;
+use depot_report::put_checked;
+use depot_report::put_newer;
+use depot_show::put_parts;
+use pitvorgas::pitvorgas_check;
+use pitvorgas::pitvorgas_newer;
+use program_test::test::test_program;
 use rules::answers::Refusal;
-use show::put_parts;
 
 const FILE: usize = 2;
 

@@ -5,8 +5,8 @@ mod pages;
 mod runs;
 mod translation;
 
-use usage::Job;
-use usage::job_of;
+use depot_usage::Job;
+use depot_usage::job_of;
 
 fn main() {
     let mut word = io::buffer();

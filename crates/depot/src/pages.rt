@@ -2,10 +2,10 @@
 ghost use mathlib.Core.Path.{_≡_};
 ghost use lib.ListN.{length};
 ghost use Rattle.io.specs.Counts.{Counts};
+use depot_usage::Asked;
+use depot_usage::asked_group;
 use libc::STDERR_FILENO;
 use libc::STDOUT_FILENO;
-use usage::Asked;
-use usage::asked_group;
 
 // Room for any text: that of a program of 32,768 bytes has some hundred thousand.
 pub(crate) fn page() -> [u8; 262144]

@@ -7,14 +7,14 @@ use crate::pages::page;
 use crate::pages::print;
 use crate::pages::say_group;
 use crate::pages::say_line;
-use abi::Device;
-use abi::RunAnswer;
-use abi::pitvorgas_run;
-use abi::pitvorgas_run_program;
-use outcome::put_run;
-use scenario::Scenario;
-use scenario::describe;
-use usage::Asked;
+use depot_outcome::put_run;
+use depot_usage::Asked;
+use device_description::Scenario;
+use device_description::describe;
+use pitvorgas::Device;
+use pitvorgas::RunAnswer;
+use pitvorgas::pitvorgas_run;
+use pitvorgas::pitvorgas_run_program;
 
 // What is run. A program has its group in itself.
 enum Run {

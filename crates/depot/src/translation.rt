@@ -6,10 +6,10 @@ use crate::pages::group_word;
 use crate::pages::page;
 use crate::pages::print;
 use crate::pages::say_group;
-use abi::pitvorgas_translate;
-use refusals::put_refused;
-use report::put_translated;
-use usage::Asked;
+use depot_refusals::put_refused;
+use depot_report::put_translated;
+use depot_usage::Asked;
+use pitvorgas::pitvorgas_translate;
 
 const FILE: usize = 3;
 

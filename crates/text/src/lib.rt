@@ -6,6 +6,8 @@ ghost use lib.ListN.{length, replicate};
 ghost use Rattle.text.specs.Text.{Wrote, decimal, padded, hex, quoted};
 ghost use Rattle.text.specs.Text.{digits as Text·digits, digit as Text·digit, printable as Text·printable};
 
+pub mod pieces;
+
 // A decimal number of 64 bits.
 const DIGITS: usize = 20;
 

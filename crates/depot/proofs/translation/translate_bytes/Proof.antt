@@ -1,5 +1,5 @@
 use borrow.Author.Needs.{needs}
-use Rattle.abi.specs.Answers.{groupOf}
+use Rattle.pitvorgas.specs.Answers.{groupOf}
 use Rattle.io.specs.Counts.{Counts}
 use Rattle.depot.proofs.PageLaws.{translated-counts}
 use Rattle.depot.proofs.PageLaws.{wrote-counts}

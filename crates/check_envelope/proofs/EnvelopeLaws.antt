@@ -1,0 +1,203 @@
+-- Check, one step after the other, and what its report says.
+use Prim.Native.Nat.{ℕ, _+_, _≤_, _<_}
+use mathlib.Core.Path.{_≡_, refl, sym, ap, _∙_}
+use mathlib.Core.List.{List}
+use mathlib.Core.Logic.{_⊎_, inl, inr}
+use native.Mathlib.Omega.{arith}
+use lib.Dec.{leb, eqb}
+use lib.ListN.{length, replicate}
+use borrow.Author.Tests.{le-leb, lt-leb, eq-eqb, ne-eqb}
+use Rattle.rules.specs.declared.answers.Refusal.{Refusal}
+use Rattle.rules.specs.declared.answers.Refusal.the-variants.{EnvelopeTooLong, NotCbor}
+use Rattle.rules.specs.Answers.{refusalOf}
+use Rattle.rules.specs.Limits.{limits}
+use Rattle.rules.specs.Bytes.{Bytes, span}
+use Rattle.rules.specs.Got.{Got, refused, got, need, _>>=_}
+use Rattle.rules.specs.Cbor.{BYTES, MAP, after, item}
+use Rattle.rules.specs.Manifest.{Manifest}
+use Rattle.rules.specs.Check.{key, unread, inBytes, manifestAt, check}
+use Rattle.rules.proofs.AnswerLaws.{of-number, not-zero}
+use Rattle.rules.proofs.GotLaws.{both, split}
+use Rattle.rules.proofs.CheckLaws.{item-law, bytes-after}
+use Rattle.cbor.specs.declared.reading.Reading.{Reading}
+use Rattle.check_manifest.specs.declared.Body.{Body}
+use Rattle.check_envelope.specs.declared.report.Checked.{Checked}
+use Rattle.check_envelope.specs.declared.report.Checked.the-variants.{Accepted, Refused}
+use Rattle.check_envelope.specs.declared.report.Report.{Report}
+use Rattle.cbor.specs.Reading.{reading}
+use Rattle.check_manifest.specs.Body.{bodyOf}
+use Rattle.component_ids.specs.Identifiers.{laid}
+use Rattle.check_manifest.specs.Sections.{placed}
+use Rattle.check_envelope.specs.Outer.{outerAt}
+use Rattle.check_envelope.specs.Report.{place, refusedReport, reportOf}
+use Rattle.cbor.proofs.ReadingLaws.{Stopped, alike, bind-assoc, reading-stopped, reading-went}
+use Rattle.check_manifest.proofs.ManifestLaws.{BodyPromise, manifest-part}
+
+-- the envelope around the manifest
+check-law : (s : Bytes) →
+    check s
+    ≡ (need (leb (length s) (limits .envelope)) EnvelopeTooLong 0 >>= λ _. item MAP 2 2 s (length s) 0 >>= λ h. key s 1 (length s) (h .next) >>= λ p.
+    unread s (length s) p >>= λ q. key s 3 (length s) q >>= λ r. item BYTES 0 (limits .number) s (length s) r >>= λ b.
+    manifestAt s (after b) (b .next) >>= λ m. need (eqb (m .1) (after b)) NotCbor (m .1) >>= λ _.
+    need (eqb (m .1) (length s)) NotCbor (m .1) >>= λ _. got (m .0))
+unfolding check inBytes
+check-law s =
+    alike (need (leb (length s) (limits .envelope)) EnvelopeTooLong 0) _ _ λ u q.
+    alike (item MAP 2 2 s (length s) 0) _ _ λ h q₁.
+    alike (key s 1 (length s) (h .next)) _ _ λ p q₂.
+    alike (unread s (length s) p) _ _ λ n q₃.
+    alike (key s 3 (length s) n) _ _ λ r q₄.
+    bind-assoc (item BYTES 0 (limits .number) s (length s) r) _ _ ∙ alike (item BYTES 0 (limits .number) s (length s) r) _ _ λ b q₅.
+    bind-assoc (manifestAt s (after b) (b .next)) _ _ ∙ alike (manifestAt s (after b) (b .next)) _ _ λ m q₆.
+    bind-assoc (need (eqb (m .1) (after b)) NotCbor (m .1)) _ _
+
+module _ (s : Bytes) where
+  inner : ℕ × ℕ → Got Manifest
+  inner o =
+      manifestAt s (o .1 + o .0) (o .1) >>= λ m.
+      need (eqb (m .1) (o .1 + o .0)) NotCbor (m .1) >>= λ _. need (eqb (m .1) (length s)) NotCbor (m .1) >>= λ _. got (m .0)
+
+  -- the envelope's own items, and then the manifest in its byte string
+  parts : check s ≡ (need (leb (length s) (limits .envelope)) EnvelopeTooLong 0 >>= λ _. outerAt s (length s) >>= inner)
+  unfolding outerAt inner
+  parts =
+      check-law s ∙ alike (need (leb (length s) (limits .envelope)) EnvelopeTooLong 0) _ _ λ u q.
+      sym
+      (bind-assoc (item MAP 2 2 s (length s) 0) _ _ ∙ alike (item MAP 2 2 s (length s) 0) _ _ λ h q₁.
+      bind-assoc (key s 1 (length s) (h .next)) _ _ ∙ alike (key s 1 (length s) (h .next)) _ _ λ p q₂.
+      bind-assoc (unread s (length s) p) _ _ ∙ alike (unread s (length s) p) _ _ λ n q₃.
+      bind-assoc (key s 3 (length s) n) _ _ ∙ alike (key s 3 (length s) n) _ _ λ r q₄.
+      bind-assoc (item BYTES 0 (limits .number) s (length s) r) _ _ ∙ alike (item BYTES 0 (limits .number) s (length s) r) _ _ λ b q₅.
+      rw (bytes-after b (item-law s BYTES 0 (limits .number) (length s) r b q₅ .is)))
+
+  -- the report of a refusal
+  pub report-refused : (k : Refusal) (p : ℕ) (r : Report) → check s ≡ refused k p → r ≡ refusedReport k p → r ≡ reportOf (check s)
+  report-refused k p r q e = rw q e
+
+  pub check-long : limits .envelope < length s → check s ≡ refused EnvelopeTooLong 0
+  check-long h = parts ∙ rw (lt-leb _ _ h)
+
+  module _ (fits : length s ≤ limits .envelope) where
+    -- a refusal of the envelope's own items
+    pub check-no-outer : (o : Reading) → o ≡ reading (λ n. n) (outerAt s (length s)) → (o .stop ≡ 0 → ⊥) → (k : Refusal) → k ≡ refusalOf (o .stop) → (r : Report) →
+        r ≡ refusedReport k (o .at) → r ≡ reportOf (check s)
+    check-no-outer o q h k e r y =
+        let x = reading-stopped (λ n. n) (outerAt s (length s)) o q h in
+        go x (e ∙ ap (λ (z : Reading). refusalOf (z .stop)) (x .is) ∙ of-number (x .refusal)) (ap (λ (z : Reading). z .at) (x .is))
+      where
+        go : (x : Stopped (outerAt s (length s)) o) → k ≡ x .refusal → o .at ≡ x .place → r ≡ reportOf (check s)
+        go x u v =
+            let c : check s ≡ refused (x .refusal) (x .place) = parts ∙ rw (le-leb _ _ fits, x .was) in
+            rw c (y ∙ λ j. refusedReport (u j) (v j))
+
+    module _ (o : Reading) (q : o ≡ reading (λ n. n) (outerAt s (length s))) (z : o .stop ≡ 0) where
+      opened : outerAt s (length s) ≡ got (o .value, o .at)
+      opened = let (a, g, v) = reading-went (λ n. n) (outerAt s (length s)) o q z in g ∙ (λ j. got (sym v j, o .at))
+
+      -- the byte string lies in the envelope
+      pub outer-fits : o .at + o .value ≤ length s
+      unfolding outerAt
+      outer-fits =
+          split _ (item MAP 2 2 s (length s) 0) _ (o .value, o .at) opened λ h q₁ x₁.
+          split _ (key s 1 (length s) (h .next)) _ (o .value, o .at) x₁ λ p q₂ x₂.
+          split _ (unread s (length s) p) _ (o .value, o .at) x₂ λ n q₃ x₃.
+          split _ (key s 3 (length s) n) _ (o .value, o .at) x₃ λ r q₄ x₄.
+          split _ (item BYTES 0 (limits .number) s (length s) r) _ (o .value, o .at) x₄ λ b q₅ x₅.
+          let (u, v) = both x₅ in
+          let i = item-law s BYTES 0 (limits .number) (length s) r b q₅ in
+          omega (arith, i .fits, bytes-after b (i .is))
+
+      at-manifest : check s ≡ inner (o .value, o .at)
+      at-manifest = parts ∙ rw (le-leb _ _ fits, opened)
+
+      -- a refusal of the manifest
+      pub check-bad : (b : Body) (i i′ p p′ : List ℕ) → BodyPromise (manifestAt s (o .at + o .value) (o .at)) b i i′ p p′ → (b .stop ≡ 0 → ⊥) → (k : Refusal) → k ≡ refusalOf (b .stop) →
+          (r : Report) → r ≡ refusedReport k (b .at) → r ≡ reportOf (check s)
+      unfolding inner
+      check-bad b i i′ p p′ w h k e r y = rw at-manifest (go (manifestAt s (o .at + o .value) (o .at)) (w .0))
+        where
+          go : (x : Got (Manifest × ℕ)) → b ≡ bodyOf x →
+              r ≡ reportOf (x >>= λ m. need (eqb (m .1) (o .at + o .value)) NotCbor (m .1) >>= λ _. need (eqb (m .1) (length s)) NotCbor (m .1) >>= λ _. got (m .0))
+          go (refused c d) u =
+              y ∙ λ j. refusedReport ((e ∙ ap (λ (z : Body). refusalOf (z .stop)) u ∙ of-number c) j) (ap (λ (z : Body). z .at) u j)
+          go (got m) u = absurd (h (ap (λ (z : Body). z .stop) u))
+
+      module _ (b : Body) (i i′ p p′ : List ℕ) (w : BodyPromise (manifestAt s (o .at + o .value) (o .at)) b i i′ p p′) (h : b .stop ≡ 0) where
+        -- left-over bytes, in the manifest's byte string or after it
+        pub check-left-over : (b .at ≡ o .at + o .value → ⊥) ⊎ ((b .at ≡ o .at + o .value) × (b .at ≡ length s → ⊥)) → (r : Report) → r ≡ refusedReport NotCbor (b .at) → r ≡ reportOf (check s)
+        unfolding inner
+        check-left-over n r y = rw at-manifest (go (manifestAt s (o .at + o .value) (o .at)) (w .0))
+          where
+            over : (m : Manifest × ℕ) → b .at ≡ m .1 → r ≡ reportOf (need (eqb (m .1) (o .at + o .value)) NotCbor (m .1) >>= λ _. need (eqb (m .1) (length s)) NotCbor (m .1) >>= λ _. got (m .0))
+            over m u = rw (← u) (side n)
+              where
+                side : (b .at ≡ o .at + o .value → ⊥) ⊎ ((b .at ≡ o .at + o .value) × (b .at ≡ length s → ⊥)) →
+                    r ≡ reportOf (need (eqb (b .at) (o .at + o .value)) NotCbor (b .at) >>= λ _. need (eqb (b .at) (length s)) NotCbor (b .at) >>= λ _. got (m .0))
+                side (inl x) = rw (ne-eqb _ _ x) y
+                side (inr x) = rw (eq-eqb _ _ (x .0), ne-eqb _ _ (x .1)) y
+
+            go : (x : Got (Manifest × ℕ)) → b ≡ bodyOf x →
+                r ≡ reportOf (x >>= λ m. need (eqb (m .1) (o .at + o .value)) NotCbor (m .1) >>= λ _. need (eqb (m .1) (length s)) NotCbor (m .1) >>= λ _. got (m .0))
+            go (refused c d) u = absurd (not-zero c (ap (λ (z : Body). z .stop) (sym u) ∙ h))
+            go (got m) u = over m (ap (λ (z : Body). z .at) u)
+
+        -- all is accepted
+        pub check-good : b .at ≡ o .at + o .value → b .at ≡ length s → i ≡ replicate 16 0 → p ≡ replicate 12 0 →
+            _≡_ {A = Report}
+            (record {
+              answer = Accepted;
+              number = b .number;
+              components = b .components;
+              ids = i′;
+              manifest = record { from = o .at; to = b .at };
+              common = record { from = b .from; to = b .to };
+              sections = p′;
+            })
+            (reportOf (check s))
+        unfolding inner
+        check-good n l ei ep = rw at-manifest (go (manifestAt s (o .at + o .value) (o .at)) refl w)
+          where
+            over : (m : Manifest × ℕ) → b ≡ bodyOf (got m) → m .0 .part ≡ span (o .at) (m .1) → i′ ≡ laid (m .0 .ids) i → p′ ≡ placed (m .0 .sections) p →
+                _≡_ {A = Report}
+                (record {
+                  answer = Accepted;
+                  number = b .number;
+                  components = b .components;
+                  ids = i′;
+                  manifest = record { from = o .at; to = b .at };
+                  common = record { from = b .from; to = b .to };
+                  sections = p′;
+                })
+                (reportOf (need (eqb (m .1) (o .at + o .value)) NotCbor (m .1) >>= λ _. need (eqb (m .1) (length s)) NotCbor (m .1) >>= λ _. got (m .0)))
+            over m u v a c =
+                let at : b .at ≡ m .1 = ap (λ (z : Body). z .at) u in
+                rw (← at, eq-eqb _ _ n, eq-eqb _ _ l)
+                (λ j.
+                record {
+                  answer = Accepted;
+                  number = u j .number;
+                  components = u j .components;
+                  ids = (a ∙ ap (laid (m .0 .ids)) ei) j;
+                  manifest = (ap (λ (t : ℕ). place (span (o .at) t)) at ∙ sym (ap place v)) j;
+                  common = record { from = u j .from; to = u j .to };
+                  sections = (c ∙ ap (placed (m .0 .sections)) ep) j;
+                })
+
+            go : (x : Got (Manifest × ℕ)) → manifestAt s (o .at + o .value) (o .at) ≡ x → BodyPromise x b i i′ p p′ →
+                _≡_ {A = Report}
+                (record {
+                  answer = Accepted;
+                  number = b .number;
+                  components = b .components;
+                  ids = i′;
+                  manifest = record { from = o .at; to = b .at };
+                  common = record { from = b .from; to = b .to };
+                  sections = p′;
+                })
+                (reportOf (x >>= λ m. need (eqb (m .1) (o .at + o .value)) NotCbor (m .1) >>= λ _. need (eqb (m .1) (length s)) NotCbor (m .1) >>= λ _. got (m .0)))
+            go (refused c d) t (u, k) = absurd (not-zero c (ap (λ (z : Body). z .stop) (sym u) ∙ h))
+            go (got m) t (u, k) = over m u (manifest-part s (o .at + o .value) (o .at) (m .0) (m .1) t) (k .0) (k .1)
+
+-- a refused report is not an accepted one
+pub differ : (k : Refusal) (p : ℕ) → _≡_ {A = Checked} (Refused k p) Accepted → ⊥
+differ k p q = let z : _≡_ {A = ℕ} 0 1 = cc in omega arith

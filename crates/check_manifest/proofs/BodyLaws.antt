@@ -1,0 +1,92 @@
+-- The manifest by its parts: a reading goes on or stops, and the rules of check as the chain in which the code reads.
+use Prim.Native.Nat.{ℕ, _-_}
+use mathlib.Core.Path.{_≡_, refl, sym, ap, _∙_}
+use mathlib.Core.List.{_++_}
+use native.Mathlib.Omega.{arith}
+use lib.Dec.{eqb}
+use lib.ListN.{length}
+use Rattle.rules.specs.declared.answers.Refusal.{Refusal}
+use Rattle.rules.specs.declared.answers.Refusal.the-variants.{NotCbor, WrongVersion}
+use Rattle.rules.specs.Answers.{refusalNumber}
+use Rattle.rules.specs.Limits.{limits}
+use Rattle.rules.specs.Bytes.{Bytes, span}
+use Rattle.rules.specs.Got.{Got, refused, got, need, _>>=_}
+use Rattle.rules.specs.Cbor.{NUMBER, BYTES, MAP, Head, after, item}
+use Rattle.rules.specs.Manifest.{countAll}
+use Rattle.rules.specs.Check.{number, key, inBytes, components, commonSeq, commonAt, sectionsAt, manifestAt}
+use Rattle.rules.proofs.CheckLaws.{item-law}
+use Rattle.cbor.specs.declared.reading.Reading.{Reading}
+use Rattle.cbor.specs.Reading.{ends, view, headReading}
+use Rattle.check_manifest.specs.Body.{versionAt, numberedAt, frontAt, commonIn}
+use Rattle.cbor.proofs.ReadingLaws.{stopped, went, alike, bind-assoc}
+
+-- r tells what was read: where x ends and a number of it, or its refusal
+pub record Told {A : Type 0} (p v : A → ℕ) (x : Got A) (r : Reading) : Type 0 where
+  pub is : r ≡ view p v x
+
+-- what was read at a place that is known by another name
+pub told : {A : Type 0} (p v : A → ℕ) (x : ℕ → Got A) {r : Reading} {at at′ : ℕ} → r ≡ view p v (x at) → at ≡ at′ → Told p v (x at′) r
+told p v x {r} e q = record { is = e ∙ ap (λ (a : ℕ). view p v (x a)) q }
+
+module _ {A : Type 0} {p v : A → ℕ} {x : Got A} {r : Reading} (t : Told p v x r) where
+  -- it went on: what is to show, is to show of what follows
+  pub onward : {B C : Type 0} (out : Got B → C) (f : A → Got B) (z : C) → r .stop ≡ 0 →
+      ((a : A) → r .at ≡ p a → r .value ≡ v a → z ≡ out (f a)) → z ≡ out (x >>= f)
+  onward out f z h k =
+      let (a, q, at, value) = went p v x r (t .is) h in
+      k a at value ∙ ap (λ (y : Got A). out (y >>= f)) (sym q)
+
+  -- it stopped: its refusal and place are all that is left, in this struct or another
+  pub halted : {B C : Type 0} (out : Got B → C) (made : ℕ → ℕ → C) → ((k : Refusal) (q : ℕ) → out (refused k q) ≡ made (refusalNumber k) q) →
+      (f : A → Got B) → (r .stop ≡ 0 → ⊥) → made (r .stop) (r .at) ≡ out (x >>= f)
+  halted out made same f h = go x (t .is)
+    where
+      go : (y : Got A) → r ≡ view p v y → made (r .stop) (r .at) ≡ out (y >>= f)
+      go (refused k q) g = ap (λ (z : Reading). made (z .stop) (z .at)) g ∙ sym (same k q)
+      go (got a) g = absurd (h (ap (λ (z : Reading). z .stop) g))
+
+  pub halts : {B : Type 0} (p′ v′ : B → ℕ) (f : A → Got B) → (r .stop ≡ 0 → ⊥) → r ≡ view p′ v′ (x >>= f)
+  halts p′ v′ f h = stopped p v x r (t .is) p′ v′ f h
+
+module _ (s : Bytes) where
+  -- a key is its item's
+  pub key-reading : (k e at : ℕ) → headReading (item NUMBER k k s e at) ≡ view (λ q. q) (λ q. k) (key s k e at)
+  unfolding key
+  key-reading k e at = go (item NUMBER k k s e at) (λ h q. let i = item-law s NUMBER k k e at h q in omega arith)
+    where
+      go : (x : Got Head) → ((h : Head) → x ≡ got h → h .num ≡ k) → headReading x ≡ view (λ q. q) (λ q. k) (x >>= λ h. got (h .next))
+      go (refused r p) f = refl
+      go (got h) f = ap (λ (n : ℕ). ends (h .next) n) (f h refl)
+
+  pub key-told : (k e : ℕ) {r : Reading} {at at′ : ℕ} → r ≡ headReading (item NUMBER k k s e at) → at ≡ at′ → Told (λ q. q) (λ q. k) (key s k e at′) r
+  key-told k e {r} {at} q p = told (λ q. q) (λ q. k) (λ a. key s k e a) (q ∙ key-reading k e at) p
+
+  -- the manifest: up to common, common, the sections
+  pub manifest-law : (e at : ℕ) →
+      manifestAt s e at
+      ≡ (frontAt s e at >>= λ f. commonIn s e (f .1) >>= λ c.
+      sectionsAt s (length (c .0 .0)) (f .0 .0 - 3) 8 (countAll (c .0 .1)) e (c .1 .to) >>= λ y.
+      got (record { part = span at (y .1); number = f .0 .1; ids = c .0 .0; common = c .1; sections = c .0 .1 ++ y .0 }, y .1))
+  unfolding manifestAt frontAt versionAt numberedAt commonIn
+  manifest-law e at =
+      sym (bind-assoc (item MAP 3 8 s e at) _ _ ∙ alike (item MAP 3 8 s e at) _ _ λ h q.
+      bind-assoc (versionAt s e (h .next)) _ _ ∙ bind-assoc (key s 1 e (h .next)) _ _ ∙ alike (key s 1 e (h .next)) _ _ λ p q₁.
+      bind-assoc (number s e p) _ _ ∙ alike (number s e p) _ _ λ a q₂.
+      bind-assoc (need (eqb (a .0) 1) WrongVersion p) _ _ ∙ alike (need (eqb (a .0) 1) WrongVersion p) _ _ λ u q₃.
+      bind-assoc (numberedAt s e (a .1)) _ _ ∙ bind-assoc (key s 2 e (a .1)) _ _ ∙ alike (key s 2 e (a .1)) _ _ λ p₂ q₄.
+      bind-assoc (number s e p₂) _ _ ∙ alike (number s e p₂) _ _ λ n q₅.
+      bind-assoc (key s 3 e (n .1)) _ _)
+
+  -- common in its byte string
+  pub common-law : (e at : ℕ) →
+      commonIn s e at
+      ≡ (item BYTES 0 (limits .number) s e at >>= λ b. item MAP 1 2 s (after b) (b .next) >>= λ h. key s 2 (after b) (h .next) >>= λ p.
+      inBytes s (components s) (after b) p >>= λ l. commonSeq s (length (l .0)) (h .num - 1) (after b) (l .1 .to) >>= λ x.
+      need (eqb (x .1) (after b)) NotCbor (x .1) >>= λ _. got ((l .0, x .0), span (b .next) (x .1)))
+  unfolding commonIn inBytes commonAt
+  common-law e at =
+      alike (item BYTES 0 (limits .number) s e at) _ _ λ b q.
+      bind-assoc (item MAP 1 2 s (after b) (b .next)) _ _ ∙ alike (item MAP 1 2 s (after b) (b .next)) _ _ λ h q₁.
+      bind-assoc (key s 2 (after b) (h .next)) _ _ ∙ alike (key s 2 (after b) (h .next)) _ _ λ p q₂.
+      bind-assoc (inBytes s (components s) (after b) p) _ _ ∙ alike (inBytes s (components s) (after b) p) _ _ λ l q₃.
+      bind-assoc (commonSeq s (length (l .0)) (h .num - 1) (after b) (l .1 .to)) _ _

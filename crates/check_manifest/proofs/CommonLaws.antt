@@ -1,0 +1,86 @@
+-- Common, one step after the other, in the order in which it is read.
+use Prim.Native.Nat.{ℕ, _+_, _-_}
+use mathlib.Core.Path.{_≡_, ap, _∙_}
+use mathlib.Core.List.{List, []}
+use lib.ListN.{length}
+use borrow.Author.Tests.{eq-eqb, ne-eqb}
+use Rattle.rules.specs.declared.answers.Refusal.the-variants.{NotCbor}
+use Rattle.rules.specs.Limits.{limits}
+use Rattle.rules.specs.Bytes.{Bytes, Span, span}
+use Rattle.rules.specs.Got.{Got, got, _>>=_}
+use Rattle.rules.specs.Cbor.{NUMBER, BYTES, MAP, item}
+use Rattle.rules.specs.Manifest.{Section, countAll}
+use Rattle.rules.specs.Check.{key, inBytes, components, commonSeq}
+use Rattle.cbor.specs.declared.reading.Reading.{Reading}
+use Rattle.check_manifest.specs.declared.Common.{Common}
+use Rattle.cbor.specs.Reading.{fault, reading}
+use Rattle.check_manifest.specs.Sections.{Placed}
+use Rattle.check_manifest.specs.Body.{commonIn, commonOf, listReading, Ids, Kept}
+use Rattle.cbor.proofs.ReadingLaws.{Stopped, stop-of, went, reading-went}
+use Rattle.check_manifest.proofs.BodyLaws.{common-law}
+
+-- what is promised of common
+abbrev pub CommonPromise : Got ((List Span × List Section) × Span) → Common → List ℕ → List ℕ → List ℕ → List ℕ → Type 0
+CommonPromise x c ids ids′ places places′ = (c ≡ commonOf x) × Kept (λ y. y .0) (λ y. y .1) x ids ids′ places places′
+
+pub none-common : (x : Got ((List Span × List Section) × Span)) (r : Reading) (c : Common) (i i′ p p′ : List ℕ) → Stopped x r →
+    c ≡ record { stop = r .stop; at = r .at; components = 0; commands = 0; from = 0 } → CommonPromise x c i i′ p p′
+none-common x r c i i′ p p′ y e =
+    (rw (y .was) (e ∙ ap (λ (z : Reading). record { stop = z .stop; at = z .at; components = 0; commands = 0; from = 0 }) (y .is)), rw (y .was) tt)
+
+module _ (s : Bytes) (e at : ℕ) where
+  pub common-no-bytes : (r : Reading) → Stopped (item BYTES 0 (limits .number) s e at) r → Stopped (commonIn s e at) r
+  common-no-bytes r x = record { refusal = x .refusal; place = x .place; was = common-law s e at ∙ rw (x .was); is = x .is }
+
+  module _ (v p : ℕ) (q : item BYTES 0 (limits .number) s e at ≡ got (record { kind = BYTES; num = v; next = p })) where
+    pub common-no-map : (r : Reading) → Stopped (item MAP 1 2 s (p + v) p) r → Stopped (commonIn s e at) r
+    common-no-map r x = record { refusal = x .refusal; place = x .place; was = common-law s e at ∙ rw (q, x .was); is = x .is }
+
+    module _ (k p₂ : ℕ) (q₂ : item MAP 1 2 s (p + v) p ≡ got (record { kind = MAP; num = k; next = p₂ })) where
+      pub common-no-key : (r : Reading) → Stopped (item NUMBER 2 2 s (p + v) p₂) r → Stopped (commonIn s e at) r
+      unfolding key
+      common-no-key r x = record { refusal = x .refusal; place = x .place; was = common-law s e at ∙ rw (q, q₂, x .was); is = x .is }
+
+      module _ (w p₃ : ℕ) (q₃ : item NUMBER 2 2 s (p + v) p₂ ≡ got (record { kind = NUMBER; num = w; next = p₃ })) where
+        pub common-no-list : (r : Reading) → Stopped (inBytes s (components s) (p + v) p₃) r → Stopped (commonIn s e at) r
+        unfolding key
+        common-no-list r x = record { refusal = x .refusal; place = x .place; was = common-law s e at ∙ rw (q, q₂, q₃, x .was); is = x .is }
+
+        module _ (ids : List Span) (u : Span) (q₄ : inBytes s (components s) (p + v) p₃ ≡ got (ids, u)) (n a : ℕ) (en : n ≡ length ids) (ea : a ≡ u .to) where
+          here : commonSeq s (length ids) (k - 1) (p + v) (u .to) ≡ commonSeq s n (k - 1) (p + v) a
+          here = rw (en, ea)
+
+          pub common-bad : (r : Reading) → Stopped (commonSeq s n (k - 1) (p + v) a) r → Stopped (commonIn s e at) r
+          unfolding key
+          common-bad r x = record { refusal = x .refusal; place = x .place; was = common-law s e at ∙ rw (q, q₂, q₃, q₄, here, x .was); is = x .is }
+
+          module _ (xs : List Section) (next : ℕ) (q₅ : commonSeq s n (k - 1) (p + v) a ≡ got (xs, next)) where
+            pub common-left-over : (next ≡ p + v → ⊥) → (r : Reading) → r ≡ fault NotCbor next → Stopped (commonIn s e at) r
+            unfolding key
+            common-left-over o r x =
+                record { refusal = NotCbor; place = next; was = common-law s e at ∙ rw (q, q₂, q₃, q₄, here, q₅, ne-eqb _ _ o); is = x }
+
+            pub common-got : next ≡ p + v → commonIn s e at ≡ got ((ids, xs), span p (p + v))
+            unfolding key
+            common-got o = common-law s e at ∙ rw (q, q₂, q₃, q₄, here, q₅, eq-eqb _ _ o, o)
+
+            pub common-good : next ≡ p + v → (c : ℕ) → c ≡ countAll xs → (i i′ b b′ : List ℕ) → Ids (λ l. l) (inBytes s (components s) (p + v) p₃) i i′ →
+                Placed (λ ys. ys) (commonSeq s n (k - 1) (p + v) a) b b′ →
+                CommonPromise (commonIn s e at) (record { stop = 0; at = p + v; components = n; commands = c; from = p }) i i′ b b′
+            common-good o c ec i i′ b b′ x y =
+                rw (common-got o)
+                ((λ j. record { stop = 0; at = p + v; components = en j; commands = ec j; from = p }), (rw q₄ at x, rw q₅ at y))
+
+-- what the list of components gave where it went on
+pub list-went : (s : Bytes) (e at : ℕ) (r : Reading) → r ≡ listReading (inBytes s (components s) e at) → r .stop ≡ 0 →
+    (ids : List Span) × (u : Span) × (inBytes s (components s) e at ≡ got (ids, u)) × (r .at ≡ u .to) × (r .value ≡ length ids)
+list-went s e at r q h =
+    let (a, g, x, y) = went (λ a. a .1 .to) (λ a. length (a .0)) (inBytes s (components s) e at) r q h in
+    (a .0, a .1, g, x, y)
+
+pub list-stopped : (s : Bytes) (e at : ℕ) (r : Reading) → r ≡ listReading (inBytes s (components s) e at) → (r .stop ≡ 0 → ⊥) → Stopped (inBytes s (components s) e at) r
+list-stopped s e at r q h = stop-of (λ a. a .1 .to) (λ a. length (a .0)) (inBytes s (components s) e at) r q h
+
+pub common-sequence-went : (s : Bytes) (n k e at : ℕ) (r : Reading) → r ≡ reading countAll (commonSeq s n k e at) → r .stop ≡ 0 →
+    (xs : List Section) × (commonSeq s n k e at ≡ got (xs, r .at)) × (r .value ≡ countAll xs)
+common-sequence-went s n k e at r q h = reading-went countAll (commonSeq s n k e at) r q h

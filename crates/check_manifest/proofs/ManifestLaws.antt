@@ -1,0 +1,120 @@
+-- The manifest, one part after the other.
+use Prim.Native.Nat.{ℕ, _+_, _-_, _≤_}
+use mathlib.Core.Path.{_≡_, refl, sym, ap, _∙_}
+use mathlib.Core.List.{List, [], _∷_, _++_}
+use native.Mathlib.Omega.{arith}
+use lib.ListN.{length}
+use Rattle.rules.proofs.AnswerLaws.{not-zero}
+use Rattle.rules.specs.Bytes.{Bytes, Span, span}
+use Rattle.rules.specs.Got.{Got, refused, got, _>>=_}
+use Rattle.rules.specs.Cbor.{MAP, item}
+use Rattle.rules.proofs.GotLaws.{both, split}
+use Rattle.rules.proofs.CheckLaws.{item-law}
+use Rattle.component_ids.specs.Identifiers.{laid}
+use Rattle.rules.specs.Manifest.{Section, countAll, Manifest}
+use Rattle.rules.specs.Check.{sectionsAt, manifestAt}
+use Rattle.cbor.specs.declared.reading.Reading.{Reading}
+use Rattle.check_manifest.specs.declared.Front.{Front}
+use Rattle.check_manifest.specs.declared.Common.{Common}
+use Rattle.check_manifest.specs.declared.Body.{Body}
+use Rattle.check_manifest.specs.Sections.{placed}
+use Rattle.check_manifest.specs.Body.{versionAt, numberedAt, frontAt, frontOf, commonIn, commonOf, bodyOf, Kept}
+use Rattle.cbor.proofs.ReadingLaws.{reading-stopped, reading-went}
+use Rattle.check_manifest.proofs.SectionLaws.{Promise}
+use Rattle.check_manifest.proofs.BodyLaws.{manifest-law}
+use Rattle.check_manifest.proofs.CommonLaws.{CommonPromise}
+
+abbrev none : ℕ → ℕ → Body
+none n p = record { stop = n; at = p; number = 0; components = 0; from = 0; to = 0 }
+
+-- what is promised of the manifest
+abbrev pub BodyPromise : Got (Manifest × ℕ) → Body → List ℕ → List ℕ → List ℕ → List ℕ → Type 0
+BodyPromise x b ids ids′ places places′ = (b ≡ bodyOf x) × Kept (λ m. m .ids) (λ m. m .sections) x ids ids′ places places′
+
+placed-append : (xs ys : List Section) (a : List ℕ) → placed (xs ++ ys) a ≡ placed ys (placed xs a)
+placed-append [] ys a = refl
+placed-append (x ∷ xs) ys a = placed-append xs ys _
+
+-- the start and common: each stopped, or is known by its numbers
+front-is : (x : Got ((ℕ × ℕ) × ℕ)) (f : Front) → f ≡ frontOf x → f .stop ≡ 0 → x ≡ got ((f .entries, f .number), f .at)
+front-is (refused k p) f e h = absurd (not-zero k (ap (λ (z : Front). z .stop) (sym e) ∙ h))
+front-is (got a) f e h = λ j. got ((sym (ap (λ (z : Front). z .entries) e) j, sym (ap (λ (z : Front). z .number) e) j), sym (ap (λ (z : Front). z .at) e) j)
+
+common-is : (x : Got ((List Span × List Section) × Span)) (c : Common) → c ≡ commonOf x → c .stop ≡ 0 →
+    (ids : List Span) × (xs : List Section) × (x ≡ got ((ids, xs), span (c .from) (c .at))) × (c .components ≡ length ids) × (c .commands ≡ countAll xs)
+common-is (refused k p) c e h = absurd (not-zero k (ap (λ (z : Common). z .stop) (sym e) ∙ h))
+common-is (got a) c e h = (
+  a .0 .0,
+  a .0 .1,
+  (λ j. got (a .0, span (sym (ap (λ (z : Common). z .from) e) j) (sym (ap (λ (z : Common). z .at) e) j))),
+  ap (λ (z : Common). z .components) e,
+  ap (λ (z : Common). z .commands) e,
+)
+
+-- the start stopped
+pub manifest-no-front : (s : Bytes) (e at : ℕ) (f : Front) (i i₂ b b₂ : List ℕ) → f ≡ frontOf (frontAt s e at) → (f .stop ≡ 0 → ⊥) →
+    BodyPromise (manifestAt s e at) (none (f .stop) (f .at)) i i₂ b b₂
+manifest-no-front s e at f i i₂ b b₂ q h = rw (manifest-law s e at) (go (frontAt s e at) _ q)
+  where
+    go : (x : Got ((ℕ × ℕ) × ℕ)) (g : (ℕ × ℕ) × ℕ → Got (Manifest × ℕ)) → f ≡ frontOf x → BodyPromise (x >>= g) (none (f .stop) (f .at)) i i₂ b b₂
+    go (refused k p) g u = (ap (λ (z : Front). none (z .stop) (z .at)) u, tt)
+    go (got a) g u = absurd (h (ap (λ (z : Front). z .stop) u))
+
+module _ (s : Bytes) (e at : ℕ) (f : Front) (i i′ b : List ℕ) where
+  module _ (q : f ≡ frontOf (frontAt s e at)) (h : f .stop ≡ 0) (c : Common) (b₂ : List ℕ) (y : CommonPromise (commonIn s e (f .at)) c i i′ b b₂) where
+    -- common stopped
+    pub manifest-no-common : (c .stop ≡ 0 → ⊥) → BodyPromise (manifestAt s e at) (none (c .stop) (c .at)) i i′ b b₂
+    manifest-no-common n = rw (manifest-law s e at, front-is (frontAt s e at) f q h) (go (commonIn s e (f .at)) _ (y .0))
+      where
+        go : (x : Got ((List Span × List Section) × Span)) (g : (List Span × List Section) × Span → Got (Manifest × ℕ)) → c ≡ commonOf x →
+            BodyPromise (x >>= g) (none (c .stop) (c .at)) i i′ b b₂
+        go (refused k p) g u = (ap (λ (z : Common). none (z .stop) (z .at)) u, tt)
+        go (got a) g u = absurd (n (ap (λ (z : Common). z .stop) u))
+
+    module _ (z : c .stop ≡ 0) (r : Reading) (b₃ : List ℕ)
+        (w : Promise (λ xs. c .commands + countAll xs) (λ xs. xs) (sectionsAt s (c .components) (f .entries - 3) 8 (c .commands) e (c .at)) r b₂ b₃) where
+      -- the sections stopped
+      pub manifest-bad : (r .stop ≡ 0 → ⊥) → BodyPromise (manifestAt s e at) (none (r .stop) (r .at)) i i′ b b₃
+      manifest-bad n =
+          let (ids, xs, g, u, v) = common-is (commonIn s e (f .at)) c (y .0) z in
+          let x = reading-stopped (λ xs. c .commands + countAll xs) (sectionsAt s (c .components) (f .entries - 3) 8 (c .commands) e (c .at)) r (w .0) n in
+          rw (manifest-law s e at, front-is (frontAt s e at) f q h, g, ← u, ← v, x .was) (ap (λ (t : Reading). none (t .stop) (t .at)) (x .is), tt)
+
+      -- all is accepted
+      pub manifest-good : r .stop ≡ 0 →
+          BodyPromise (manifestAt s e at) (record { stop = 0; at = r .at; number = f .number; components = c .components; from = c .from; to = c .at }) i i′ b b₃
+      manifest-good n =
+          let (ids, xs, g, u, v) = common-is (commonIn s e (f .at)) c (y .0) z in
+          let (ys, t, _) = reading-went (λ xs. c .commands + countAll xs) (sectionsAt s (c .components) (f .entries - 3) 8 (c .commands) e (c .at)) r (w .0) n in
+          go ids xs ys g u v t (rw g at (y .1)) (rw t at (w .1))
+        where
+          go : (ids : List Span) (xs ys : List Section) → commonIn s e (f .at) ≡ got ((ids, xs), span (c .from) (c .at)) → c .components ≡ length ids → c .commands ≡ countAll xs →
+              sectionsAt s (c .components) (f .entries - 3) 8 (c .commands) e (c .at) ≡ got (ys, r .at) → (i′ ≡ laid ids i) × (b₂ ≡ placed xs b) → b₃ ≡ placed ys b₂ →
+              BodyPromise (manifestAt s e at) (record { stop = 0; at = r .at; number = f .number; components = c .components; from = c .from; to = c .at }) i i′ b b₃
+          go ids xs ys g u v t (k, l) o =
+              let all : manifestAt s e at ≡ got (record { part = span at (r .at); number = f .number; ids = ids; common = span (c .from) (c .at); sections = xs ++ ys }, r .at) =
+              manifest-law s e at ∙ rw (front-is (frontAt s e at) f q h, g, ← u, ← v, t) in
+              rw all
+              ((λ j. record { stop = 0; at = r .at; number = f .number; components = u j; from = c .from; to = c .at }), (k, o ∙ ap (placed ys) l ∙ sym (placed-append xs ys b)))
+
+-- a manifest has at least three entries
+pub front-entries : (s : Bytes) (e at : ℕ) (f : Front) → f ≡ frontOf (frontAt s e at) → f .stop ≡ 0 → 3 ≤ f .entries
+unfolding frontAt
+front-entries s e at f q h =
+    let x : frontAt s e at ≡ got ((f .entries, f .number), f .at) = front-is (frontAt s e at) f q h in
+    split _ (item MAP 3 8 s e at) _ ((f .entries, f .number), f .at) x λ m qm x₁.
+    split _ (versionAt s e (m .next)) _ ((f .entries, f .number), f .at) x₁ λ p qp x₂.
+    split _ (numberedAt s e p) _ ((f .entries, f .number), f .at) x₂ λ n qn x₃.
+    let i = item-law s MAP 3 8 e at m qm in
+    let (pair, _) = both x₃ in
+    let k : m .num ≡ f .entries = ap (λ (z : ℕ × ℕ). z .0) pair in
+    omega (arith, i .low)
+
+-- the manifest's part starts where it was read, and ends where the reading did
+pub manifest-part : (s : Bytes) (e at : ℕ) (m : Manifest) (q : ℕ) → manifestAt s e at ≡ got (m, q) → m .part ≡ span at q
+manifest-part s e at m q x =
+    split _ (frontAt s e at) _ (m, q) (sym (manifest-law s e at) ∙ x) λ f qf x₁.
+    split _ (commonIn s e (f .1)) _ (m, q) x₁ λ c qc x₂.
+    split _ (sectionsAt s (length (c .0 .0)) (f .0 .0 - 3) 8 (countAll (c .0 .1)) e (c .1 .to)) _ (m, q) x₂ λ y qy x₃.
+    let (em, eq) = both x₃ in
+    sym (ap (λ (z : Manifest). z .part) em) ∙ ap (span at) eq

@@ -1,0 +1,75 @@
+-- The manifest by its parts, as the code reads it: up to common, common, the sections.
+use Prim.Native.Nat.{ℕ}
+use mathlib.Core.Path.{_≡_}
+use mathlib.Core.List.{List}
+use lib.Dec.{eqb}
+use lib.ListN.{length}
+use Rattle.rules.specs.declared.answers.Refusal.the-variants.{WrongVersion}
+use Rattle.rules.specs.Answers.{refusalNumber}
+use Rattle.rules.specs.Bytes.{Bytes, Span}
+use Rattle.rules.specs.Got.{Got, refused, got, need, _>>=_}
+use Rattle.rules.specs.Cbor.{MAP, item}
+use Rattle.rules.specs.Manifest.{Section, countAll, Manifest}
+use Rattle.rules.specs.Check.{number, key, inBytes, commonAt}
+use Rattle.check_manifest.specs.declared.Front.{Front}
+use Rattle.check_manifest.specs.declared.Common.{Common}
+use Rattle.check_manifest.specs.declared.Body.{Body}
+use Rattle.cbor.specs.declared.reading.Reading.{Reading}
+use Rattle.cbor.specs.Reading.{view}
+use Rattle.component_ids.specs.Identifiers.{laid}
+use Rattle.check_manifest.specs.Sections.{placed}
+
+module _ (s : Bytes) where
+  -- the version under its key: the place after it
+  unfoldable pub versionAt : ℕ → ℕ → Got ℕ
+  versionAt e at = do
+    p ← key s 1 e at
+    (version, next) ← number s e p
+    _ ← need (eqb version 1) WrongVersion p
+    got next
+
+  -- the sequence number under its key, and the place after the key of common
+  unfoldable pub numberedAt : ℕ → ℕ → Got (ℕ × ℕ)
+  numberedAt e at = do
+    p ← key s 2 e at
+    (n, q) ← number s e p
+    next ← key s 3 e q
+    got (n, next)
+
+  -- the manifest up to common: how many entries it has, the number, and the place after
+  unfoldable pub frontAt : ℕ → ℕ → Got ((ℕ × ℕ) × ℕ)
+  frontAt e at = do
+    h ← item MAP 3 8 s e at
+    p ← versionAt e (h .next)
+    (n, next) ← numberedAt e p
+    got ((h .num, n), next)
+
+  unfoldable pub commonIn : ℕ → ℕ → Got ((List Span × List Section) × Span)
+  commonIn e at = inBytes s (commonAt s) e at
+
+abbrev pub frontOf : Got ((ℕ × ℕ) × ℕ) → Front
+frontOf (refused r p) = record { stop = refusalNumber r; at = p; entries = 0; number = 0 }
+frontOf (got a) = record { stop = 0; at = a .1; entries = a .0 .0; number = a .0 .1 }
+
+-- of a list in a byte string: the place after it, and how many
+abbrev pub listReading : Got (List Span × Span) → Reading
+listReading = view (λ a. a .1 .to) (λ a. length (a .0))
+
+-- where a reading is accepted, the places of its identifiers stand in the array
+abbrev pub Ids : {A P : Type 0} → (A → List Span) → Got (A × P) → List ℕ → List ℕ → Type 0
+Ids f (refused r p) ids ids′ = Unit {0}
+Ids f (got a) ids ids′ = ids′ ≡ laid (f (a .0)) ids
+
+abbrev pub commonOf : Got ((List Span × List Section) × Span) → Common
+commonOf (refused r p) = record { stop = refusalNumber r; at = p; components = 0; commands = 0; from = 0 }
+commonOf (got a) = record { stop = 0; at = a .1 .to; components = length (a .0 .0); commands = countAll (a .0 .1); from = a .1 .from }
+
+abbrev pub bodyOf : Got (Manifest × ℕ) → Body
+bodyOf (refused r p) = record { stop = refusalNumber r; at = p; number = 0; components = 0; from = 0; to = 0 }
+bodyOf (got a) =
+    record { stop = 0; at = a .1; number = a .0 .number; components = length (a .0 .ids); from = a .0 .common .from; to = a .0 .common .to }
+
+-- where a reading is accepted, the places of its identifiers and sections stand in the arrays
+abbrev pub Kept : {A P : Type 0} → (A → List Span) → (A → List Section) → Got (A × P) → List ℕ → List ℕ → List ℕ → List ℕ → Type 0
+Kept f g (refused r p) ids ids′ places places′ = Unit {0}
+Kept f g (got a) ids ids′ places places′ = (ids′ ≡ laid (f (a .0)) ids) × (places′ ≡ placed (g (a .0)) places)

@@ -1,0 +1,82 @@
+use mathlib.Core.Path.{_≡_, refl, sym, _∙_}
+use native.Mathlib.Omega.{arith}
+use borrow.Author.Needs.{needs}
+use Rattle.rules.proofs.CheckLaws.{number-law}
+use Rattle.cbor.specs.Reading.{placeReading}
+use Rattle.check_sequence.specs.Leaves.{entriesAt}
+use Rattle.cbor.proofs.ReadingLaws.{number-stopped, number-went, place-stopped, place-went, pos}
+use Rattle.check_sequence.proofs.LeafLaws.{known-some, known-none, entries-none, entries-stop, entries-low, entries-unknown, entries-bad, entries-more}
+use Rattle.check_sequence.proofs.argument.entries.Statement.{statement}
+use Rattle.check_sequence.proofs.argument.entries.Tie as tie
+
+-- the reading of all is the reading of what is left
+abbrev Inv-loop : tie.InvT-loop
+Inv-loop s table n k e at p₀ low₀ left₀ p low left = placeReading (entriesAt s n k 0 e at) ≡ placeReading (entriesAt s n left low e p)
+
+abbrev μ-loop : tie.MeasureT-loop
+μ-loop s table n k e at p₀ low₀ left₀ p low left = left
+
+stop : tie.Need-returns Inv-loop μ-loop
+stop c =
+    entries-stop _ _ _ _ _ _ _ (pos _ (c .before .before .loop-test .taken)) _ (number-stopped _ _ _ _ (c .before .number .ensures) (c .if1 .taken))
+    ∙ sym (c .before .before .before .loop .inv)
+
+descending : tie.Need-returns-2 Inv-loop μ-loop
+descending c =
+    c .refuse .ensures
+    ∙ entries-low _ _ _ _ _ _ _ (pos _ (c .before .before .before .before .loop-test .taken)) _ _ (number-went _ _ _ _ (c .before .before .before .number .ensures) (c .before .before .if1 .left)) (c .before .if2 .taken)
+    ∙ sym (c .before .before .before .before .before .loop .inv)
+
+unknown : tie.Need-returns-3 Inv-loop μ-loop
+unknown c =
+    c .refuse2 .ensures
+    ∙ entries-unknown _ _ _ _ _ _ _ (pos _ (c .before .before .before .before .before .before .before .loop-test .taken)) _ _
+    (number-went _ _ _ _ (c .before .before .before .before .before .before .number .ensures) (c .before .before .before .before .before .if1 .left))
+    (c .before .before .before .before .if2 .left)
+    (known-none _ (sym (c .before .before .before .look-up-parameter .ensures) ∙ c .before .enum-told .given .1))
+    ∙ sym (c .before .before .before .before .before .before .before .before .loop .inv)
+
+bad : tie.Need-returns-4 Inv-loop μ-loop
+bad c =
+    entries-bad _ _ _ _ _ _ _ (pos _ (c .before .before .before .before .before .before .before .before .before .loop-test .taken)) _ _
+    (number-went _ _ _ _ (c .before .before .before .before .before .before .before .before .number .ensures) (c .before .before .before .before .before .before .before .if1 .left))
+    (c .before .before .before .before .before .before .if2 .left)
+    _ (known-some _ _ (sym (c .before .before .before .before .before .look-up-parameter .ensures) ∙ c .before .before .before .what .given .1))
+    _ (place-stopped _ _ (c .before .parameter .ensures) (c .if3 .taken))
+    ∙ sym (c .before .before .before .before .before .before .before .before .before .before .loop .inv)
+
+again : tie.Need-loop-again Inv-loop μ-loop
+again c =
+    c .before .before .before .before .before .before .before .before .before .before .loop .inv
+    ∙ entries-more _ _ _ _ _ _ _ (pos _ (c .before .before .before .before .before .before .before .before .before .loop-test .taken)) _ _
+    (number-went _ _ _ _ (c .before .before .before .before .before .before .before .before .number .ensures) (c .before .before .before .before .before .before .before .if1 .left))
+    (c .before .before .before .before .before .before .if2 .left)
+    _ (known-some _ _ (sym (c .before .before .before .before .before .look-up-parameter .ensures) ∙ c .before .before .before .what .given .1))
+    _ (place-went _ _ (c .before .parameter .ensures) (c .if3 .left))
+
+done : tie.Need-returns-5 Inv-loop μ-loop
+done c = entries-none _ _ _ _ _ _ (omega arith) ∙ sym (c .before .loop .inv)
+
+pub entries-spec : {M : Type 1} → statement M
+entries-spec =
+    tie.close
+    (tie.spec
+    Inv-loop
+    μ-loop
+    (λ c. refl)
+    (λ c κs. search needs)
+    stop
+    (λ c κs. search needs)
+    descending
+    (λ c κs. search needs)
+    (λ c. search needs)
+    (λ c. search needs)
+    (λ c κs. search needs)
+    unknown
+    (λ c κs. search needs)
+    bad
+    (λ c. omega (arith, number-law _ _ _ _ _ (number-went _ _ _ _ (c .before .before .before .before .before .before .before .before .number .ensures) (c .before .before .before .before .before .before .before .if1 .left)) .2))
+    (λ c. omega arith)
+    (λ c. omega arith)
+    again
+    done)

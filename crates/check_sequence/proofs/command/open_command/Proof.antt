@@ -1,0 +1,62 @@
+use mathlib.Core.Path.{sym, _∙_}
+use native.Mathlib.Omega.{arith}
+use borrow.Author.Needs.{needs}
+use borrow.Author.Tests.{not-true, not-false}
+use Rattle.cbor.proofs.ReadingLaws.{number-stopped, number-went}
+use Rattle.check_sequence.proofs.OpeningLaws.{open-stop, open-unknown, open-not-allowed, open-many, open-argument}
+use Rattle.check_sequence.proofs.command.open_command.Statement.{statement}
+use Rattle.check_sequence.proofs.command.open_command.Tie as tie
+
+stop : tie.Need-returns
+stop c = open-stop _ _ _ _ _ _ _ (number-stopped _ _ _ _ (c .before .number .ensures) (c .if1 .taken))
+
+unknown : tie.Need-returns-2
+unknown c =
+    c .refuse .ensures
+    ∙ open-unknown _ _ _ _ _ _ _ _ (number-went _ _ _ _ (c .before .before .before .before .before .number .ensures) (c .before .before .before .before .if1 .left))
+    (sym (c .before .before .before .look-up .ensures) ∙ c .before .enum-told .given .1)
+
+not-allowed : tie.Need-returns-3
+not-allowed c =
+    c .refuse2 .ensures
+    ∙ open-not-allowed _ _ _ _ _ _ _ _
+    (number-went _ _ _ _ (c .before .before .before .before .before .before .before .before .number .ensures) (c .before .before .before .before .before .before .before .if1 .left))
+    _ (sym (c .before .before .before .before .before .before .look-up .ensures) ∙ c .before .before .before .before .row .given .1)
+    (c .before .before .before .before .before .before .before .before .before .before .pre .2)
+    (sym (c .before .before .has-section .ensures) ∙ not-true _ (c .before .if2 .taken))
+
+too-many : tie.Need-returns-4
+too-many c =
+    c .refuse3 .ensures
+    ∙ open-many _ _ _ _ _ _ _ _
+    (number-went _ _ _ _ (c .before .before .before .before .before .before .before .before .before .number .ensures) (c .before .before .before .before .before .before .before .before .if1 .left))
+    _ (sym (c .before .before .before .before .before .before .before .look-up .ensures) ∙ c .before .before .before .before .before .row .given .1)
+    (c .before .before .before .before .before .before .before .before .before .before .before .pre .2)
+    (sym (c .before .before .before .has-section .ensures) ∙ not-false _ (c .before .before .if2 .left)) (omega (arith, c .before .if3 .taken))
+
+argument : tie.Need-returns-5
+argument c =
+    open-argument _ _ _ _ _ _ _ _
+    (number-went _ _ _ _ (c .before .before .before .before .before .before .before .before .before .number .ensures) (c .before .before .before .before .before .before .before .before .if1 .left))
+    _ (sym (c .before .before .before .before .before .before .before .look-up .ensures) ∙ c .before .before .before .before .before .row .given .1)
+    (c .before .before .before .before .before .before .before .before .before .before .before .pre .2)
+    (sym (c .before .before .before .has-section .ensures) ∙ not-false _ (c .before .before .if2 .left)) (c .before .if3 .left) _ (c .read-argument .ensures)
+
+pub open-command-spec : {M : Type 1} → statement M
+open-command-spec =
+    tie.close
+    (tie.spec
+    (λ c κs. search needs)
+    stop
+    (λ c κs. search needs)
+    (λ c. search needs)
+    (λ c. search needs)
+    (λ c κs. search needs)
+    unknown
+    (λ c κs. search needs)
+    (λ c κs. search needs)
+    not-allowed
+    (λ c κs. search needs)
+    too-many
+    (λ c κs. search needs)
+    argument)

@@ -1,2 +1,0 @@
-pub mod PerformLaws
-pub mod LentLaws

@@ -1,2 +1,0 @@
-pub mod Op
-pub mod Machine

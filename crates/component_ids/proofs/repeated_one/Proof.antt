@@ -1,0 +1,90 @@
+-- The invariants: no identifier before j has an earlier equal; none before i equals number j.
+use Prim.Native.Nat.{_-_, _≤_}
+use mathlib.Core.Path.{_≡_, sym, _∙_}
+use native.Mathlib.Omega.{arith}
+use borrow.Author.Needs.{needs}
+use Rattle.component_ids.specs.Identifiers.{among, searchFrom, repeated}
+use Rattle.component_ids.proofs.IdentifierLaws.{among-start, among-found, among-next, among-end, search-start, search-found, search-next, search-end}
+use Rattle.component_ids.proofs.repeated_one.Statement.{statement}
+use Rattle.component_ids.proofs.repeated_one.Tie as tie
+
+abbrev Inv-loop : tie.InvT-loop
+Inv-loop s ids n j b m i₀ i = (i ≤ j) × (among s ids j 0 j ≡ among s ids j i (j - i))
+
+abbrev μ-loop : tie.MeasureT-loop
+μ-loop s ids n j b m i₀ i = j - i
+
+abbrev Inv-pairs : tie.InvT-pairs
+Inv-pairs s ids n j₀ j = repeated s ids n ≡ searchFrom s ids j (n - j)
+
+abbrev μ-pairs : tie.MeasureT-pairs
+μ-pairs s ids n j₀ j = n - j
+
+pairs-holds : tie.Need-pairs-holds Inv-loop μ-loop Inv-pairs μ-pairs
+pairs-holds c = search-start _ _ _
+
+sub-m : tie.Need-sub-m Inv-loop μ-loop Inv-pairs μ-pairs
+sub-m c = c .before .before .before .before .before .pre .1 (c .before .before .before .pairs .j) (omega arith) .0
+
+loop-holds : tie.Need-loop-holds Inv-loop μ-loop Inv-pairs μ-pairs
+loop-holds c = (omega arith, among-start _ _ _)
+
+sub-l : tie.Need-sub-l Inv-loop μ-loop Inv-pairs μ-pairs
+sub-l c = c .before .before .before .before .before .before .before .before .before .pre .1 (c .before .before .before .loop .i) (omega arith) .0
+
+same-bytes-requires : tie.Need-same-bytes-requires Inv-loop μ-loop Inv-pairs μ-pairs
+same-bytes-requires c κs =
+    let (f, g) = c .before .before .before .before .before .before .before .before .before .pre .1 (c .before .before .before .before .before .before .before .pairs .j) (omega arith) in
+    let (u, v) = c .before .before .before .before .before .before .before .before .before .pre .1 (c .before .before .before .loop .i) (omega arith) in
+    (omega arith, omega arith)
+
+loop-again : tie.Need-loop-again Inv-loop μ-loop Inv-pairs μ-pairs
+loop-again c = (omega arith, c .before .before .before .before .before .loop .inv .1 ∙ among-next _ _ _ _ (omega arith) (sym (c .before .same-bytes .ensures) ∙ c .if2 .left))
+
+pairs-again : tie.Need-pairs-again Inv-loop μ-loop Inv-pairs μ-pairs
+pairs-again c = c .before .before .before .before .before .pairs .inv ∙ search-next _ _ _ _ (omega arith) (c .before .loop .inv .1 ∙ among-end _ _ _ _ (omega arith))
+
+returns : tie.Need-returns Inv-loop μ-loop Inv-pairs μ-pairs
+returns c = sym (c .before .pairs .inv ∙ search-end _ _ _ _ (omega arith))
+
+returns-2 : tie.Need-returns-2 Inv-loop μ-loop Inv-pairs μ-pairs
+returns-2 c =
+    sym
+    (c .before .before .before .before .before .before .before .before .before .pairs .inv
+    ∙ search-found _ _ _ _ (omega arith) (c .before .before .before .before .before .loop .inv .1 ∙ among-found _ _ _ _ (omega arith) (sym (c .before .same-bytes .ensures) ∙ c .if2 .taken)))
+
+pub repeated-one-spec : {M : Type 1} → statement M
+repeated-one-spec =
+    tie.close
+    (tie.spec
+    Inv-loop
+    μ-loop
+    Inv-pairs
+    μ-pairs
+    pairs-holds
+    (λ c. search needs)
+    (λ c. search needs)
+    (λ c. search needs)
+    (λ c. search needs)
+    (λ c. search needs)
+    (λ c. search needs)
+    (λ c. search needs)
+    sub-m
+    loop-holds
+    (λ c. search needs)
+    (λ c. search needs)
+    (λ c. search needs)
+    (λ c. search needs)
+    (λ c. search needs)
+    (λ c. search needs)
+    (λ c. search needs)
+    sub-l
+    same-bytes-requires
+    (λ c. search needs)
+    (λ c. search needs)
+    loop-again
+    (λ c. search needs)
+    (λ c. search needs)
+    pairs-again
+    returns
+    returns-2)

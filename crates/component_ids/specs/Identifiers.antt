@@ -1,0 +1,83 @@
+-- Identifiers as check reads them: all of the list, or up to the first that is refused; then the search for a repeated one.
+use Prim.Native.Nat.{ℕ, zero, suc, _-_, _*_, _≤_, _<_}
+use mathlib.Core.Path.{_≡_}
+use mathlib.Core.List.{List, [], _∷_, _++_}
+use mathlib.Core.Bool.{Bool, true, false, _||_}
+use lib.Dec.{leb}
+use lib.ListN.{length, drop}
+use Rattle.rules.specs.declared.answers.Refusal.the-variants.{Malformed}
+use Rattle.rules.specs.Answers.{refusalNumber}
+use Rattle.rules.specs.Limits.{limits}
+use Rattle.rules.specs.Bytes.{Bytes, Span, span, bytesAt, spanAt, same}
+use Rattle.rules.specs.Got.{Got, refused, got, need, _>>=_}
+use Rattle.rules.specs.Cbor.{ARRAY, item}
+use Rattle.rules.specs.Check.{strings, components}
+use Rattle.component_ids.specs.declared.Repeat.{Repeat}
+use Rattle.component_ids.specs.declared.Repeat.the-variants.{At, Nothing}
+use Rattle.cbor.specs.declared.reading.Reading.{Reading}
+use Rattle.cbor.specs.Reading.{ends}
+
+-- places one after the other
+abbrev pub flatSpans : List Span → List ℕ
+flatSpans [] = []
+flatSpans (p ∷ ps) = p .from ∷ p .to ∷ flatSpans ps
+
+-- those places at the start of the array, which keeps the rest
+abbrev pub laid : List Span → List ℕ → List ℕ
+laid ps a = flatSpans ps ++ drop (2 * length ps) a
+
+pub record Listing : Type 0 where
+  pub ids : List Span
+  pub end : Got ℕ
+
+abbrev pub onward : ℕ → Got ℕ → (ℕ → Listing) → Listing
+onward at (refused r p) f = record { ids = []; end = refused r p }
+onward at (got next) f = record { ids = span at next ∷ f next .ids; end = f next .end }
+
+module _ (s : Bytes) where
+  -- an identifier, whatever stands before it: the place after it
+  unfoldable pub plain : ℕ → ℕ → Got ℕ
+  plain e at = do
+    h ← item ARRAY 1 (limits .parts) s e at
+    next ← strings s (h .num) e (h .next)
+    _ ← need (leb (next - at) (limits .identifier)) Malformed at
+    got next
+
+  -- n identifiers, until one is refused: the places of those that were read, and how the reading ended
+  unfoldable pub listing : ℕ → ℕ → ℕ → Listing
+  listing zero e at = record { ids = []; end = got at }
+  listing (suc n) e at = onward at (plain e at) (λ next. listing n e next)
+
+  -- identifier j of the array equals number i
+  abbrev pub equal : List ℕ → ℕ → ℕ → Bool
+  equal a j i = same (bytesAt s (spanAt a j)) (bytesAt s (spanAt a i))
+
+  -- one of the k identifiers from number i on equals number j
+  unfoldable pub among : List ℕ → ℕ → ℕ → ℕ → Bool
+  among a j i zero = false
+  among a j i (suc k) = equal a j i || among a j (suc i) k
+
+  -- the first of the k identifiers from number j on that equals an earlier one
+  unfoldable pub searchFrom : List ℕ → ℕ → ℕ → Repeat
+  searchFrom a j zero = Nothing
+  searchFrom a j (suc k) = elim (among a j 0 j) [ true ↦ At j | false ↦ searchFrom a (suc j) k ]
+
+  -- the first equal pair of the first n, the later identifier outside
+  unfoldable pub repeated : List ℕ → ℕ → Repeat
+  repeated a n = searchFrom a 0 n
+
+-- how the reading ended, and how many were read, on a refusal too
+abbrev pub listedAs : ℕ → Got ℕ → Reading
+listedAs n (refused r p) = record { stop = refusalNumber r; at = p; value = n }
+listedAs n (got q) = ends q n
+
+abbrev pub listed : Listing → Reading
+listed l = listedAs (length (l .ids)) (l .end)
+
+-- the first n places of the array lie in that many bytes
+abbrev pub InBytes : List ℕ → ℕ → ℕ → Type 0
+InBytes a n size = (k : ℕ) → k < n → (spanAt a k .from ≤ spanAt a k .to) × (spanAt a k .to ≤ size)
+
+-- where the component list is accepted, its places stand in the array
+abbrev pub Components : Bytes → ℕ → ℕ → List ℕ → List ℕ → Type 0
+Components s e at before after = (ids : List Span) (q : ℕ) → components s e at ≡ got (ids, q) → after ≡ laid ids before

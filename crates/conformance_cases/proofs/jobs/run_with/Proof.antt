@@ -1,0 +1,18 @@
+use Rattle.conformance_cases.proofs.LentLaws.{wrote-whole}
+use borrow.Author.Needs.{needs}
+use Rattle.conformance_cases.proofs.jobs.run_with.Statement.{statement}
+use Rattle.conformance_cases.proofs.jobs.run_with.Tie as tie
+
+returns : tie.Need-returns
+returns c =
+    let put-run = c .before .before in
+    let run-by = put-run .before .before .before .before .before .before .before .before in
+    let fill = run-by .before .before .before .before .before in
+    let put = fill .before .before .before .before .before in
+    let start = put .before .before .before .before .before .before .before .before .before in
+    let s = wrote-whole (start .pre .1) (put .put .ensures) in
+    let g = rw (s, fill .fill .ensures) at (run-by .run-by .ensures) in
+    rw (g .0, g .1, g .2) at (put-run .put-run .ensures)
+
+pub run-with-spec : {M : Type 1} → statement M
+run-with-spec = tie.close (tie.spec (λ c κs. tt) (λ c. search needs) (λ c κs. tt) (λ c κs. search needs) (λ c κs. tt) (λ c. search needs) (λ c. search needs) (λ c. search needs) returns)

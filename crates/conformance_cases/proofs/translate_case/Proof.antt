@@ -1,0 +1,25 @@
+use Rattle.conformance_cases.proofs.LentLaws.{to-end}
+use borrow.Author.Tests.{lt-ltb, le-ltb}
+use Rattle.conformance_cases.specs.Cases.{translateCase}
+use borrow.Author.Needs.{needs}
+use Rattle.conformance_cases.proofs.translate_case.Statement.{statement}
+use Rattle.conformance_cases.proofs.translate_case.Tie as tie
+
+returns : tie.Need-returns
+unfolding translateCase
+returns c =
+    let put-malformed = c .before .before in
+    let if1 = put-malformed .before .before in
+    rw (lt-ltb _ _ (if1 .if1 .taken)) (put-malformed .put-malformed .ensures)
+
+returns-2 : tie.Need-returns-2
+unfolding translateCase
+returns-2 c =
+    let translate-line = c .before .before in
+    let two = translate-line .before .before in
+    let if1 = two .before .before .before in
+    let start = if1 .before .before .before in
+    rw (le-ltb _ _ (if1 .if1 .left)) (rw (two .two .ensures .0, to-end 3 (start .args .b .now)) at (translate-line .translate-line .ensures))
+
+pub translate-case-spec : {M : Type 1} → statement M
+translate-case-spec = tie.close (tie.spec (λ c κs. tt) (λ c. search needs) returns (λ c. search needs) (λ c. search needs) (λ c. search needs) (λ c. search needs) (λ c κs. search needs) (λ c κs. search needs) (λ c. search needs) returns-2)

@@ -1,0 +1,83 @@
+-- The line of a case, by the rules. Any other bytes are no case.
+--
+-- A case:  1 check:          the envelope
+--          2 newer:          string first; the second envelope
+--          3 translate:      group, 0 for install; the room's length (2); the envelope
+--          4 run:            head (42); string slots; string answers; the envelope
+--          5 run a program:  the same, and the program
+-- A string is its length in 2 bytes and that many bytes. A head:
+--          0 group   1 verdict   2 vendor (16)   18 class (16)   34 number (4)   38 event open   39 trace's length (2)   41 its bytes' value
+use Prim.Native.Nat.{ℕ, _-_}
+use mathlib.Core.List.{_++_}
+use mathlib.Core.Bool.{Bool, true, false, cond}
+use lib.Dec.{eqb, ltb}
+use lib.ListN.{length, getD, take, drop, replicate}
+use Rattle.text.specs.Text.{ascii}
+use Rattle.rules.specs.Bytes.{Bytes}
+use Rattle.rules.specs.Got.{Got}
+use Rattle.rules.specs.Check as Check
+use Rattle.rules.specs.Newer as Newer
+use Rattle.rules.specs.Run.{Ran, runEnvelope}
+use Rattle.rules.specs.Program as Program
+use Rattle.rules.specs.ProgramRun.{runProgram}
+use Rattle.run_admission.specs.Answer.{inputOf, slotsAfter, traceAfter}
+use Rattle.pitvorgas.specs.Answers.{controllerOf, groupOf, checkedOf, newerOf, translatedOf, roomAfter, ranOf}
+use Rattle.conformance_cases.specs.Fields.{twoAt, isSet, stringEnd, deviceOf}
+use Rattle.conformance_lines.specs.Lines.{newline, checkedText, newerText}
+use Rattle.conformance_cases.specs.Lent.{roomFill, translationLine, ranLine}
+
+unfoldable pub malformedText : Bytes
+malformedText = ascii "malformed" ++ newline
+
+unfoldable pub checkLine : Bytes → Bytes
+checkLine s = checkedText (checkedOf (Check.check s))
+
+unfoldable pub newerLine : Bytes → Bytes → Bytes
+newerLine s t = newerText (newerOf (Newer.newer s t))
+
+-- a translation into a room of n bytes
+unfoldable pub translateLine : Bytes → Bool → ℕ → Bytes
+translateLine s boot n =
+    translationLine (translatedOf (Program.translate s (groupOf boot) n)) (roomAfter (replicate n roomFill) (Program.translate s (groupOf boot) n))
+
+-- the run of a program, or of an envelope
+unfoldable pub ranBy : Bool → Bytes → Bytes → Bytes → Bytes → Bytes → Got Ran
+ranBy true head s slots answers trace = runProgram s (inputOf (isSet head 1) (controllerOf (deviceOf head)) slots answers trace)
+ranBy false head s slots answers trace =
+    runEnvelope s (groupOf (isSet head 0)) (inputOf (isSet head 1) (controllerOf (deviceOf head)) slots answers trace)
+
+abbrev pub ranWith : Bytes → Bytes → Bytes → Got Ran → Bytes
+ranWith head slots trace g =
+    ranLine (ranOf (controllerOf (deviceOf head)) g) slots (slotsAfter slots g) (getD head 41 0) (traceAfter trace g)
+
+unfoldable pub runLine : Bool → Bytes → Bytes → Bytes → Bytes → Bytes
+runLine program head slots answers s =
+    ranWith head slots (replicate (twoAt head 39) (getD head 41 0)) (ranBy program head s slots answers (replicate (twoAt head 39) (getD head 41 0)))
+
+unfoldable pub newerCase : Bytes → Bytes
+newerCase b =
+    cond (eqb (stringEnd b) 0) malformedText (newerLine (take (stringEnd b - 2) (drop 2 b)) (drop (stringEnd b) b))
+
+unfoldable pub translateCase : Bytes → Bytes
+translateCase b = cond (ltb (length b) 3) malformedText (translateLine (drop 3 b) (isSet b 0) (twoAt b 1))
+
+-- b and c start with the strings
+unfoldable pub runAnswers : Bool → Bytes → Bytes → Bytes → Bytes
+runAnswers program head slots c =
+    cond (eqb (stringEnd c) 0) malformedText (runLine program head slots (take (stringEnd c - 2) (drop 2 c)) (drop (stringEnd c) c))
+
+unfoldable pub runSlots : Bool → Bytes → Bytes → Bytes
+runSlots program head b =
+    cond (eqb (stringEnd b) 0) malformedText (runAnswers program head (take (stringEnd b - 2) (drop 2 b)) (drop (stringEnd b) b))
+
+unfoldable pub runCase : Bool → Bytes → Bytes
+runCase program b = cond (ltb (length b) 42) malformedText (runSlots program (take 42 b) (drop 42 b))
+
+unfoldable pub jobLine : ℕ → Bytes → Bytes
+jobLine job b =
+    cond (eqb job 1) (checkLine b)
+    (cond (eqb job 2) (newerCase b)
+    (cond (eqb job 3) (translateCase b) (cond (eqb job 4) (runCase false b) (cond (eqb job 5) (runCase true b) malformedText))))
+
+unfoldable pub lineOf : Bytes → Bytes
+lineOf c = cond (eqb (length c) 0) malformedText (jobLine (getD c 0 0) (drop 1 c))

@@ -1,0 +1,51 @@
+// The fields of a case.
+ghost use mathlib.Core.Path.{_≡_};
+ghost use Prim.Native.Nat.{_+_, _≤_};
+ghost use lib.ListN.{length};
+ghost use Rattle.rules.specs.Bytes.{part};
+ghost use Rattle.conformance_cases.specs.Fields.{StringAt, deviceOf};
+use byte_buffer::four;
+use byte_buffer::two;
+use pitvorgas::Device;
+
+// The end of the string at the start of b, or 0.
+pub fn string_end(b: &[u8]) -> usize
+    ensures { λ r. ⌜ StringAt (now (b .entry)) r ⌝ }
+{
+    if b.len() < 2 {
+        return 0;
+    }
+    let n = two(b, 0);
+    if b.len() - 2 < n {
+        return 0;
+    }
+    2 + n
+}
+
+fn sixteen(b: &[u8], at: usize) -> [u8; 16]
+    requires { ⌜ at + 16 ≤ length (now b) ⌝ }
+    ensures { λ r. ⌜ r ≡ part (now (b .entry)) at 16 ⌝ }
+{
+    let mut id = [0u8; 16];
+    let mut k = 0;
+    while k < 16 {
+        id[k] = b[at + k];
+        k += 1;
+    }
+    id
+}
+
+// The device in the head of a run (specs/Cases.antt has the layout).
+pub fn device_of(head: &[u8]) -> Device
+    requires { ⌜ length (now head) ≡ 42 ⌝ }
+    ensures { λ r. ⌜ r ≡ deviceOf (now (head .entry)) ⌝ }
+{
+    let vendor = sixteen(head, 2);
+    let class = sixteen(head, 18);
+    Device {
+        vendor,
+        class,
+        number: four(head, 34) as u32,
+        event: head[38] != 0,
+    }
+}

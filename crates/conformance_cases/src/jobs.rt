@@ -1,0 +1,123 @@
+// The jobs, each with memory of its own, and the line of its answer.
+ghost use mathlib.Core.Path.{_≡_};
+ghost use Prim.Native.Nat.{_<_};
+ghost use lib.ListN.{length, getD, replicate};
+ghost use Rattle.text.specs.Text.{Wrote};
+ghost use Rattle.run_admission.specs.Answer.{slotsAfter, traceAfter};
+ghost use Rattle.pitvorgas.specs.Answers.{controllerOf, ranOf};
+ghost use Rattle.conformance_cases.specs.Fields.{deviceOf};
+ghost use Rattle.conformance_cases.specs.Cases.{checkLine, newerLine, translateLine, ranBy, ranWith, runLine};
+use crate::fields::device_of;
+use crate::lent::ROOM_FILL;
+use crate::lent::fill;
+use crate::lent::memory;
+use crate::lent::put_run;
+use crate::lent::put_translation;
+use byte_buffer::two;
+use conformance_lines::put_checked;
+use conformance_lines::put_newer;
+use pitvorgas::RunAnswer;
+use pitvorgas::pitvorgas_check;
+use pitvorgas::pitvorgas_newer;
+use pitvorgas::pitvorgas_run;
+use pitvorgas::pitvorgas_run_program;
+use pitvorgas::pitvorgas_translate;
+use text::put;
+
+pub fn check_line(envelope: &[u8], room: &mut [u8]) -> usize
+    ensures { λ r. ⌜ Wrote (checkLine (now (envelope .entry))) 0 (now (room .entry)) r (now (room .exit)) ⌝ }
+{
+    put_checked(room, 0, pitvorgas_check(envelope))
+}
+
+pub fn newer_line(first: &[u8], second: &[u8], room: &mut [u8]) -> usize
+    ensures { λ r. ⌜ Wrote (newerLine (now (first .entry)) (now (second .entry))) 0 (now (room .entry)) r (now (room .exit)) ⌝ }
+{
+    put_newer(room, 0, pitvorgas_newer(first, second))
+}
+
+// A translation into lent room.
+fn translate_into(envelope: &[u8], boot: bool, lent: &mut [u8], room: &mut [u8]) -> usize
+    ensures { λ r. ⌜ Wrote (translateLine (now (envelope .entry)) boot (length (now (lent .entry)))) 0 (now (room .entry)) r (now (room .exit)) ⌝ }
+{
+    fill(lent, ROOM_FILL);
+    let answer = pitvorgas_translate(envelope, boot, lent);
+    put_translation(room, answer, lent)
+}
+
+pub fn translate_line(envelope: &[u8], boot: bool, n: usize, room: &mut [u8]) -> usize
+    requires { ⌜ n < 65536 ⌝ }
+    ensures { λ r. ⌜ Wrote (translateLine (now (envelope .entry)) boot n) 0 (now (room .entry)) r (now (room .exit)) ⌝ }
+{
+    let mut lent = memory();
+    translate_into(envelope, boot, &mut lent[..n], room)
+}
+
+// The run of a program, or of an envelope.
+fn run_by(
+    program: bool,
+    head: &[u8],
+    s: &[u8],
+    slots: &mut [u8],
+    answers: &[u8],
+    trace: &mut [u8],
+) -> RunAnswer
+    requires { ⌜ length (now head) ≡ 42 ⌝ }
+    ensures { λ r. ⌜ (r ≡ ranOf (controllerOf (deviceOf (now (head .entry)))) (ranBy program (now (head .entry)) (now (s .entry)) (now (slots .entry)) (now (answers .entry)) (now (trace .entry)))) × (now (slots .exit) ≡ slotsAfter (now (slots .entry)) (ranBy program (now (head .entry)) (now (s .entry)) (now (slots .entry)) (now (answers .entry)) (now (trace .entry)))) × (now (trace .exit) ≡ traceAfter (now (trace .entry)) (ranBy program (now (head .entry)) (now (s .entry)) (now (slots .entry)) (now (answers .entry)) (now (trace .entry)))) ⌝ }
+{
+    let device = device_of(head);
+    let verdict = head[1] != 0;
+    if program {
+        return pitvorgas_run_program(s, verdict, device, slots, answers, trace);
+    }
+    let boot = head[0] != 0;
+    pitvorgas_run(s, boot, verdict, device, slots, answers, trace)
+}
+
+// A run with lent slots and trace.
+fn run_with(
+    program: bool,
+    head: &[u8],
+    before: &[u8],
+    answers: &[u8],
+    s: &[u8],
+    slots: &mut [u8],
+    trace: &mut [u8],
+    room: &mut [u8],
+) -> usize
+    requires { ⌜ (length (now head) ≡ 42) × (length (now slots) ≡ length (now before)) ⌝ }
+    ensures { λ r. ⌜ Wrote (ranWith (now (head .entry)) (now (before .entry)) (replicate (length (now (trace .entry))) (getD (now (head .entry)) 41 0)) (ranBy program (now (head .entry)) (now (s .entry)) (now (before .entry)) (now (answers .entry)) (replicate (length (now (trace .entry))) (getD (now (head .entry)) 41 0)))) 0 (now (room .entry)) r (now (room .exit)) ⌝ }
+{
+    put(slots, 0, before);
+    let x = head[41];
+    fill(trace, x);
+    let answer = run_by(program, head, s, slots, answers, trace);
+    put_run(room, answer, before, slots, x, trace)
+}
+
+pub fn run_line(
+    program: bool,
+    head: &[u8],
+    before: &[u8],
+    answers: &[u8],
+    s: &[u8],
+    room: &mut [u8],
+) -> usize
+    requires { ⌜ (length (now head) ≡ 42) × (length (now before) < 65536) ⌝ }
+    ensures { λ r. ⌜ Wrote (runLine program (now (head .entry)) (now (before .entry)) (now (answers .entry)) (now (s .entry))) 0 (now (room .entry)) r (now (room .exit)) ⌝ }
+{
+    let mut slots = memory();
+    let mut trace = memory();
+    let n = before.len();
+    let length = two(head, 39);
+    run_with(
+        program,
+        head,
+        before,
+        answers,
+        s,
+        &mut slots[..n],
+        &mut trace[..length],
+        room,
+    )
+}

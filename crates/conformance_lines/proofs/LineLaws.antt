@@ -1,0 +1,54 @@
+-- The text of one slot more, and the parts of a slot.
+use Prim.Native.Nat.{ℕ, _+_, _-_, _*_, _≤_, _<_}
+use mathlib.Core.Path.{_≡_, refl, sym}
+use mathlib.Core.Bool.{Bool, true, false}
+use native.Mathlib.Omega.{arith}
+use native.Mathlib.Numerals.{add-one}
+use lib.Dec.{leb}
+use borrow.Author.Tests.{leb-true, leb-false}
+use lib.ListN.{getD, take, drop, length-take}
+use lib.Seq.{take-take, take-all}
+use Rattle.text.specs.Text.{Wrote, least}
+use Rattle.text.proofs.TextLaws.{wrote-none, wrote-then}
+use Rattle.rules.specs.Bytes.{Bytes}
+use Rattle.rules.specs.Slots.{slotBytes, slotAt}
+use Rattle.conformance_lines.specs.Lines.{nameText, imageText, slotsText}
+
+module _ (b : Bytes) (at : ℕ) (room : Bytes) where
+  pub slots-none : Wrote (slotsText b 0) at room at room
+  unfolding slotsText
+  slots-none = wrote-none at room
+
+  pub slots-next : (k : ℕ) {p : ℕ} {room₁ : Bytes} {q : ℕ} {room₂ : Bytes} {r : ℕ} {room₃ : Bytes} → Wrote (slotsText b k) at room p room₁ →
+      Wrote (nameText b k) p room₁ q room₂ → Wrote (imageText b k) q room₂ r room₃ → Wrote (slotsText b (k + 1)) at room r room₃
+  unfolding slotsText
+  slots-next k f g h = rw (add-one k) (wrote-then f (wrote-then g h))
+
+take-least : (m n : ℕ) (l : Bytes) → take m (take n l) ≡ take (least m n) l
+take-least m n l = go (leb m n) refl
+  where
+    few : m ≤ n → take m (take n l) ≡ take (least m n) l
+    few h = let e : least m n ≡ m = omega arith in rw e (take-take m n l h)
+
+    many : n < m → take m (take n l) ≡ take (least m n) l
+    many h =
+        let e : least m n ≡ n = omega arith in
+        rw e (take-all m (take n l) (simp length-take (omega arith)))
+
+    go : (t : Bool) → leb m n ≡ t → take m (take n l) ≡ take (least m n) l
+    go true e = few (leb-true m n e)
+    go false e = many (leb-false m n e)
+
+module _ (b : Bytes) (k : ℕ) where
+  pub name-part : (x n : ℕ) → x ≡ getD b (slotBytes * k) 0 → n ≡ least x 32 →
+      take (slotBytes * k + 1 + n - (slotBytes * k + 1)) (drop (slotBytes * k + 1) b) ≡ slotAt b k .id
+  unfolding slotAt
+  name-part x n q e =
+      let d : slotBytes * k + 1 + n - (slotBytes * k + 1) ≡ n = omega arith in
+      rw (d, e, q) (sym (take-least (getD b (slotBytes * k) 0) 32 (drop (slotBytes * k + 1) b)))
+
+  pub digest-part : take (slotBytes * k + 42 + 32 - (slotBytes * k + 42)) (drop (slotBytes * k + 42) b) ≡ slotAt b k .digest
+  unfolding slotAt
+  digest-part =
+      let d : slotBytes * k + 42 + 32 - (slotBytes * k + 42) ≡ 32 = omega arith in
+      rw d

@@ -1,0 +1,259 @@
+// The line of an answer.
+ghost use mathlib.Core.Path.{_≡_};
+ghost use Prim.Native.Nat.{_*_, _/_};
+ghost use lib.ListN.{length, getD};
+ghost use Rattle.text.specs.Text.{Wrote, least as Text·least};
+ghost use Rattle.rules.specs.Slots.{slotBytes};
+ghost use Rattle.run_slots.specs.Slot.{Holds};
+ghost use Rattle.conformance_lines.specs.Format.{format, piece};
+ghost use Rattle.conformance_lines.specs.Lines.{refusedText, bytesText, placesText, sectionsText, acceptedText, checkedText, newerText, programText, translatedText};
+ghost use Rattle.conformance_lines.specs.Lines.{nameText, imageText, slotsText, eventsText, endText, ranText, separator as Lines·separator};
+use byte_buffer::wide;
+use pitvorgas::CheckAnswer;
+use pitvorgas::NewerAnswer;
+use pitvorgas::RunAnswer;
+use pitvorgas::TranslateAnswer;
+use run_slots::slot::DIGEST;
+use run_slots::slot::IMAGE;
+use run_slots::slot::SLOT_BYTES;
+use run_slots::slot::capacity;
+use run_slots::slot::size;
+use text::put;
+use text::put_byte;
+use text::put_decimal;
+use text::put_hex;
+
+const PERCENT: u8 = 37;
+
+const NEWLINE: u8 = 10;
+
+const COMPONENTS: usize = 8;
+
+const ID_BYTES: usize = 32;
+
+pub fn least(a: usize, b: usize) -> usize
+    ensures { λ r. ⌜ r ≡ Text·least a b ⌝ }
+{
+    if a < b {
+        return a;
+    }
+    b
+}
+
+fn number_at(numbers: &[usize], k: usize) -> usize
+    ensures { λ r. ⌜ r ≡ getD (now (numbers .entry)) k 0 ⌝ }
+{
+    if k < numbers.len() {
+        return numbers[k];
+    }
+    0
+}
+
+fn put_piece(room: &mut [u8], at: usize, c: u8, n: usize) -> usize
+    ensures { λ r. ⌜ Wrote (piece c n) at (now (room .entry)) r (now (room .exit)) ⌝ }
+{
+    if c == PERCENT {
+        return put_decimal(room, at, n);
+    }
+    put_byte(room, at, c)
+}
+
+fn put_format(room: &mut [u8], at: usize, template: &[u8], numbers: &[usize]) -> usize
+    ensures { λ r. ⌜ Wrote (format (now (template .entry)) (now (numbers .entry))) at (now (room .entry)) r (now (room .exit)) ⌝ }
+{
+    let mut to = at;
+    let mut i = 0;
+    let mut k = 0;
+    while i < template.len() {
+        let c = template[i];
+        to = put_piece(room, to, c, number_at(numbers, k));
+        if c == PERCENT {
+            k += 1;
+        }
+        i += 1;
+    }
+    to
+}
+
+fn put_refused(room: &mut [u8], at: usize, number: usize, place: usize) -> usize
+    ensures { λ r. ⌜ Wrote (refusedText number place) at (now (room .entry)) r (now (room .exit)) ⌝ }
+{
+    put_format(room, at, b"refused % %\n", &[number, place])
+}
+
+fn put_bytes(room: &mut [u8], at: usize, b: &[u8]) -> usize
+    ensures { λ r. ⌜ Wrote (bytesText (now (b .entry))) at (now (room .entry)) r (now (room .exit)) ⌝ }
+{
+    if b.len() == 0 {
+        return put_byte(room, at, b'-');
+    }
+    put_hex(room, at, b)
+}
+
+fn put_separator(room: &mut [u8], at: usize, k: usize) -> usize
+    ensures { λ r. ⌜ Wrote (Lines·separator k) at (now (room .entry)) r (now (room .exit)) ⌝ }
+{
+    if k == 0 {
+        return at;
+    }
+    put_byte(room, at, b',')
+}
+
+// At most eight places, with commas between.
+fn put_places(room: &mut [u8], at: usize, ids: &[usize], components: usize) -> usize
+    ensures { λ r. ⌜ Wrote (placesText (now (ids .entry)) components) at (now (room .entry)) r (now (room .exit)) ⌝ }
+{
+    let end = 4 * least(components, COMPONENTS);
+    let places: &[u8] = b" %-%,%-%,%-%,%-%,%-%,%-%,%-%,%-%";
+    put_format(room, at, &places[..end], ids)
+}
+
+fn put_sections(room: &mut [u8], at: usize, s: &[usize; 12]) -> usize
+    ensures { λ r. ⌜ Wrote (sectionsText (now (s .entry))) at (now (room .entry)) r (now (room .exit)) ⌝ }
+{
+    let there = [
+        least(s[3], 1),
+        least(s[5], 1),
+        least(s[7], 1),
+        least(s[9], 1),
+        least(s[11], 1),
+    ];
+    put_format(room, at, b" %%%%%\n", &there)
+}
+
+fn put_accepted(
+    room: &mut [u8],
+    at: usize,
+    number: usize,
+    components: usize,
+    ids: &[usize],
+    sections: &[usize; 12],
+) -> usize
+    ensures { λ r. ⌜ Wrote (acceptedText number components (now (ids .entry)) (now (sections .entry))) at (now (room .entry)) r (now (room .exit)) ⌝ }
+{
+    let a = put_format(room, at, b"accepted %", &[number]);
+    let b = put_places(room, a, ids, components);
+    put_sections(room, b, sections)
+}
+
+pub fn put_checked(room: &mut [u8], at: usize, answer: CheckAnswer) -> usize
+    ensures { λ r. ⌜ Wrote (checkedText answer) at (now (room .entry)) r (now (room .exit)) ⌝ }
+{
+    if answer.refusal == 0 {
+        let ids = answer.ids;
+        let sections = answer.sections;
+        return put_accepted(room, at, answer.number, answer.components, &ids, &sections);
+    }
+    put_refused(room, at, answer.refusal, answer.place)
+}
+
+pub fn put_newer(room: &mut [u8], at: usize, answer: NewerAnswer) -> usize
+    ensures { λ r. ⌜ Wrote (newerText answer) at (now (room .entry)) r (now (room .exit)) ⌝ }
+{
+    put_format(
+        room,
+        at,
+        b"(%, %, %)\n",
+        &[answer.second, answer.from, answer.to],
+    )
+}
+
+fn put_program(room: &mut [u8], at: usize, program: &[u8]) -> usize
+    ensures { λ r. ⌜ Wrote (programText (now (program .entry))) at (now (room .entry)) r (now (room .exit)) ⌝ }
+{
+    let a = put(room, at, b"program ");
+    let b = put_bytes(room, a, program);
+    put_byte(room, b, NEWLINE)
+}
+
+pub fn put_translated(room: &mut [u8], at: usize, answer: TranslateAnswer, lent: &[u8]) -> usize
+    ensures { λ r. ⌜ Wrote (translatedText answer (now (lent .entry))) at (now (room .entry)) r (now (room .exit)) ⌝ }
+{
+    if answer.refusal == 0 {
+        let n = least(answer.length, lent.len());
+        return put_program(room, at, &lent[..n]);
+    }
+    put_refused(room, at, answer.refusal, answer.place)
+}
+
+fn put_name(room: &mut [u8], at: usize, slots: &[u8], k: usize) -> usize
+    requires { ⌜ Holds (now slots) k ⌝ }
+    ensures { λ r. ⌜ Wrote (nameText (now (slots .entry)) k) at (now (room .entry)) r (now (room .exit)) ⌝ }
+{
+    let from = SLOT_BYTES * k + 1;
+    let to = from + least(wide(slots[SLOT_BYTES * k]), ID_BYTES);
+    let a = put_separator(room, at, k);
+    put_bytes(room, a, &slots[from..to])
+}
+
+fn put_image(room: &mut [u8], at: usize, slots: &[u8], k: usize) -> usize
+    requires { ⌜ Holds (now slots) k ⌝ }
+    ensures { λ r. ⌜ Wrote (imageText (now (slots .entry)) k) at (now (room .entry)) r (now (room .exit)) ⌝ }
+{
+    let numbers = [
+        capacity(slots, k),
+        wide(slots[SLOT_BYTES * k + IMAGE]),
+        size(slots, k),
+    ];
+    let from = SLOT_BYTES * k + DIGEST;
+    let to = from + 32;
+    let a = put_format(room, at, b":%:%:%:", &numbers);
+    put_hex(room, a, &slots[from..to])
+}
+
+fn put_slots(room: &mut [u8], at: usize, slots: &[u8]) -> usize
+    ensures { λ r. ⌜ Wrote (slotsText (now (slots .entry)) (length (now (slots .entry)) / slotBytes)) at (now (room .entry)) r (now (room .exit)) ⌝ }
+{
+    let n = slots.len() / SLOT_BYTES;
+    let mut to = at;
+    let mut k = 0;
+    while k < n {
+        to = put_name(room, to, slots, k);
+        to = put_image(room, to, slots, k);
+        k += 1;
+    }
+    to
+}
+
+// Where the events end in a trace of that length.
+pub fn events_end(events: usize, length: usize) -> usize
+    ensures { λ r. ⌜ r ≡ Text·least (events * 8) length ⌝ }
+{
+    if length / 8 < events {
+        return length;
+    }
+    events * 8
+}
+
+fn put_events(room: &mut [u8], at: usize, events: usize, trace: &[u8]) -> usize
+    ensures { λ r. ⌜ Wrote (eventsText events (now (trace .entry))) at (now (room .entry)) r (now (room .exit)) ⌝ }
+{
+    let n = events_end(events, trace.len());
+    let a = put_byte(room, at, b' ');
+    let b = put_bytes(room, a, &trace[..n]);
+    put_byte(room, b, NEWLINE)
+}
+
+fn put_end(room: &mut [u8], at: usize, answer: RunAnswer, slots: &[u8], trace: &[u8]) -> usize
+    ensures { λ r. ⌜ Wrote (endText answer (now (slots .entry)) (now (trace .entry))) at (now (room .entry)) r (now (room .exit)) ⌝ }
+{
+    let numbers = [
+        answer.end,
+        answer.place,
+        answer.events,
+        answer.used,
+        answer.number,
+    ];
+    let a = put_format(room, at, b"end % % % % % ", &numbers);
+    let b = put_slots(room, a, slots);
+    put_events(room, b, answer.events, trace)
+}
+
+pub fn put_ran(room: &mut [u8], at: usize, answer: RunAnswer, slots: &[u8], trace: &[u8]) -> usize
+    ensures { λ r. ⌜ Wrote (ranText answer (now (slots .entry)) (now (trace .entry))) at (now (room .entry)) r (now (room .exit)) ⌝ }
+{
+    if answer.refusal == 0 {
+        return put_end(room, at, answer, slots, trace);
+    }
+    put_refused(room, at, answer.refusal, answer.place)
+}

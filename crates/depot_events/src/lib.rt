@@ -1,0 +1,77 @@
+// The events of a trace, as a table in lent room.
+ghost use mathlib.Core.Path.{_≡_};
+ghost use Prim.Native.Nat.{_+_, _*_, _/_, _≤_};
+ghost use lib.ListN.{length};
+ghost use Rattle.text.specs.Text.{Wrote};
+ghost use Rattle.text.specs.Text.{least as Text·least};
+ghost use Rattle.text.specs.Pieces.{lines};
+ghost use Rattle.depot_events.specs.Events.{fieldsText, eventText, eventsText};
+use byte_buffer::two;
+use byte_buffer::wide;
+use text::put;
+use text::put_byte;
+use text::put_padded;
+use text::put_spaces;
+use text_names::put_command_wide;
+use text_names::put_result;
+
+fn put_fields(room: &mut [u8], at: usize, component: usize, place: usize, result: usize) -> usize
+    ensures { λ r. ⌜ Wrote (fieldsText component place result) at (now (room .entry)) r (now (room .exit)) ⌝ }
+{
+    let a = put_padded(room, at, component, 11);
+    let b = put_padded(room, a, place, 7);
+    let c = put_padded(room, b, result, 8);
+    let d = put_spaces(room, c, 2);
+    let e = put_result(room, d, result);
+    put_byte(room, e, b'\n')
+}
+
+fn put_event(room: &mut [u8], at: usize, trace: &[u8], k: usize) -> usize
+    requires { ⌜ 8 * k + 8 ≤ length (now trace) ⌝ }
+    ensures { λ r. ⌜ Wrote (eventText (now (trace .entry)) k) at (now (room .entry)) r (now (room .exit)) ⌝ }
+{
+    let p = 8 * k;
+    let code = wide(trace[p + 2]);
+    let component = wide(trace[p + 3]);
+    let place = two(trace, p + 4);
+    let result = wide(trace[p + 6]);
+    let a = put_padded(room, at, k, 5);
+    let b = put_spaces(room, a, 2);
+    let c = put_command_wide(room, b, code, 22);
+    put_fields(room, c, component, place, result)
+}
+
+fn least(a: usize, b: usize) -> usize
+    ensures { λ r. ⌜ r ≡ Text·least a b ⌝ }
+{
+    if a < b {
+        return a;
+    }
+    b
+}
+
+fn put_each(room: &mut [u8], at: usize, trace: &[u8], n: usize) -> usize
+    requires { ⌜ 8 * n ≤ length (now trace) ⌝ }
+    ensures { λ r. ⌜ Wrote (lines (eventText (now (trace .entry))) n) at (now (room .entry)) r (now (room .exit)) ⌝ }
+{
+    let mut to = at;
+    let mut k = 0;
+    while k < n {
+        to = put_event(room, to, trace, k);
+        k += 1;
+    }
+    to
+}
+
+// The first events of the trace, as many of them as lie in it.
+pub fn put_events(room: &mut [u8], at: usize, trace: &[u8], count: usize) -> usize
+    ensures { λ r. ⌜ Wrote (eventsText (now (trace .entry)) count) at (now (room .entry)) r (now (room .exit)) ⌝ }
+{
+    let to = put(
+        room,
+        at,
+        b"event  command                 component  place  result\n",
+    );
+    let n = least(count, trace.len() / 8);
+    put_each(room, to, trace, n)
+}

@@ -1,0 +1,46 @@
+-- The text of a program: a line for the program, for each component, each record and each parameter (01, The flat program).
+use Prim.Native.Nat.{ℕ, zero, suc}
+use mathlib.Core.Bool.{cond}
+use mathlib.Core.List.{[], _++_}
+use lib.Dec.{eqb, ltb}
+use lib.ListN.{length, getD, take, drop}
+use Rattle.text.specs.Text.{Bytes, ascii, hex}
+use Rattle.text.specs.Pieces.{labelled, counted}
+use Rattle.depot_argument_lines.specs.Items.{twoAt, fourAt, sizeIn, itemsText}
+use Rattle.depot_record_lines.specs.Lines.{missingText, recordsText}
+
+-- what follows k items; nothing, if one is missing
+unfoldable pub afterItems : (Bytes → ℕ) → ℕ → Bytes → Bytes
+afterItems size zero s = s
+afterItems size (suc k) s = cond (eqb (size s) 0) [] (afterItems size k (drop (size s) s))
+
+-- 'mark, FD, length 1, identifier'
+unfoldable pub componentSize : Bytes → ℕ
+componentSize s = sizeIn s 4 (getD s 3 0)
+
+unfoldable pub componentText : ℕ → Bytes → Bytes
+componentText n s = labelled (ascii "component ") n ++ ascii "  " ++ hex (take (getD s 3 0) (drop 4 s)) ++ ascii "\n"
+
+unfoldable pub componentsText : ℕ → Bytes → Bytes
+componentsText count s = itemsText componentSize componentText missingText count 0 s
+
+unfoldable pub afterComponents : ℕ → Bytes → Bytes
+afterComponents count s = afterItems componentSize count s
+
+-- 'group (0 install, 1 boot)'
+unfoldable pub groupText : ℕ → Bytes
+groupText group = cond (eqb group 1) (ascii "boot") (ascii "install")
+
+unfoldable pub countsText : ℕ → ℕ → Bytes
+countsText components records =
+    counted (ascii ", ") components (ascii " component") ++ counted (ascii ", ") records (ascii " record") ++ ascii "\n"
+
+-- 'mark, FE, group [..], sequence number 4, component count 1, command record count 2'
+unfoldable pub startText : Bytes → Bytes
+startText p =
+    groupText (getD p 3 0) ++ labelled (ascii " program, number ") (fourAt p 4) ++ countsText (getD p 8 0) (twoAt p 9)
+
+unfoldable pub programText : Bytes → Bytes
+programText p =
+    cond (ltb (length p) 11) (ascii "?\n")
+    (startText p ++ componentsText (getD p 8 0) (drop 11 p) ++ recordsText (twoAt p 9) (afterComponents (getD p 8 0) (drop 11 p)))

@@ -1,0 +1,73 @@
+// The components of a program.
+ghost use mathlib.Core.Path.{_≡_};
+ghost use Prim.Native.Nat.{_+_, _≤_};
+ghost use lib.ListN.{length, getD};
+ghost use Rattle.text.specs.Text.{Wrote};
+ghost use Rattle.depot_listing.specs.Listing.{componentSize, componentText, componentsText, afterComponents};
+use byte_buffer::wide;
+use text::pieces::put_labelled;
+use text::put;
+use text::put_hex;
+
+// The bytes of a component before its identifier.
+const HEAD: usize = 4;
+
+// How long the component at the start of the bytes is, 0 if none lies there.
+fn size_of(s: &[u8]) -> usize
+    ensures { λ r. ⌜ (r ≡ componentSize (now (s .entry))) × (r ≤ length (now (s .entry))) ⌝ }
+{
+    if s.len() < HEAD {
+        return 0;
+    }
+    let size = HEAD + wide(s[3]);
+    if s.len() < size {
+        return 0;
+    }
+    size
+}
+
+fn put_component(room: &mut [u8], at: usize, n: usize, s: &[u8]) -> usize
+    requires { ⌜ 4 + getD (now s) 3 0 ≤ length (now s) ⌝ }
+    ensures { λ r. ⌜ Wrote (componentText n (now (s .entry))) at (now (room .entry)) r (now (room .exit)) ⌝ }
+{
+    let a = put_labelled(room, at, b"component ", n);
+    let b = put(room, a, b"  ");
+    let end = HEAD + wide(s[3]);
+    let c = put_hex(room, b, &s[HEAD..end]);
+    put(room, c, b"\n")
+}
+
+pub fn put_components(room: &mut [u8], at: usize, s: &[u8], count: usize) -> usize
+    ensures { λ r. ⌜ Wrote (componentsText count (now (s .entry))) at (now (room .entry)) r (now (room .exit)) ⌝ }
+{
+    let mut to = at;
+    let mut rest = s;
+    let mut n = 0;
+    while n < count {
+        let size = size_of(rest);
+        if size == 0 {
+            return put(room, to, b"?\n");
+        }
+        to = put_component(room, to, n, rest);
+        rest = &rest[size..];
+        n += 1;
+    }
+    to
+}
+
+// What follows the components, nothing if one is missing.
+pub fn after_components(s: &[u8], count: usize) -> &[u8]
+    ensures { λ r. ⌜ now r ≡ afterComponents count (now (s .entry)) ⌝ }
+{
+    let mut rest = s;
+    let mut n = 0;
+    while n < count {
+        let size = size_of(rest);
+        if size == 0 {
+            return &rest[0..0];
+        }
+        rest = &rest[size..];
+        n += 1;
+    }
+    rest
+}

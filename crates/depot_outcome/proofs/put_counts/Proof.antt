@@ -1,0 +1,25 @@
+use borrow.Author.Needs.{needs}
+use Rattle.text.proofs.TextLaws.{wrote-then}
+use Rattle.depot_outcome.specs.Outcome.{countsText}
+use Rattle.depot_outcome.proofs.put_counts.Statement.{statement}
+use Rattle.depot_outcome.proofs.put_counts.Tie as tie
+
+returns : tie.Need-returns
+unfolding countsText
+returns c =
+    let p2 = c .before .before in
+    let p1 = p2 .before .before .before .before .before .before in
+    wrote-then (p1 .put-counted .ensures) (p2 .put-counted2 .ensures)
+
+pub put-counts-spec : {M : Type 1} → statement M
+put-counts-spec =
+    tie.close
+    (tie.spec
+    (λ c. search needs)
+    (λ c. search needs)
+    (λ c κs. search needs)
+    (λ c. search needs)
+    (λ c. search needs)
+    (λ c κs. search needs)
+    (λ c. search needs)
+    returns)

@@ -1,0 +1,128 @@
+// What a run did, as text in lent room.
+ghost use mathlib.Core.Path.{_≡_};
+ghost use Prim.Native.Nat.{_+_, _*_, _≤_};
+ghost use lib.ListN.{length};
+ghost use Rattle.text.specs.Text.{Wrote, least};
+ghost use Rattle.depot_outcome.specs.Outcome.{endText, countsText, ranText, nameText, presentText, imageText, slotText, slotsText, runText};
+use byte_buffer::four;
+use byte_buffer::wide;
+use depot_events::put_events;
+use depot_refusals::put_refused;
+use pitvorgas::RunAnswer;
+use text::pieces::put_counted;
+use text::pieces::put_labelled;
+use text::pieces::put_part;
+use text::put;
+use text::put_byte;
+use text::put_spaces;
+
+const SLOT: usize = 74;
+
+fn put_end(room: &mut [u8], at: usize, end: usize, place: usize) -> usize
+    ensures { λ r. ⌜ Wrote (endText end place) at (now (room .entry)) r (now (room .exit)) ⌝ }
+{
+    let a = put_labelled(room, at, b"end ", end);
+    let b = put(room, a, b" (");
+    let c = text_names::put_end(room, b, end);
+    put_labelled(room, c, b") at ", place)
+}
+
+fn put_counts(room: &mut [u8], at: usize, events: usize, used: usize) -> usize
+    ensures { λ r. ⌜ Wrote (countsText events used) at (now (room .entry)) r (now (room .exit)) ⌝ }
+{
+    let a = put_counted(room, at, b", ", events, b" event");
+    put_counted(room, a, b", ", used, b" answer")
+}
+
+// The end of a run that was not refused.
+pub fn put_ran(room: &mut [u8], at: usize, answer: RunAnswer) -> usize
+    ensures { λ r. ⌜ Wrote (ranText answer) at (now (room .entry)) r (now (room .exit)) ⌝ }
+{
+    let a = put_end(room, at, answer.end, answer.place);
+    let b = put_counts(room, a, answer.events, answer.used);
+    let c = put_labelled(room, b, b" used, number ", answer.number);
+    put_byte(room, c, b'\n')
+}
+
+// At most 32.
+fn capped(n: usize) -> usize
+    ensures { λ r. ⌜ r ≡ least n 32 ⌝ }
+{
+    if n < 32 {
+        return n;
+    }
+    32
+}
+
+fn put_name(room: &mut [u8], at: usize, slots: &[u8], p: usize) -> usize
+    requires { ⌜ p + 74 ≤ length (now slots) ⌝ }
+    ensures { λ r. ⌜ Wrote (nameText (now (slots .entry)) p) at (now (room .entry)) r (now (room .exit)) ⌝ }
+{
+    let n = capped(wide(slots[p]));
+    let a = put_spaces(room, at, 2);
+    put_part(room, a, slots, p + 1, p + 1 + n)
+}
+
+fn put_present(room: &mut [u8], at: usize, present: u8) -> usize
+    ensures { λ r. ⌜ Wrote (presentText present) at (now (room .entry)) r (now (room .exit)) ⌝ }
+{
+    if present == 0 {
+        return put(room, at, b"  absent ");
+    }
+    put(room, at, b"  present")
+}
+
+fn put_image(room: &mut [u8], at: usize, slots: &[u8], p: usize) -> usize
+    requires { ⌜ p + 74 ≤ length (now slots) ⌝ }
+    ensures { λ r. ⌜ Wrote (imageText (now (slots .entry)) p) at (now (room .entry)) r (now (room .exit)) ⌝ }
+{
+    let a = put_present(room, at, slots[p + 37]);
+    let b = put_labelled(room, a, b"  size ", four(slots, p + 38));
+    let c = put(room, b, b"  digest ");
+    let d = put_part(room, c, slots, p + 42, p + 74);
+    put_byte(room, d, b'\n')
+}
+
+fn put_slot(room: &mut [u8], at: usize, slots: &[u8], k: usize) -> usize
+    requires { ⌜ 74 * k + 74 ≤ length (now slots) ⌝ }
+    ensures { λ r. ⌜ Wrote (slotText (now (slots .entry)) k) at (now (room .entry)) r (now (room .exit)) ⌝ }
+{
+    let p = SLOT * k;
+    let a = put_labelled(room, at, b"slot ", k);
+    let b = put_name(room, a, slots, p);
+    let c = put_labelled(room, b, b"  capacity ", four(slots, p + 33));
+    put_image(room, c, slots, p)
+}
+
+// The slots, as many as are whole.
+pub fn put_slots(room: &mut [u8], at: usize, slots: &[u8]) -> usize
+    ensures { λ r. ⌜ Wrote (slotsText (now (slots .entry))) at (now (room .entry)) r (now (room .exit)) ⌝ }
+{
+    let n = slots.len() / SLOT;
+    let mut to = at;
+    let mut k = 0;
+    while k < n {
+        to = put_slot(room, to, slots, k);
+        k += 1;
+    }
+    to
+}
+
+// What a run of s answered: a refusal, or the events, the end and the slots.
+pub fn put_run(
+    room: &mut [u8],
+    at: usize,
+    answer: RunAnswer,
+    s: &[u8],
+    trace: &[u8],
+    slots: &[u8],
+) -> usize
+    ensures { λ r. ⌜ Wrote (runText answer (now (s .entry)) (now (trace .entry)) (now (slots .entry))) at (now (room .entry)) r (now (room .exit)) ⌝ }
+{
+    if answer.refusal == 0 {
+        let a = put_events(room, at, trace, answer.events);
+        let b = put_ran(room, a, answer);
+        return put_slots(room, b, slots);
+    }
+    put_refused(room, at, answer.refusal, answer.place, s)
+}

@@ -1,0 +1,28 @@
+use borrow.Author.Needs.{needs}
+use Rattle.text.proofs.TextLaws.{wrote-then}
+use Rattle.depot_refusals.specs.Refusals.{refusedText}
+use borrow.Author.Tests.{lt-ltb, le-ltb}
+use Rattle.depot_refusals.proofs.put_refused.Statement.{statement}
+use Rattle.depot_refusals.proofs.put_refused.Tie as tie
+
+returns : tie.Need-returns
+unfolding refusedText
+returns c = rw (lt-ltb _ 65 (c .if1 .taken)) (c .before .before .before .put-refused-line .ensures)
+
+returns-2 : tie.Need-returns-2
+unfolding refusedText
+returns-2 c =
+    let p2 = c .before .before in
+    let p1 = p2 .before .before .before .before .before .before in
+    rw (le-ltb _ 65 (p2 .before .before .before .if1 .left), lt-ltb _ 80 (p2 .before .before .if2 .taken)) (wrote-then (p1 .put-refused-line .ensures) (p2 .put-around .ensures))
+
+returns-3 : tie.Need-returns-3
+unfolding refusedText
+returns-3 c =
+    let p1 = c .before .before .before .before in
+    rw (le-ltb _ 65 (c .before .if1 .left), le-ltb _ 80 (c .if2 .left)) (p1 .put-refused-line .ensures)
+
+pub put-refused-spec : {M : Type 1} → statement M
+put-refused-spec =
+    tie.close
+    (tie.spec (λ c κs. search needs) (λ c. search needs) returns (λ c κs. search needs) (λ c. search needs) returns-2 (λ c. search needs) returns-3)

@@ -1,0 +1,83 @@
+// A refusal as text in lent room: its number, place and meaning, and the bytes around the place.
+ghost use mathlib.Core.Path.{_≡_};
+ghost use Prim.Native.Nat.{_<_, _+_, _-_};
+ghost use lib.ListN.{length};
+ghost use Rattle.text.specs.Text.{Wrote};
+ghost use Rattle.text.specs.Pieces.{part, spaced};
+ghost use Rattle.depot_refusals.specs.Refusals.{refusedLine, beforeText, aroundText, refusedText};
+use text::pieces::put_labelled;
+use text::pieces::put_part;
+use text::pieces::put_spaced;
+use text::put;
+use text::put_byte;
+use text_names::put_refusal;
+
+fn put_refused_line(room: &mut [u8], at: usize, number: usize, place: usize) -> usize
+    ensures { λ r. ⌜ Wrote (refusedLine number place) at (now (room .entry)) r (now (room .exit)) ⌝ }
+{
+    let a = put_labelled(room, at, b"refused with ", number);
+    let b = put_labelled(room, a, b" at ", place);
+    let c = put(room, b, b": ");
+    let d = put_refusal(room, c, number);
+    put_byte(room, d, b'\n')
+}
+
+fn back(p: usize) -> usize
+    ensures { λ r. ⌜ r ≡ p - 8 ⌝ }
+{
+    if p < 8 {
+        return 0;
+    }
+    p - 8
+}
+
+fn put_before(room: &mut [u8], at: usize, s: &[u8], p: usize) -> usize
+    ensures { λ r. ⌜ Wrote (beforeText (now (s .entry)) p) at (now (room .entry)) r (now (room .exit)) ⌝ }
+{
+    let from = back(p);
+    let a = put_labelled(room, at, b"  ", from);
+    let b = put_byte(room, a, b':');
+    put_spaced(room, b, s, from, p)
+}
+
+// The eight bytes after p, or as many as there are.
+fn put_after(room: &mut [u8], at: usize, s: &[u8], p: usize) -> usize
+    requires { ⌜ p < length (now s) ⌝ }
+    ensures { λ r. ⌜ Wrote (spaced (part (now (s .entry)) (p + 1) (p + 9))) at (now (room .entry)) r (now (room .exit)) ⌝ }
+{
+    let end = s.len();
+    if end - p < 9 {
+        return put_spaced(room, at, s, p + 1, end);
+    }
+    put_spaced(room, at, s, p + 1, p + 9)
+}
+
+// The bytes around a place.
+fn put_around(room: &mut [u8], at: usize, s: &[u8], p: usize) -> usize
+    ensures { λ r. ⌜ Wrote (aroundText (now (s .entry)) p) at (now (room .entry)) r (now (room .exit)) ⌝ }
+{
+    let end = s.len();
+    if end <= p {
+        let a = put_before(room, at, s, end);
+        return put(room, a, b" [end]\n");
+    }
+    let b = put_before(room, at, s, p);
+    let c = put(room, b, b" [");
+    let d = put_part(room, c, s, p, p + 1);
+    let e = put_byte(room, d, b']');
+    let f = put_after(room, e, s, p);
+    put_byte(room, f, b'\n')
+}
+
+pub fn put_refused(room: &mut [u8], at: usize, number: usize, place: usize, s: &[u8]) -> usize
+    ensures { λ r. ⌜ Wrote (refusedText number place (now (s .entry))) at (now (room .entry)) r (now (room .exit)) ⌝ }
+{
+    let to = put_refused_line(room, at, number, place);
+    if number < 65 {
+        return to;
+    }
+    if number < 80 {
+        return put_around(room, to, s, place);
+    }
+    to
+}

@@ -1,0 +1,35 @@
+use borrow.Author.Needs.{needs}
+use Prim.Native.Nat.{_-_, _≤_}
+use Rattle.text.specs.Text.{Wrote}
+use Rattle.text.proofs.TextLaws.{wrote-length}
+use Rattle.text.specs.Pieces.{lines}
+use Rattle.text.proofs.PieceLaws.{lines-none, lines-next, lines-all}
+use Rattle.depot_report.specs.Report.{sectionText, sectionsText}
+use Rattle.depot_report.proofs.put_sections.Statement.{statement}
+use Rattle.depot_report.proofs.put_sections.Tie as tie
+
+abbrev Inv-loop : tie.InvT-loop
+Inv-loop room₀ at sections to₀ j₀ room to j = (j ≤ 6) × Wrote (lines (sectionText sections) j) at room₀ to room
+
+abbrev μ-loop : tie.MeasureT-loop
+μ-loop room₀ at sections to₀ j₀ room to j = 6 - j
+
+loop-holds : tie.Need-loop-holds Inv-loop μ-loop
+loop-holds c = (search needs, lines-none _ _ _)
+
+loop-again : tie.Need-loop-again Inv-loop μ-loop
+loop-again c =
+    let p1 = c .before .before in
+    (search needs, lines-next _ _ (p1 .before .before .before .loop .inv .1) (p1 .put-one-section .ensures))
+
+same-length : tie.Need-same-length Inv-loop μ-loop
+same-length c = wrote-length (c .before .loop .inv .1)
+
+returns : tie.Need-returns Inv-loop μ-loop
+unfolding sectionsText
+returns c = lines-all _ _ 6 (search needs) (search needs) (c .before .loop .inv .1)
+
+pub put-sections-spec : {M : Type 1} → statement M
+put-sections-spec =
+    tie.close
+    (tie.spec Inv-loop μ-loop loop-holds (λ c κs. search needs) (λ c. search needs) (λ c. search needs) loop-again same-length returns)

@@ -1,0 +1,154 @@
+// The answers of check, newer and translate, as text in lent room.
+ghost use mathlib.Core.Path.{_≡_};
+ghost use Prim.Native.Nat.{_<_};
+ghost use Rattle.text.specs.Text.{Wrote, least};
+ghost use Rattle.depot_report.specs.Report.{componentText, componentsText, sectionKey, sectionText, sectionsText, spanText, manifestText, headText, acceptedText, checkedText, whichText, newerText, translatedText};
+use depot_refusals::put_refused;
+use pitvorgas::CheckAnswer;
+use pitvorgas::NewerAnswer;
+use text::pieces::put_labelled;
+use text::pieces::put_part;
+use text::put;
+use text::put_byte;
+use text::put_spaces;
+use text_names::put_section;
+
+fn put_component(room: &mut [u8], at: usize, s: &[u8], ids: &[usize; 16], k: usize) -> usize
+    requires { ⌜ k < 8 ⌝ }
+    ensures { λ r. ⌜ Wrote (componentText (now (s .entry)) (now (ids .entry)) k) at (now (room .entry)) r (now (room .exit)) ⌝ }
+{
+    let a = put_labelled(room, at, b"component ", k);
+    let b = put_spaces(room, a, 2);
+    let c = put_part(room, b, s, ids[2 * k], ids[2 * k + 1]);
+    put_byte(room, c, b'\n')
+}
+
+fn capped(n: usize) -> usize
+    ensures { λ r. ⌜ r ≡ least n 8 ⌝ }
+{
+    if n < 8 {
+        return n;
+    }
+    8
+}
+
+fn put_components(room: &mut [u8], at: usize, s: &[u8], ids: &[usize; 16], n: usize) -> usize
+    ensures { λ r. ⌜ Wrote (componentsText (now (s .entry)) (now (ids .entry)) n) at (now (room .entry)) r (now (room .exit)) ⌝ }
+{
+    let end = capped(n);
+    let mut to = at;
+    let mut k = 0;
+    while k < end {
+        to = put_component(room, to, s, ids, k);
+        k += 1;
+    }
+    to
+}
+
+fn section_key(j: usize) -> usize
+    requires { ⌜ j < 6 ⌝ }
+    ensures { λ r. ⌜ r ≡ sectionKey j ⌝ }
+{
+    if j == 0 {
+        return 3;
+    }
+    j + 7
+}
+
+fn put_span(room: &mut [u8], at: usize, from: usize, to: usize) -> usize
+    ensures { λ r. ⌜ Wrote (spanText from to) at (now (room .entry)) r (now (room .exit)) ⌝ }
+{
+    let a = put_labelled(room, at, b" at ", from);
+    let b = put_labelled(room, a, b" to ", to);
+    put_byte(room, b, b'\n')
+}
+
+fn put_one_section(room: &mut [u8], at: usize, sections: &[usize; 12], j: usize) -> usize
+    requires { ⌜ j < 6 ⌝ }
+    ensures { λ r. ⌜ Wrote (sectionText (now (sections .entry)) j) at (now (room .entry)) r (now (room .exit)) ⌝ }
+{
+    let end = sections[2 * j + 1];
+    if end == 0 {
+        return at;
+    }
+    let a = put(room, at, b"section ");
+    let b = put_section(room, a, section_key(j));
+    put_span(room, b, sections[2 * j], end)
+}
+
+fn put_sections(room: &mut [u8], at: usize, sections: &[usize; 12]) -> usize
+    ensures { λ r. ⌜ Wrote (sectionsText (now (sections .entry))) at (now (room .entry)) r (now (room .exit)) ⌝ }
+{
+    let mut to = at;
+    let mut j = 0;
+    while j < 6 {
+        to = put_one_section(room, to, sections, j);
+        j += 1;
+    }
+    to
+}
+
+fn put_manifest(room: &mut [u8], at: usize, from: usize, to: usize) -> usize
+    ensures { λ r. ⌜ Wrote (manifestText from to) at (now (room .entry)) r (now (room .exit)) ⌝ }
+{
+    let a = put(room, at, b"manifest");
+    put_span(room, a, from, to)
+}
+
+fn put_head(room: &mut [u8], at: usize, number: usize) -> usize
+    ensures { λ r. ⌜ Wrote (headText number) at (now (room .entry)) r (now (room .exit)) ⌝ }
+{
+    let a = put_labelled(room, at, b"accepted\nnumber ", number);
+    put_byte(room, a, b'\n')
+}
+
+fn put_accepted(room: &mut [u8], at: usize, answer: CheckAnswer, envelope: &[u8]) -> usize
+    ensures { λ r. ⌜ Wrote (acceptedText answer (now (envelope .entry))) at (now (room .entry)) r (now (room .exit)) ⌝ }
+{
+    let ids = answer.ids;
+    let sections = answer.sections;
+    let a = put_head(room, at, answer.number);
+    let b = put_components(room, a, envelope, &ids, answer.components);
+    let c = put_sections(room, b, &sections);
+    put_manifest(room, c, answer.from, answer.to)
+}
+
+// What check answered for the envelope.
+pub fn put_checked(room: &mut [u8], at: usize, answer: CheckAnswer, envelope: &[u8]) -> usize
+    ensures { λ r. ⌜ Wrote (checkedText answer (now (envelope .entry))) at (now (room .entry)) r (now (room .exit)) ⌝ }
+{
+    if answer.refusal == 0 {
+        return put_accepted(room, at, answer, envelope);
+    }
+    put_refused(room, at, answer.refusal, answer.place, envelope)
+}
+
+// What newer answered, and the number of the manifest that it handed back.
+pub fn put_newer(room: &mut [u8], at: usize, answer: NewerAnswer, number: usize) -> usize
+    ensures { λ r. ⌜ Wrote (newerText answer number) at (now (room .entry)) r (now (room .exit)) ⌝ }
+{
+    if answer.to == 0 {
+        return put(room, at, b"both refused\n");
+    }
+    let a = put_which(room, at, answer.second);
+    let b = put_labelled(room, a, b": number ", number);
+    let c = put(room, b, b", ");
+    put_manifest(room, c, answer.from, answer.to)
+}
+
+fn put_which(room: &mut [u8], at: usize, second: usize) -> usize
+    ensures { λ r. ⌜ Wrote (whichText second) at (now (room .entry)) r (now (room .exit)) ⌝ }
+{
+    if second == 0 {
+        return put(room, at, b"first");
+    }
+    put(room, at, b"second")
+}
+
+// A program that translate wrote.
+pub fn put_translated(room: &mut [u8], at: usize, length: usize) -> usize
+    ensures { λ r. ⌜ Wrote (translatedText length) at (now (room .entry)) r (now (room .exit)) ⌝ }
+{
+    let a = put_labelled(room, at, b"program of ", length);
+    put(room, a, b" bytes\n")
+}

@@ -1,0 +1,111 @@
+// A manifest as a person reads it, in lent room.
+ghost use mathlib.Core.Path.{_≡_};
+ghost use Prim.Native.Nat.{_≤_};
+ghost use Rattle.text.specs.Text.{Wrote, least};
+ghost use Rattle.depot_show.specs.Manifest.{componentText, componentsText, sectionText, sectionsText, partsText, manifestText};
+use check_envelope::report::Report;
+use depot_items::line::NEWLINE;
+use depot_items::line::put_string;
+use rules::controller::Controller;
+use text::pieces::put_code;
+use text::pieces::put_labelled;
+use text::put;
+use text::put_byte;
+use walk::put_sequence;
+
+mod walk;
+
+// Component `k`, whose identifier stands from `from` to `end`.
+fn put_component(room: &mut [u8], at: usize, s: &[u8], k: usize, from: usize, end: usize) -> usize
+    ensures { λ r. ⌜ Wrote (componentText (now (s .entry)) k from end) at (now (room .entry)) r (now (room .exit)) ⌝ }
+{
+    let a = put_labelled(room, at, b"component ", k);
+    let b = put(room, a, b"  ");
+    let c = put_string(room, b, s, cbor::BYTES, from, end);
+    let d = put_labelled(room, c, b"  at ", from);
+    put_byte(room, d, NEWLINE)
+}
+
+// The first `n` components.
+fn put_components(room: &mut [u8], at: usize, s: &[u8], n: usize, ids: &[usize; 16]) -> usize
+    requires { ⌜ n ≤ 8 ⌝ }
+    ensures { λ r. ⌜ Wrote (componentsText (now (s .entry)) (now (ids .entry)) n) at (now (room .entry)) r (now (room .exit)) ⌝ }
+{
+    let mut to = at;
+    let mut k = 0;
+    while k < n {
+        to = put_component(room, to, s, k, ids[2 * k], ids[2 * k + 1]);
+        k += 1;
+    }
+    to
+}
+
+// How many of them a report has places for.
+fn listed(components: usize) -> usize
+    ensures { λ r. ⌜ (r ≤ 8) × (r ≡ least components 8) ⌝ }
+{
+    if Controller::COMPONENTS < components {
+        return Controller::COMPONENTS;
+    }
+    components
+}
+
+// The section under `key`, whose sequence stands from `from` to `end`; an end of 0 says that it is not there.
+fn put_section(room: &mut [u8], at: usize, s: &[u8], key: usize, from: usize, end: usize) -> usize
+    ensures { λ r. ⌜ Wrote (sectionText (now (s .entry)) key from end) at (now (room .entry)) r (now (room .exit)) ⌝ }
+{
+    if end == 0 {
+        return at;
+    }
+    let a = text_names::put_section(room, at, key);
+    let b = put_code(room, a, key);
+    let c = put_byte(room, b, NEWLINE);
+    let r = put_sequence(room, c, s, Controller::DEPTH, end, from);
+    r.to
+}
+
+fn put_sections(room: &mut [u8], at: usize, s: &[u8], sections: &[usize; 12]) -> usize
+    ensures { λ r. ⌜ Wrote (sectionsText (now (s .entry)) (now (sections .entry))) at (now (room .entry)) r (now (room .exit)) ⌝ }
+{
+    let a = put_section(room, at, s, 3, sections[0], sections[1]);
+    let b = put_section(room, a, s, 8, sections[2], sections[3]);
+    let c = put_section(room, b, s, 9, sections[4], sections[5]);
+    let d = put_section(room, c, s, 10, sections[6], sections[7]);
+    let e = put_section(room, d, s, 11, sections[8], sections[9]);
+    put_section(room, e, s, 12, sections[10], sections[11])
+}
+
+// The manifest of an envelope by its number and the places of its identifiers and sections, as check reports them.
+pub fn put_parts(
+    room: &mut [u8],
+    at: usize,
+    s: &[u8],
+    number: usize,
+    components: usize,
+    ids: &[usize; 16],
+    sections: &[usize; 12],
+) -> usize
+    ensures { λ r. ⌜ Wrote (partsText (now (s .entry)) number components (now (ids .entry)) (now (sections .entry))) at (now (room .entry)) r (now (room .exit)) ⌝ }
+{
+    let a = put_labelled(room, at, b"number ", number);
+    let b = put_byte(room, a, NEWLINE);
+    let c = put_components(room, b, s, listed(components), ids);
+    put_sections(room, c, s, sections)
+}
+
+// The manifest of an envelope that check has accepted, by check's report.
+pub fn put_manifest(room: &mut [u8], at: usize, s: &[u8], report: Report) -> usize
+    ensures { λ r. ⌜ Wrote (manifestText (now (s .entry)) report) at (now (room .entry)) r (now (room .exit)) ⌝ }
+{
+    let ids = report.ids;
+    let sections = report.sections;
+    put_parts(
+        room,
+        at,
+        s,
+        report.number,
+        report.components,
+        &ids,
+        &sections,
+    )
+}

@@ -1,0 +1,91 @@
+use mathlib.Core.Path.{_≡_, sym, _∙_}
+use mathlib.Core.Bool.{true, false}
+use borrow.Author.Needs.{needs}
+use Rattle.rules.specs.Bytes.{same}
+use Rattle.text.specs.Text.{ascii}
+use Rattle.device_description.specs.Scenario as Rule
+use Rattle.device_description.proofs.setting.Statement.{statement}
+use Rattle.device_description.proofs.setting.Tie as tie
+
+returns : tie.Need-returns
+unfolding Rule.setting
+returns c =
+    let w = c .before .before .before .before .before .before .args .w .now in
+    let p1 : same w (ascii "verdict") ≡ true = sym (c .before .before .is .ensures) ∙ c .before .if1 .taken in
+    rw (p1) (c .verdict-line .ensures)
+
+returns-2 : tie.Need-returns-2
+unfolding Rule.setting
+returns-2 c =
+    let w = c .before .before .before .before .before .before .before .before .before .args .w .now in
+    let p1 : same w (ascii "verdict") ≡ false = sym (c .before .before .before .before .before .is .ensures) ∙ c .before .before .before .before .if1 .left in
+    let p2 : same w (ascii "vendor") ≡ true = sym (c .before .before .is2 .ensures) ∙ c .before .if2 .taken in
+    rw (p1, p2) (c .vendor-line .ensures)
+
+returns-3 : tie.Need-returns-3
+unfolding Rule.setting
+returns-3 c =
+    let w = c .before .before .before .before .before .before .before .before .before .before .before .before .args .w .now in
+    let p1 : same w (ascii "verdict") ≡ false = sym (c .before .before .before .before .before .before .before .before .is .ensures) ∙ c .before .before .before .before .before .before .before .if1 .left in
+    let p2 : same w (ascii "vendor") ≡ false = sym (c .before .before .before .before .before .is2 .ensures) ∙ c .before .before .before .before .if2 .left in
+    let p3 : same w (ascii "class") ≡ true = sym (c .before .before .is3 .ensures) ∙ c .before .if3 .taken in
+    rw (p1, p2, p3) (c .class-line .ensures)
+
+returns-4 : tie.Need-returns-4
+unfolding Rule.setting
+returns-4 c =
+    let w = c .before .before .before .before .before .before .before .before .before .before .before .before .before .before .before .args .w .now in
+    let p1 : same w (ascii "verdict") ≡ false = sym (c .before .before .before .before .before .before .before .before .before .before .before .is .ensures) ∙ c .before .before .before .before .before .before .before .before .before .before .if1 .left in
+    let p2 : same w (ascii "vendor") ≡ false = sym (c .before .before .before .before .before .before .before .before .is2 .ensures) ∙ c .before .before .before .before .before .before .before .if2 .left in
+    let p3 : same w (ascii "class") ≡ false = sym (c .before .before .before .before .before .is3 .ensures) ∙ c .before .before .before .before .if3 .left in
+    let p4 : same w (ascii "number") ≡ true = sym (c .before .before .is4 .ensures) ∙ c .before .if4 .taken in
+    rw (p1, p2, p3, p4) (c .number-line .ensures)
+
+returns-5 : tie.Need-returns-5
+unfolding Rule.setting
+returns-5 c =
+    let w = c .before .before .before .before .before .before .before .before .before .before .before .before .before .before .before .before .before .before .args .w .now in
+    let p1 : same w (ascii "verdict") ≡ false = sym (c .before .before .before .before .before .before .before .before .before .before .before .before .before .before .is .ensures) ∙ c .before .before .before .before .before .before .before .before .before .before .before .before .before .if1 .left in
+    let p2 : same w (ascii "vendor") ≡ false = sym (c .before .before .before .before .before .before .before .before .before .before .before .is2 .ensures) ∙ c .before .before .before .before .before .before .before .before .before .before .if2 .left in
+    let p3 : same w (ascii "class") ≡ false = sym (c .before .before .before .before .before .before .before .before .is3 .ensures) ∙ c .before .before .before .before .before .before .before .if3 .left in
+    let p4 : same w (ascii "number") ≡ false = sym (c .before .before .before .before .before .is4 .ensures) ∙ c .before .before .before .before .if4 .left in
+    let p5 : same w (ascii "event") ≡ true = sym (c .before .before .is5 .ensures) ∙ c .before .if5 .taken in
+    rw (p1, p2, p3, p4, p5) (c .event-line .ensures)
+
+returns-6 : tie.Need-returns-6
+unfolding Rule.setting
+returns-6 c =
+    let w = c .before .before .before .before .before .before .before .before .before .before .before .before .before .before .before .before .before .before .args .w .now in
+    let p1 : same w (ascii "verdict") ≡ false = sym (c .before .before .before .before .before .before .before .before .before .before .before .before .before .before .is .ensures) ∙ c .before .before .before .before .before .before .before .before .before .before .before .before .before .if1 .left in
+    let p2 : same w (ascii "vendor") ≡ false = sym (c .before .before .before .before .before .before .before .before .before .before .before .is2 .ensures) ∙ c .before .before .before .before .before .before .before .before .before .before .if2 .left in
+    let p3 : same w (ascii "class") ≡ false = sym (c .before .before .before .before .before .before .before .before .is3 .ensures) ∙ c .before .before .before .before .before .before .before .if3 .left in
+    let p4 : same w (ascii "number") ≡ false = sym (c .before .before .before .before .before .is4 .ensures) ∙ c .before .before .before .before .if4 .left in
+    let p5 : same w (ascii "event") ≡ false = sym (c .before .before .is5 .ensures) ∙ c .before .if5 .left in
+    rw (p1, p2, p3, p4, p5) (c .refuse .ensures)
+
+pub setting-spec : {M : Type 1} → statement M
+setting-spec =
+    tie.close
+    (tie.spec
+    (λ c. search needs)
+    (λ c κs. search needs)
+    (λ c κs. search needs)
+    returns
+    (λ c. search needs)
+    (λ c κs. search needs)
+    (λ c κs. search needs)
+    returns-2
+    (λ c. search needs)
+    (λ c κs. search needs)
+    (λ c κs. search needs)
+    returns-3
+    (λ c. search needs)
+    (λ c κs. search needs)
+    (λ c κs. search needs)
+    returns-4
+    (λ c. search needs)
+    (λ c κs. search needs)
+    (λ c κs. search needs)
+    returns-5
+    (λ c κs. search needs)
+    returns-6)

@@ -1,0 +1,12 @@
+use borrow.Author.Tests.{eq-eqb, ne-eqb}
+use Rattle.device_text.proofs.blank.Statement.{statement}
+use Rattle.device_text.proofs.blank.Tie as tie
+
+returns : tie.Need-returns
+returns c = rw (eq-eqb (c .before .args .x) 32 (c .if1 .taken))
+
+returns-2 : tie.Need-returns-2
+returns-2 c = rw (ne-eqb (c .before .args .x) 32 (c .if1 .left))
+
+pub blank-spec : {M : Type 1} → statement M
+blank-spec = tie.close (tie.spec returns returns-2)

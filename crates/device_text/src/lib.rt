@@ -1,0 +1,81 @@
+// Lines, words and numbers of a text: here the words of a line.
+ghost use mathlib.Core.Path.{_≡_};
+ghost use Prim.Native.Nat.{_≤_};
+ghost use lib.ListN.{length, take};
+ghost use Rattle.rules.specs.Bytes.{same};
+ghost use Rattle.device_text.specs.Words as Words;
+use run_slots::bytes::same_parts;
+
+pub mod line;
+pub mod put;
+pub mod read;
+pub mod shape;
+
+const SPACE: u8 = 32;
+
+const RETURN: u8 = 13;
+
+// Where b first stands in s; the length of s, if it does not.
+pub fn until(s: &[u8], b: u8) -> usize
+    ensures { λ r. ⌜ (r ≡ Words.until b (now (s .entry))) × (r ≤ length (now (s .entry))) ⌝ }
+{
+    let mut i = 0;
+    while i < s.len() {
+        if s[i] == b {
+            return i;
+        }
+        i += 1;
+    }
+    i
+}
+
+// The first word, and what stands behind it.
+pub fn word(s: &[u8]) -> &[u8]
+    ensures { λ r. ⌜ now r ≡ Words.word (now (s .entry)) ⌝ }
+{
+    let n = until(s, SPACE);
+    &s[..n]
+}
+
+pub fn rest(s: &[u8]) -> &[u8]
+    ensures { λ r. ⌜ now r ≡ Words.rest (now (s .entry)) ⌝ }
+{
+    let n = until(s, SPACE);
+    if n < s.len() {
+        let from = n + 1;
+        return &s[from..];
+    }
+    &s[n..]
+}
+
+pub fn is(a: &[u8], b: &[u8]) -> bool
+    ensures { λ r. ⌜ r ≡ same (now (a .entry)) (now (b .entry)) ⌝ }
+{
+    if a.len() != b.len() {
+        return false;
+    }
+    same_parts(a, 0, b, 0, a.len())
+}
+
+fn blank(x: u8) -> bool
+    ensures { λ r. ⌜ r ≡ Words.blank x ⌝ }
+{
+    if x == SPACE {
+        return true;
+    }
+    x == RETURN
+}
+
+// How long a line is without the blanks at its end.
+pub fn trimmed(s: &[u8]) -> usize
+    ensures { λ r. ⌜ (r ≤ length (now (s .entry))) × (take r (now (s .entry)) ≡ Words.trim (now (s .entry))) ⌝ }
+{
+    let mut n = s.len();
+    while 0 < n {
+        if !blank(s[n - 1]) {
+            return n;
+        }
+        n -= 1;
+    }
+    n
+}

@@ -1,0 +1,42 @@
+// Lines of a text.
+ghost use mathlib.Core.Path.{_≡_};
+ghost use Prim.Native.Nat.{_<_, _≤_};
+ghost use lib.ListN.{length, drop};
+ghost use Rattle.device_text.specs.Words as Words;
+use crate::trimmed;
+use crate::until;
+
+const LINE_FEED: u8 = 10;
+
+fn behind(text: &[u8], at: usize) -> &[u8]
+    ensures { λ r. ⌜ now r ≡ drop at (now (text .entry)) ⌝ }
+{
+    if at < text.len() {
+        return &text[at..];
+    }
+    let end = text.len();
+    &text[end..]
+}
+
+// The line at a place, without the blanks at its end.
+pub fn line_at(text: &[u8], at: usize) -> &[u8]
+    ensures { λ r. ⌜ now r ≡ Words.trim (Words.before Words.lineFeed (drop at (now (text .entry)))) ⌝ }
+{
+    let t = behind(text, at);
+    let n = until(t, LINE_FEED);
+    let line = &t[..n];
+    let m = trimmed(line);
+    &line[..m]
+}
+
+// The place after it.
+pub fn next_line(text: &[u8], at: usize) -> usize
+    ensures { λ r. ⌜ (drop r (now (text .entry)) ≡ Words.after Words.lineFeed (drop at (now (text .entry)))) × (r ≤ length (now (text .entry))) × (at < length (now (text .entry)) → at < r) ⌝ }
+{
+    let t = behind(text, at);
+    let n = until(t, LINE_FEED);
+    if n < t.len() {
+        return at + n + 1;
+    }
+    text.len()
+}

@@ -1,0 +1,125 @@
+// What a description's words write, as bytes in lent room.
+ghost use mathlib.Core.Path.{_≡_};
+ghost use Prim.Native.Nat.{_%_};
+ghost use lib.ListN.{replicate};
+ghost use Rattle.rules.specs.Bytes.{be4};
+ghost use Rattle.rules.specs.Bytes.{put as Bytes·put};
+ghost use Rattle.text.specs.Text.{Wrote};
+ghost use Rattle.device_text.specs.Words as Words;
+ghost use Rattle.device_text.specs.SlotText as Rule;
+use crate::is;
+use crate::read::decimal;
+use crate::read::digit;
+use crate::rest;
+use crate::shape::status;
+use crate::word;
+use text::put_byte;
+
+fn low(n: usize) -> u8
+    ensures { λ r. ⌜ r ≡ n % 256 ⌝ }
+{
+    (n % 256) as u8
+}
+
+fn put_zeros(room: &mut [u8], at: usize, n: usize) -> usize
+    ensures { λ r. ⌜ Wrote (replicate n 0) at (now (room .entry)) r (now (room .exit)) ⌝ }
+{
+    let mut to = at;
+    let mut i = 0;
+    while i < n {
+        to = put_byte(room, to, 0);
+        i += 1;
+    }
+    to
+}
+
+// A number in four bytes.
+fn put_four(room: &mut [u8], at: usize, n: usize) -> usize
+    ensures { λ r. ⌜ Wrote (be4 n) at (now (room .entry)) r (now (room .exit)) ⌝ }
+{
+    let a = put_byte(room, at, low(n / 16777216));
+    let b = put_byte(room, a, low(n / 65536));
+    let c = put_byte(room, b, low(n / 256));
+    put_byte(room, c, low(n))
+}
+
+// The byte of two digits.
+fn pair(a: u8, b: u8) -> u8
+    ensures { λ r. ⌜ r ≡ Words.pair a b ⌝ }
+{
+    (digit(a) % 16 * 16 + digit(b) % 16) as u8
+}
+
+// The bytes that a word writes in hexadecimal.
+fn put_bytes(room: &mut [u8], at: usize, w: &[u8]) -> usize
+    ensures { λ r. ⌜ Wrote (Words.bytes (now (w .entry))) at (now (room .entry)) r (now (room .exit)) ⌝ }
+{
+    let n = w.len() / 2;
+    let mut to = at;
+    let mut i = 0;
+    while i < n {
+        to = put_byte(room, to, pair(w[i * 2], w[i * 2 + 1]));
+        i += 1;
+    }
+    to
+}
+
+// 16 bytes.
+pub fn sixteen(w: &[u8]) -> [u8; 16]
+    ensures { λ r. ⌜ r ≡ Bytes·put (replicate 16 0) 0 (Words.bytes (now (w .entry))) ⌝ }
+{
+    let mut b = [0u8; 16];
+    put_bytes(&mut b, 0, w);
+    b
+}
+
+// An image: size and digest, which may be left out.
+fn put_image(room: &mut [u8], at: usize, t: &[u8]) -> usize
+    ensures { λ r. ⌜ Wrote (Rule.image (now (t .entry))) at (now (room .entry)) r (now (room .exit)) ⌝ }
+{
+    if t.len() == 0 {
+        return put_zeros(room, at, 36);
+    }
+    let a = put_four(room, at, decimal(word(t)));
+    put_bytes(room, a, rest(t))
+}
+
+// An identifier's length, and the identifier in 32 bytes.
+fn put_identifier(room: &mut [u8], at: usize, w: &[u8]) -> usize
+    ensures { λ r. ⌜ Wrote (Rule.identifier (now (w .entry))) at (now (room .entry)) r (now (room .exit)) ⌝ }
+{
+    let n = w.len() / 2;
+    let a = put_byte(room, at, low(n));
+    let b = put_bytes(room, a, w);
+    if 32 < n {
+        return b;
+    }
+    put_zeros(room, b, 32 - n)
+}
+
+fn presence(w: &[u8]) -> u8
+    ensures { λ r. ⌜ r ≡ Rule.presence (now (w .entry)) ⌝ }
+{
+    if is(w, b"present") {
+        return 1;
+    }
+    0
+}
+
+pub fn put_slot(room: &mut [u8], at: usize, t: &[u8]) -> usize
+    ensures { λ r. ⌜ Wrote (Rule.slot (now (t .entry))) at (now (room .entry)) r (now (room .exit)) ⌝ }
+{
+    let a = put_identifier(room, at, word(t));
+    let t2 = rest(t);
+    let b = put_four(room, a, decimal(word(t2)));
+    let t3 = rest(t2);
+    let c = put_byte(room, b, presence(word(t3)));
+    put_image(room, c, rest(t3))
+}
+
+pub fn put_answer(room: &mut [u8], at: usize, t: &[u8]) -> usize
+    ensures { λ r. ⌜ Wrote (Rule.answer (now (t .entry))) at (now (room .entry)) r (now (room .exit)) ⌝ }
+{
+    let a = put_byte(room, at, low(status(word(t))));
+    put_image(room, a, rest(t))
+}

@@ -1,0 +1,75 @@
+// Whether what stands in a line is a slot, or an answer.
+ghost use mathlib.Core.Path.{_≡_};
+ghost use Rattle.device_text.specs.SlotText as Rule;
+use crate::is;
+use crate::read::NONE;
+use crate::read::decimal;
+use crate::read::is_bytes;
+use crate::read::up_to_bytes;
+use crate::rest;
+use crate::word;
+
+// The length of a digest, and the largest of an identifier.
+const BYTES: usize = 32;
+
+// A size and a digest.
+fn is_image(t: &[u8]) -> bool
+    ensures { λ r. ⌜ r ≡ Rule.isImage (now (t .entry)) ⌝ }
+{
+    if NONE <= decimal(word(t)) {
+        return false;
+    }
+    is_bytes(BYTES, rest(t))
+}
+
+// Whether a slot is present, and its image.
+fn is_state(w: &[u8], t: &[u8]) -> bool
+    ensures { λ r. ⌜ r ≡ Rule.isState (now (w .entry)) (now (t .entry)) ⌝ }
+{
+    if is(w, b"present") {
+        return is_image(t);
+    }
+    if !is(w, b"absent") {
+        return false;
+    }
+    if t.len() == 0 {
+        return true;
+    }
+    is_image(t)
+}
+
+pub fn is_slot(t: &[u8]) -> bool
+    ensures { λ r. ⌜ r ≡ Rule.isSlot (now (t .entry)) ⌝ }
+{
+    if !up_to_bytes(BYTES, word(t)) {
+        return false;
+    }
+    let t2 = rest(t);
+    if NONE <= decimal(word(t2)) {
+        return false;
+    }
+    let t3 = rest(t2);
+    is_state(word(t3), rest(t3))
+}
+
+// The status of an answer: good, bad or a number.
+pub fn status(w: &[u8]) -> usize
+    ensures { λ r. ⌜ r ≡ Rule.status (now (w .entry)) ⌝ }
+{
+    if is(w, b"good") {
+        return 0;
+    }
+    if is(w, b"bad") {
+        return 1;
+    }
+    decimal(w)
+}
+
+pub fn is_answer(t: &[u8]) -> bool
+    ensures { λ r. ⌜ r ≡ Rule.isAnswer (now (t .entry)) ⌝ }
+{
+    if 255 < status(word(t)) {
+        return false;
+    }
+    is_image(rest(t))
+}

@@ -1,3 +1,0 @@
-pub mod PartLaws
-pub mod EntryLaws
-pub mod ParamLaws

@@ -1,0 +1,83 @@
+-- What check's report says of an envelope: what it accepted, or its refusal.
+use Prim.Native.Nat.{ℕ, _≤_, _<_}
+use mathlib.Core.Path.{_≡_, refl, sym, ap, _∙_, subst}
+use mathlib.Core.List.{List}
+use native.Mathlib.Omega.{arith}
+use lib.Dec.{leb}
+use lib.ListN.{length, getD, replicate, length-map}
+use borrow.Author.Tests.{leb-true}
+use Rattle.rules.specs.declared.answers.Refusal.{Refusal}
+use Rattle.rules.specs.declared.answers.Refusal.the-variants.{EnvelopeTooLong}
+use Rattle.rules.specs.Limits.{limits}
+use Rattle.rules.specs.Bytes.{Bytes, Span, span, bytesAt, spanAt}
+use Rattle.rules.specs.Got.{Got, refused, got}
+use Rattle.rules.specs.Manifest.{Manifest, names}
+use Rattle.rules.specs.Check.{check}
+use Rattle.rules.proofs.GotLaws.{passed}
+use Rattle.rules_theorems.proofs.ManifestLaws.{Sound, sound}
+use Rattle.check_envelope.specs.declared.report.Checked.{Checked}
+use Rattle.check_envelope.specs.declared.report.Checked.the-variants as The
+use Rattle.check_envelope.specs.declared.report.Report.{Report}
+use Rattle.check_envelope.specs.Report.{reportOf}
+use Rattle.check_envelope.proofs.EnvelopeLaws.{differ}
+use Rattle.component_ids.proofs.IdentifierLaws.{span-laid}
+use Rattle.run_slots.specs.Slot.{namesAt}
+use Rattle.run_slots.proofs.SearchLaws.{names-laid}
+use Rattle.manifest_accessors.specs.Accepted.{Accepted}
+use Rattle.manifest_accessors.proofs.IdentifiersRead.{In, ids-in}
+
+module _ (s : Bytes) (number n : ℕ) (ids sections : List ℕ) (a : Accepted s number n ids sections) where
+  pub known : Sound s (a .manifest)
+  known = sound s (a .manifest) (a .checks)
+
+  pub counted : length (names s (a .manifest)) ≡ n
+  counted = length-map (a .manifest .ids) (bytesAt s) ∙ sym (a .count)
+
+  pub envelope-short : length s ≤ limits .envelope
+  unfolding check
+  envelope-short = leb-true _ _ (passed (leb (length s) (limits .envelope)) EnvelopeTooLong 0 _ (a .manifest) (a .checks) .0)
+
+  pub few : n ≤ 8
+  few = omega (arith, counted, known .some-ids)
+
+  pub number-small : number ≤ limits .number
+  number-small = omega (arith, a .numbered, known .number)
+
+  spans : (k : ℕ) → k < length (a .manifest .ids) → spanAt ids k ≡ getD (a .manifest .ids) k (span 0 0)
+  spans k h = ap (λ (l : List ℕ). spanAt l k) (a .names) ∙ span-laid (a .manifest .ids) (replicate 16 0) k h
+
+  pub inside : (k : ℕ) → k < n → (spanAt ids k .from ≤ spanAt ids k .to) × (spanAt ids k .to ≤ length s)
+  inside k h =
+      let l : k < length (a .manifest .ids) = omega (arith, a .count) in
+      subst (λ (p : Span). In s p) (sym (spans k l)) (ids-in s (a .manifest) (a .checks) k l)
+
+  pub named : namesAt s ids n ≡ names s (a .manifest)
+  named = ap (namesAt s ids) (a .count) ∙ names-laid s (a .manifest .ids) ids spans
+
+-- what check reported
+module _ (s : Bytes) (r : Report) (e : r ≡ reportOf (check s)) where
+  pub accepted : r .answer ≡ The.Accepted → Accepted s (r .number) (r .components) (r .ids) (r .sections)
+  accepted h = go (check s) refl e
+    where
+      go : (y : Got Manifest) → check s ≡ y → r ≡ reportOf y → Accepted s (r .number) (r .components) (r .ids) (r .sections)
+      go (refused k p) q u = absurd (differ k p (ap (λ (z : Report). z .answer) (sym u) ∙ h))
+      go (got m) q u =
+          record {
+            manifest = m;
+            checks = q;
+            numbered = ap (λ (z : Report). z .number) u;
+            count = ap (λ (z : Report). z .components) u;
+            names = ap (λ (z : Report). z .ids) u;
+            places = ap (λ (z : Report). z .sections) u;
+          }
+
+  pub refused-by : (k : Refusal) (p : ℕ) → r .answer ≡ The.Refused k p → check s ≡ refused k p
+  refused-by k p h = go (check s) e
+    where
+      go : (y : Got Manifest) → r ≡ reportOf y → y ≡ refused k p
+      go (refused k′ p′) u =
+          let f : _≡_ {A = Checked} (The.Refused k′ p′) (The.Refused k p) = ap (λ (z : Report). z .answer) (sym u) ∙ h in
+          let a : k′ ≡ k = cc in
+          let b : p′ ≡ p = cc in
+          rw (a, b)
+      go (got m) u = absurd (differ k p (sym h ∙ ap (λ (z : Report). z .answer) u))

@@ -1,0 +1,96 @@
+-- The argument of a command that writes an event, as the runner reads it.
+use Prim.Native.Nat.{ℕ, _+_, _≤_, _<_}
+use mathlib.Core.Path.{_≡_}
+use mathlib.Core.Bool.{Bool, cond}
+use mathlib.Core.Option.{Option, some}
+use lib.Dec.{eqb}
+use lib.ListN.{length}
+use Rattle.rules.specs.Bytes.{Bytes}
+use Rattle.rules.specs.Got.{got}
+use Rattle.rules.specs.declared.tables.Parameter.{Parameter}
+use Rattle.rules.specs.Commands.{Op, Row, rowOf, commands, component, orElse, over, params, paramOf}
+use Rattle.rules.specs.Manifest.{Seq, one}
+use Rattle.rules.specs.Check.{Read, Given, parameter, entries, nothing, argument}
+use Rattle.manifest_accessors.specs.declared.arguments.Args.{Args}
+use Rattle.run_slots.specs.declared.params.Params.{Params}
+use Rattle.run_slots.specs.Params.{optional, meaning, Fit}
+use Rattle.run_commands.specs.Op.{opOf}
+
+abbrev pub paramsOf : Args → Params
+paramsOf a = record { uri = a .uri; length = a .length; source = a .source; digest = a .digest; size = a .size }
+
+-- coerce as a number: 0 unset, 1 false, 2 true
+abbrev pub isTrue : ℕ → Bool
+isTrue n = eqb n 2
+
+abbrev pub coerceOf : ℕ → Option Bool
+coerceOf n = optional n (isTrue n)
+
+abbrev pub givenOf : Bytes → Args → Given
+givenOf s a = record { coerce = coerceOf (a .coerce); params = meaning s (paramsOf a) }
+
+-- a URI lies in the bytes s, and its length fits in one
+pub record Within (s : Bytes) (p : Params) : Type 0 where
+  pub inside : 0 < p .uri → p .uri + p .length ≤ length s
+  pub short : p .length < 256
+
+-- no parameters
+abbrev pub bareAt : ℕ → ℕ → Args
+bareAt value next = record { value = value; uri = 0; length = 0; source = 0; digest = 0; size = 0; coerce = 0; next = next }
+
+-- what v gives, and what g gives beside it
+abbrev pub overGiven : Given → Given → Given
+overGiven v g = record { coerce = orElse (v .coerce) (g .coerce); params = over (v .params) (g .params) }
+
+-- the value at `at` of the parameter under a key, which check has accepted
+pub record EntryAt (s : Bytes) (key at : ℕ) : Type 0 where
+  pub n : ℕ
+  pub e : ℕ
+  pub fits : e ≤ length s
+  pub what : Parameter
+  pub known : paramOf key params ≡ some what
+  pub given : Given
+  pub to : ℕ
+  pub reads : parameter s n what e at ≡ got (given, to)
+
+-- it was put over the parameters of a
+pub record EntryPut (s : Bytes) (key at : ℕ) (x : EntryAt s key at) (a r : Args) : Type 0 where
+  pub given : givenOf s r ≡ overGiven (x .given) (givenOf s a)
+  pub next : r .next ≡ x .to
+  pub fit : Fit s (x .n) (paramsOf a) → Fit s (x .n) (paramsOf r)
+  pub within : Within s (paramsOf a) → Within s (paramsOf r)
+
+-- k entries of a map of parameters, which check has accepted
+pub record Entries (s : Bytes) (k at : ℕ) : Type 0 where
+  pub n : ℕ
+  pub e : ℕ
+  pub fits : e ≤ length s
+  pub given : Given
+  pub to : ℕ
+  pub reads : entries s n k 0 nothing e at ≡ got (given, to)
+
+-- the argument at `at` of a command of code c, which check has accepted
+pub record One (s : Bytes) (c at : ℕ) : Type 0 where
+  pub deeper : ℕ → Read Seq
+  pub n : ℕ
+  pub m : ℕ
+  pub place : ℕ
+  pub e : ℕ
+  pub fits : e ≤ length s
+  pub row : Row
+  pub listed : rowOf c commands ≡ some row
+  pub op : Op
+  pub coerce : Option Bool
+  pub to : ℕ
+  pub reads : argument s deeper n m place (row .form) e at ≡ got (one place op coerce, to)
+
+-- it was read
+pub record ReadAs (s : Bytes) (c at : ℕ) (x : One s c at) (a : Args) : Type 0 where
+  pub op : opOf s c (a .value) (paramsOf a) ≡ x .op
+  pub coerce : coerceOf (a .coerce) ≡ x .coerce
+  pub next : a .next ≡ x .to
+  pub fit : Fit s (x .n) (paramsOf a)
+  pub within : Within s (paramsOf a)
+  pub sixteen : c < 3 → a .value + 16 ≤ length s
+  pub inside : (i : ℕ) → i < x .n → component (x .op) i < x .n
+  pub component : (i : ℕ) → component (x .op) i ≡ cond (eqb c 12) (a .value) i

@@ -1,0 +1,89 @@
+-- The answers of the jobs, in numbers.
+use Prim.Native.Nat.{ℕ}
+use mathlib.Core.Path.{_≡_, refl, sym, ap, _∙_}
+use native.Mathlib.Omega.{arith}
+use lib.ListN.{length}
+use Rattle.rules.specs.declared.answers.Refusal.{Refusal}
+use Rattle.rules.specs.declared.controller.Controller.{Controller}
+use Rattle.rules.specs.Answers.{refusalNumber}
+use Rattle.rules.specs.Bytes.{Bytes}
+use Rattle.rules.specs.Got.{Got, refused, got}
+use Rattle.rules.specs.Manifest.{Manifest}
+use Rattle.rules.specs.Newer.{Newer, inFirst, inSecond}
+use Rattle.rules.specs.Run.{Ran}
+use Rattle.check_envelope.specs.declared.newest.Newest.{Newest}
+use Rattle.check_envelope.specs.declared.report.Checked.{Checked}
+use Rattle.check_envelope.specs.declared.report.Checked.the-variants as C
+use Rattle.check_envelope.specs.declared.report.Report.{Report}
+use Rattle.check_envelope.specs.Newer.{newestOf}
+use Rattle.check_envelope.specs.Report.{reportOf}
+use Rattle.check_envelope.proofs.EnvelopeLaws.{differ}
+use Rattle.run_admission.specs.declared.answer.Outcome.{Outcome}
+use Rattle.run_admission.specs.Answer.{outcomeOf}
+use Rattle.translate.specs.declared.Translated.{Translated}
+use Rattle.translate.specs.declared.Translated.the-variants as T
+use Rattle.translate.specs.Translate.{Translates}
+use Rattle.pitvorgas.specs.declared.CheckAnswer.{CheckAnswer}
+use Rattle.pitvorgas.specs.declared.NewerAnswer.{NewerAnswer}
+use Rattle.pitvorgas.specs.declared.RunAnswer.{RunAnswer}
+use Rattle.pitvorgas.specs.declared.TranslateAnswer.{TranslateAnswer}
+use Rattle.pitvorgas.specs.Answers.{checkedOf, newerOf, translatedOf, roomAfter, ranOf, answerOf}
+
+-- a report that accepts, in numbers
+abbrev pub reported : Report → CheckAnswer
+reported r =
+    record { refusal = 0; place = 0; number = r .number; components = r .components; ids = r .ids; sections = r .sections; from = r .manifest .from; to = r .manifest .to }
+
+module _ (g : Got Manifest) (r : Report) (e : r ≡ reportOf g) where
+  pub accepted-answer : r .answer ≡ C.Accepted → reported r ≡ checkedOf g
+  accepted-answer h = go g e
+    where
+      go : (g : Got Manifest) → r ≡ reportOf g → reported r ≡ checkedOf g
+      go (refused k p) u = absurd (differ k p (ap (λ (x : Report). x .answer) (sym u) ∙ h))
+      go (got m) u = ap reported u
+
+  pub refused-answer : (k : Refusal) (p n : ℕ) → r .answer ≡ C.Refused k p → n ≡ refusalNumber k → _≡_ {A = CheckAnswer} (record { refusal = n; place = p; number = 0; components = 0; ids = r .ids; sections = r .sections; from = 0; to = 0 }) (checkedOf g)
+  refused-answer k p n h q = go g e
+    where
+      go : (g : Got Manifest) → r ≡ reportOf g → _≡_ {A = CheckAnswer} (record { refusal = n; place = p; number = 0; components = 0; ids = r .ids; sections = r .sections; from = 0; to = 0 }) (checkedOf g)
+      go (refused k′ p′) u =
+          let f : _≡_ {A = Checked} (C.Refused k′ p′) (C.Refused k p) = ap (λ (x : Report). x .answer) (sym u) ∙ h in
+          let a : k ≡ k′ = cc in
+          let b : p ≡ p′ = cc in
+          rw (q, a, b) (ap (λ (x : Report). record { refusal = refusalNumber k′; place = p′; number = 0; components = 0; ids = x .ids; sections = x .sections; from = 0; to = 0 }) u)
+      go (got m) u = absurd (differ k p (sym h ∙ ap (λ (x : Report). x .answer) u))
+
+pub newer-answer : (g : Newer) (r : Newest) → r ≡ newestOf g → _≡_ {A = NewerAnswer} (record { second = r .second; from = r .from; to = r .to }) (newerOf g)
+newer-answer (inFirst p) r e = rw e refl
+newer-answer (inSecond p) r e = rw e refl
+
+pub ran-answer : (d : Controller) (g : Got Ran) (o : Outcome) (r : RunAnswer) → o ≡ outcomeOf d g → r ≡ answerOf o → r ≡ ranOf d g
+ran-answer d (refused k p) o r e h = h ∙ ap answerOf e
+ran-answer d (got x) o r e h = h ∙ ap answerOf e
+
+-- the two answers of a translation differ
+apart : {A : Type 0} (k : Refusal) (p n : ℕ) → _≡_ {A = Translated} (T.Refused k p) (T.Program n) → A
+apart k p n e = let z : _≡_ {A = ℕ} 0 1 = cc in absurd (omega arith)
+
+module _ (g : Got Bytes) (t : Translated) (room room′ : Bytes) (h : Translates g t room room′) where
+  pub refused-translation : (k : Refusal) (p n : ℕ) → t ≡ T.Refused k p → n ≡ refusalNumber k →
+      (_≡_ {A = TranslateAnswer} (record { refusal = n; place = p; length = 0 }) (translatedOf g)) × (room′ ≡ roomAfter room g)
+  refused-translation k p n e q = go g h
+    where
+      go : (g : Got Bytes) → Translates g t room room′ → (_≡_ {A = TranslateAnswer} (record { refusal = n; place = p; length = 0 }) (translatedOf g)) × (room′ ≡ roomAfter room g)
+      go (refused k′ p′) u =
+          let f : _≡_ {A = Translated} (T.Refused k′ p′) (T.Refused k p) = sym (u .0) ∙ e in
+          let a : k ≡ k′ = cc in
+          let b : p ≡ p′ = cc in
+          (rw (q, a, b) refl, u .1)
+      go (got y) u = apart k p _ (sym e ∙ u .0)
+
+  pub program-translation : (n : ℕ) → t ≡ T.Program n → (_≡_ {A = TranslateAnswer} (record { refusal = 0; place = 0; length = n }) (translatedOf g)) × (room′ ≡ roomAfter room g)
+  program-translation n e = go g h
+    where
+      go : (g : Got Bytes) → Translates g t room room′ → (_≡_ {A = TranslateAnswer} (record { refusal = 0; place = 0; length = n }) (translatedOf g)) × (room′ ≡ roomAfter room g)
+      go (refused k p) u = apart k p n (sym (u .0) ∙ e)
+      go (got y) u =
+          let f : _≡_ {A = Translated} (T.Program (length y)) (T.Program n) = sym (u .0) ∙ e in
+          let a : n ≡ length y = cc in
+          (rw a refl, u .1)

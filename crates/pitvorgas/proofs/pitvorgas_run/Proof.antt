@@ -1,0 +1,27 @@
+use Rattle.rules.specs.Run.{runEnvelope}
+use Rattle.run_admission.specs.Answer.{inputOf}
+use Rattle.pitvorgas.specs.Answers.{controllerOf, groupOf}
+use Rattle.pitvorgas.proofs.AnswerLaws.{ran-answer}
+use borrow.Author.Needs.{needs}
+use Rattle.pitvorgas.proofs.pitvorgas_run.Statement.{statement}
+use Rattle.pitvorgas.proofs.pitvorgas_run.Tie as tie
+
+ran : tie.Need-returns
+ran c =
+    let a = c .before .before .before .before .before .before .before .before .before .before .before .before .before .before .args in
+    let d = controllerOf (a .device) in
+    let g = runEnvelope (a .envelope .now) (groupOf (a .boot)) (inputOf (a .verdict) d (a .slots .now) (a .answers .now) (a .trace .now)) in
+    let s = rw (c .before .before .before .before .before .before .before .before .controller-of .ensures, c .before .before .before .before .before .before .before .before .before .group-of .ensures) at (c .before .before .before .before .before .run .ensures) in
+    (ran-answer d g _ _ (s .0) (c .answer-of .ensures), s .1, s .2)
+
+pub pitvorgas-run-spec : {M : Type 1} → statement M
+pitvorgas-run-spec =
+    tie.close
+    (tie.spec
+    (λ c κs. search needs)
+    (λ c κs. search needs)
+    (λ c κs. search needs)
+    (λ c κs. search needs)
+    (λ c. search needs)
+    (λ c. search needs)
+    ran)

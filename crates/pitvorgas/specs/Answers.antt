@@ -1,0 +1,71 @@
+-- The answers of the jobs as C has them.
+use Prim.Native.Nat.{ℕ}
+use mathlib.Core.Bool.{Bool, true, false}
+use mathlib.Core.List.{_++_}
+use lib.ListN.{length, drop, replicate}
+use Rattle.rules.specs.declared.answers.Group.{Group}
+use Rattle.rules.specs.declared.answers.Group.the-variants.{Install, Boot}
+use Rattle.rules.specs.declared.controller.Controller.{Controller}
+use Rattle.rules.specs.Answers.{refusalNumber, endNumber}
+use Rattle.rules.specs.Bytes.{Bytes}
+use Rattle.rules.specs.Got.{Got, refused, got}
+use Rattle.rules.specs.Manifest.{Manifest}
+use Rattle.rules.specs.Newer.{Newer, inFirst, inSecond}
+use Rattle.rules.specs.Run.{Ran}
+use Rattle.component_ids.specs.Identifiers.{laid}
+use Rattle.check_manifest.specs.Sections.{placed}
+use Rattle.run_admission.specs.declared.answer.Answer.{Answer}
+use Rattle.run_admission.specs.declared.answer.Answer.the-variants as A
+use Rattle.run_admission.specs.declared.answer.Outcome.{Outcome}
+use Rattle.pitvorgas.specs.declared.Device.{Device}
+use Rattle.pitvorgas.specs.declared.CheckAnswer.{CheckAnswer}
+use Rattle.pitvorgas.specs.declared.NewerAnswer.{NewerAnswer}
+use Rattle.pitvorgas.specs.declared.TranslateAnswer.{TranslateAnswer}
+use Rattle.pitvorgas.specs.declared.RunAnswer.{RunAnswer}
+
+abbrev pub controllerOf : Device → Controller
+controllerOf d = record { vendor = d .vendor; class = d .class; number = d .number; event = d .event }
+
+abbrev pub groupOf : Bool → Group
+groupOf true = Boot
+groupOf false = Install
+
+abbrev pub checkedOf : Got Manifest → CheckAnswer
+checkedOf (refused k p) =
+    record { refusal = refusalNumber k; place = p; number = 0; components = 0; ids = replicate 16 0; sections = replicate 12 0; from = 0; to = 0 }
+checkedOf (got m) =
+    record {
+      refusal = 0;
+      place = 0;
+      number = m .number;
+      components = length (m .ids);
+      ids = laid (m .ids) (replicate 16 0);
+      sections = placed (m .sections) (replicate 12 0);
+      from = m .part .from;
+      to = m .part .to;
+    }
+
+abbrev pub newerOf : Newer → NewerAnswer
+newerOf (inFirst p) = record { second = 0; from = p .from; to = p .to }
+newerOf (inSecond p) = record { second = 1; from = p .from; to = p .to }
+
+abbrev pub translatedOf : Got Bytes → TranslateAnswer
+translatedOf (refused k p) = record { refusal = refusalNumber k; place = p; length = 0 }
+translatedOf (got b) = record { refusal = 0; place = 0; length = length b }
+
+-- what is in the room after a translation
+abbrev pub roomAfter : Bytes → Got Bytes → Bytes
+roomAfter room (refused k p) = room
+roomAfter room (got b) = b ++ drop (length b) room
+
+abbrev pub ranOf : Controller → Got Ran → RunAnswer
+ranOf device (refused k p) = record { refusal = refusalNumber k; place = p; end = 0; events = 0; used = 0; number = device .number }
+ranOf device (got r) = record { refusal = 0; place = r .place; end = endNumber (r .end); events = r .events; used = r .used; number = r .number }
+
+-- an outcome in numbers
+abbrev pub answerWith : Answer → ℕ → RunAnswer
+answerWith (A.Refused k p) n = record { refusal = refusalNumber k; place = p; end = 0; events = 0; used = 0; number = n }
+answerWith (A.Ran e) n = record { refusal = 0; place = e .place; end = endNumber (e .end); events = e .events; used = e .used; number = n }
+
+abbrev pub answerOf : Outcome → RunAnswer
+answerOf o = answerWith (o .answer) (o .number)

@@ -1,0 +1,237 @@
+// The five jobs for C: numbers, slices, and structs by value. include/pitvorgas.h declares them.
+ghost use mathlib.Core.Path.{_≡_};
+ghost use lib.ListN.{length};
+ghost use Rattle.rules.specs.Check as Check;
+ghost use Rattle.rules.specs.Newer as Newer;
+ghost use Rattle.rules.specs.Run.{runEnvelope};
+ghost use Rattle.rules.specs.Program as Program;
+ghost use Rattle.rules.specs.ProgramRun.{runProgram};
+ghost use Rattle.run_admission.specs.Answer.{inputOf, outcomeOf, slotsAfter, traceAfter};
+ghost use Rattle.pitvorgas.specs.Answers.{controllerOf, groupOf, checkedOf, newerOf, translatedOf, roomAfter, ranOf, answerOf};
+use check_envelope::check;
+use check_envelope::newest::choose;
+use check_envelope::report::Checked;
+use program_run::run_program;
+use rules::answers::Group;
+use rules::controller::Controller;
+use run_admission::answer::Answer;
+use run_admission::answer::Outcome;
+use run_envelope::run;
+use translate::Translated;
+use translate::translate;
+
+// The device.
+#[repr(C)]
+pub struct Device {
+    pub vendor: [u8; 16],
+    pub class: [u8; 16],
+    // the sequence number of the manifest that was installed last
+    pub number: u32,
+    // an event is open
+    pub event: bool,
+}
+
+// What check answers: a refusal and its place, and 0 in all else; or 0 and 0, and where what it read stands.
+#[repr(C)]
+pub struct CheckAnswer {
+    pub refusal: usize,
+    pub place: usize,
+    pub number: usize,
+    pub components: usize,
+    pub ids: [usize; 16],
+    pub sections: [usize; 12],
+    // the manifest's first byte, and the one after its last
+    pub from: usize,
+    pub to: usize,
+}
+
+// Where the newer manifest stands: in the first envelope where `second` is 0, and else in the second.
+#[repr(C)]
+pub struct NewerAnswer {
+    pub second: usize,
+    pub from: usize,
+    pub to: usize,
+}
+
+// A refusal and its place, and 0; or 0 and 0, and how long the program is.
+#[repr(C)]
+pub struct TranslateAnswer {
+    pub refusal: usize,
+    pub place: usize,
+    pub length: usize,
+}
+
+// A refusal and its place, and 0 in all else but the number; or 0, and the end with its place. The number is the device's after the run.
+#[repr(C)]
+pub struct RunAnswer {
+    pub refusal: usize,
+    pub place: usize,
+    pub end: usize,
+    pub events: usize,
+    pub used: usize,
+    pub number: usize,
+}
+
+fn controller_of(d: Device) -> Controller
+    ensures { λ r. ⌜ r ≡ controllerOf d ⌝ }
+{
+    let vendor = d.vendor;
+    let class = d.class;
+    Controller {
+        vendor,
+        class,
+        number: d.number,
+        event: d.event,
+    }
+}
+
+fn group_of(boot: bool) -> Group
+    ensures { λ r. ⌜ r ≡ groupOf boot ⌝ }
+{
+    if boot {
+        return Group::Boot;
+    }
+    Group::Install
+}
+
+// The outcome of a run in numbers.
+fn answer_of(o: Outcome) -> RunAnswer
+    ensures { λ r. ⌜ r ≡ answerOf o ⌝ }
+{
+    let answer = o.answer;
+    match answer {
+        Answer::Refused(refusal, place) => RunAnswer {
+            refusal: refusal.number() as usize,
+            place,
+            end: 0,
+            events: 0,
+            used: 0,
+            number: o.number as usize,
+        },
+        Answer::Ran(ending) => {
+            let end = ending.end;
+            RunAnswer {
+                refusal: 0,
+                place: ending.place,
+                end: end.number() as usize,
+                events: ending.events,
+                used: ending.used,
+                number: o.number as usize,
+            }
+        }
+    }
+}
+
+#[no_mangle]
+pub extern "C" fn pitvorgas_check(envelope: &[u8]) -> CheckAnswer
+    ensures { λ r. ⌜ r ≡ checkedOf (Check.check (now (envelope .entry))) ⌝ }
+{
+    let report = check(envelope);
+    let answer = report.answer;
+    let manifest = report.manifest;
+    let ids = report.ids;
+    let sections = report.sections;
+    match answer {
+        Checked::Refused(refusal, place) => CheckAnswer {
+            refusal: refusal.number() as usize,
+            place,
+            number: 0,
+            components: 0,
+            ids,
+            sections,
+            from: 0,
+            to: 0,
+        },
+        Checked::Accepted => CheckAnswer {
+            refusal: 0,
+            place: 0,
+            number: report.number,
+            components: report.components,
+            ids,
+            sections,
+            from: manifest.from,
+            to: manifest.to,
+        },
+    }
+}
+
+#[no_mangle]
+pub extern "C" fn pitvorgas_newer(first: &[u8], second: &[u8]) -> NewerAnswer
+    ensures { λ r. ⌜ r ≡ newerOf (Newer.newer (now (first .entry)) (now (second .entry))) ⌝ }
+{
+    let n = choose(first, second);
+    NewerAnswer {
+        second: n.second,
+        from: n.from,
+        to: n.to,
+    }
+}
+
+#[no_mangle]
+pub extern "C" fn pitvorgas_translate(
+    envelope: &[u8],
+    boot: bool,
+    room: &mut [u8],
+) -> TranslateAnswer
+    ensures { λ r. ⌜ (r ≡ translatedOf (Program.translate (now (envelope .entry)) (groupOf boot) (length (now (room .entry))))) × (now (room .exit) ≡ roomAfter (now (room .entry)) (Program.translate (now (envelope .entry)) (groupOf boot) (length (now (room .entry))))) ⌝ }
+{
+    let answer = translate(envelope, group_of(boot), room);
+    match answer {
+        Translated::Refused(refusal, place) => TranslateAnswer {
+            refusal: refusal.number() as usize,
+            place,
+            length: 0,
+        },
+        Translated::Program(length) => TranslateAnswer {
+            refusal: 0,
+            place: 0,
+            length,
+        },
+    }
+}
+
+#[no_mangle]
+pub extern "C" fn pitvorgas_run(
+    envelope: &[u8],
+    boot: bool,
+    verdict: bool,
+    device: Device,
+    slots: &mut [u8],
+    answers: &[u8],
+    trace: &mut [u8],
+) -> RunAnswer
+    ensures { λ r. ⌜ (r ≡ ranOf (controllerOf device) (runEnvelope (now (envelope .entry)) (groupOf boot) (inputOf verdict (controllerOf device) (now (slots .entry)) (now (answers .entry)) (now (trace .entry))))) × (now (slots .exit) ≡ slotsAfter (now (slots .entry)) (runEnvelope (now (envelope .entry)) (groupOf boot) (inputOf verdict (controllerOf device) (now (slots .entry)) (now (answers .entry)) (now (trace .entry))))) × (now (trace .exit) ≡ traceAfter (now (trace .entry)) (runEnvelope (now (envelope .entry)) (groupOf boot) (inputOf verdict (controllerOf device) (now (slots .entry)) (now (answers .entry)) (now (trace .entry))))) ⌝ }
+{
+    let o = run(
+        envelope,
+        group_of(boot),
+        verdict,
+        controller_of(device),
+        slots,
+        answers,
+        trace,
+    );
+    answer_of(o)
+}
+
+#[no_mangle]
+pub extern "C" fn pitvorgas_run_program(
+    program: &[u8],
+    verdict: bool,
+    device: Device,
+    slots: &mut [u8],
+    answers: &[u8],
+    trace: &mut [u8],
+) -> RunAnswer
+    ensures { λ r. ⌜ (r ≡ ranOf (controllerOf device) (runProgram (now (program .entry)) (inputOf verdict (controllerOf device) (now (slots .entry)) (now (answers .entry)) (now (trace .entry))))) × (now (slots .exit) ≡ slotsAfter (now (slots .entry)) (runProgram (now (program .entry)) (inputOf verdict (controllerOf device) (now (slots .entry)) (now (answers .entry)) (now (trace .entry))))) × (now (trace .exit) ≡ traceAfter (now (trace .entry)) (runProgram (now (program .entry)) (inputOf verdict (controllerOf device) (now (slots .entry)) (now (answers .entry)) (now (trace .entry))))) ⌝ }
+{
+    let o = run_program(
+        program,
+        verdict,
+        controller_of(device),
+        slots,
+        answers,
+        trace,
+    );
+    answer_of(o)
+}

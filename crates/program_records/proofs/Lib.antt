@@ -1,0 +1,7 @@
+pub mod PartLaws
+pub mod EntryLaws
+pub mod ParamLaws
+pub mod ArgumentLaws
+pub mod RecordLaws
+pub mod ReadRecord
+pub mod RecordsLaws

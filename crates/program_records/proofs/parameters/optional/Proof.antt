@@ -1,0 +1,63 @@
+use mathlib.Core.Path.{sym, _∙_}
+use native.Mathlib.Omega.{arith}
+use borrow.Author.Needs.{needs}
+use denote.Ref.{now}
+use Rattle.program_records.proofs.EntryLaws.{next-end, next-other, next-some, next-cut, next-low, next-high, next-long}
+use Rattle.program_records.proofs.parameters.optional.Statement.{statement}
+use Rattle.program_records.proofs.parameters.optional.Tie as tie
+
+ended : tie.Need-returns
+ended c = next-end _ _ _ _ _ _ (omega arith) (omega arith) (c .if1 .taken)
+
+other : tie.Need-returns-2
+other c = next-other _ _ _ _ _ _ (omega arith) (omega arith) (omega arith) (λ e. c .if2 .taken (c .before .wide .ensures .0 ∙ e))
+
+cut : tie.Need-returns-3
+cut c =
+    let a = c .before .before .before .before .before .before .args in
+    next-cut (now (a .p)) (a .at) (a .to) (a .key) (a .lo) (a .hi) (omega arith) (omega arith) (omega arith) (sym (c .before .before .wide .ensures .0) ∙ c .before .if2 .left) (omega arith)
+
+low : tie.Need-returns-4
+low c =
+    let a = c .before .before .before .before .before .before .before .before .before .args in
+    next-low (now (a .p)) (a .at) (a .to) (a .key) (a .lo) (a .hi) (omega arith) (omega arith) (omega arith)
+    (sym (c .before .before .before .before .before .wide .ensures .0) ∙ c .before .before .before .before .if2 .left) (omega arith)
+
+high : tie.Need-returns-5
+high c =
+    let a = c .before .before .before .before .before .before .before .before .before .before .args in
+    next-high (now (a .p)) (a .at) (a .to) (a .key) (a .lo) (a .hi) (omega arith) (omega arith) (omega arith)
+    (sym (c .before .before .before .before .before .before .wide .ensures .0) ∙ c .before .before .before .before .before .if2 .left) (omega arith) (omega arith)
+
+long : tie.Need-returns-6
+long c =
+    let a = c .before .before .before .before .before .before .before .before .before .before .before .args in
+    next-long (now (a .p)) (a .at) (a .to) (a .key) (a .lo) (a .hi) (omega arith) (omega arith) (omega arith)
+    (sym (c .before .before .before .before .before .before .before .wide .ensures .0) ∙ c .before .before .before .before .before .before .if2 .left)
+    (omega arith) (omega arith) (omega arith)
+
+there : tie.Need-returns-7
+there c =
+    next-some _ _ _ _ _ _ (omega arith) (omega arith) _ (c .before .before .before .wide2 .ensures .0) (omega arith)
+    (sym (c .before .before .before .before .before .before .before .wide .ensures .0) ∙ c .before .before .before .before .before .before .if2 .left)
+    (omega arith) (omega arith) (omega arith)
+
+pub optional-spec : {M : Type 1} → statement M
+optional-spec =
+    tie.close
+    (tie.spec
+    ended
+    (λ c. search needs)
+    (λ c κs. search needs)
+    other
+    (λ c. search needs)
+    cut
+    (λ c. search needs)
+    (λ c. search needs)
+    (λ c κs. search needs)
+    low
+    high
+    long
+    (λ c. search needs)
+    (λ c. search needs)
+    there)

@@ -1,0 +1,137 @@
+use native.Mathlib.Omega.{arith}
+use borrow.Author.Needs.{needs}
+use Rattle.program_records.proofs.EntryLaws.{step-length, step-in}
+use Rattle.program_records.proofs.ParamLaws.{no-uri, uri-step, source-pre, no-source, source-step, digest-pre, no-digest, digest-step, size-pre, size-step, not-all, no-component, all-read}
+use Rattle.program_records.proofs.parameters.read_params.Statement.{statement}
+use Rattle.program_records.proofs.parameters.read_params.Tie as tie
+
+no-first : tie.Need-returns
+no-first c =
+    no-uri _ _ _ _ (c .before .before .before .before .pre) _ (c .before .before .optional .ensures) (c .before .if1 .taken) _ (c .bad .ensures)
+
+second-requires : tie.Need-optional-requires-2
+second-requires c κs =
+    source-pre _ 0 _ _ (c .before .before .before .pre) _ (c .before .optional .ensures) (c .if1 .left)
+
+no-second : tie.Need-returns-2
+no-second c =
+    no-source _ _ _ _ (c .before .before .before .before .before .before .pre) _ (c .before .before .before .before .optional .ensures)
+    (c .before .before .before .if1 .left) _ (c .before .before .optional2 .ensures) (c .before .if2 .taken) _ (c .bad2 .ensures)
+
+third-requires : tie.Need-optional-requires-3
+third-requires c κs =
+    digest-pre _ 0 _ _ (c .before .before .before .before .before .pre) _ (c .before .before .before .optional .ensures) (c .before .before .if1 .left)
+    _ (c .before .optional2 .ensures) (c .if2 .left)
+
+no-third : tie.Need-returns-3
+no-third c =
+    no-digest _ _ _ _ (c .before .before .before .before .before .before .before .before .pre)
+    _ (c .before .before .before .before .before .before .optional .ensures) (c .before .before .before .before .before .if1 .left)
+    _ (c .before .before .before .before .optional2 .ensures) (c .before .before .before .if2 .left) _ (c .before .before .optional3 .ensures)
+    (c .before .if3 .taken) _ (c .bad3 .ensures)
+
+fourth-requires : tie.Need-optional-requires-4
+fourth-requires c κs =
+    size-pre _ 0 _ _ (c .before .before .before .before .before .before .before .pre) _ (c .before .before .before .before .before .optional .ensures)
+    (c .before .before .before .before .if1 .left) _ (c .before .before .before .optional2 .ensures) (c .before .before .if2 .left)
+    _ (c .before .optional3 .ensures) (c .if3 .left)
+
+no-fourth : tie.Need-returns-4
+no-fourth c =
+    not-all _ _ _ _ (c .before .before .before .before .before .before .before .before .before .before .pre)
+    _ (c .before .before .before .before .before .before .before .before .optional .ensures)
+    (c .before .before .before .before .before .before .before .if1 .left) _ (c .before .before .before .before .before .before .optional2 .ensures)
+    (c .before .before .before .before .before .if2 .left) _ (c .before .before .before .before .optional3 .ensures)
+    (c .before .before .before .if3 .left) _ (c .before .before .optional4 .ensures) (c .before .if4 .taken) _ (c .bad4 .ensures)
+
+source-requires : tie.Need-source-of-requires
+source-requires c κs =
+    let s = source-step _ 0 _ _ (c .before .before .before .before .before .before .before .before .before .pre)
+    _ (c .before .before .before .before .before .before .before .optional .ensures) (c .before .before .before .before .before .before .if1 .left)
+    _ (c .before .before .before .before .before .optional2 .ensures) (c .before .before .before .before .if2 .left) in
+    step-in _ _ _ _ _ _ _ s 3 (omega arith) (omega arith)
+
+past : tie.Need-returns-5
+past c =
+    no-component _ _ _ _ (c .before .before .before .before .before .before .before .before .before .before .before .before .pre)
+    _ (c .before .before .before .before .before .before .before .before .before .before .optional .ensures)
+    (c .before .before .before .before .before .before .before .before .before .if1 .left)
+    _ (c .before .before .before .before .before .before .before .before .optional2 .ensures)
+    (c .before .before .before .before .before .before .before .if2 .left) _ (c .before .before .before .before .before .before .optional3 .ensures)
+    (c .before .before .before .before .before .if3 .left) _ (c .before .before .before .before .optional4 .ensures)
+    (c .before .before .before .if4 .left) (rw (← c .before .before .source-of .ensures) (c .before .if5 .taken)) _ (c .bad5 .ensures)
+
+uri-requires : tie.Need-place-of-requires
+uri-requires c κs =
+    let s = uri-step _ 0 _ _ (c .before .before .before .before .before .before .before .before .before .before .before .pre)
+    _ (c .before .before .before .before .before .before .before .before .before .optional .ensures)
+    (c .before .before .before .before .before .before .before .before .if1 .left) in
+    step-length _ _ _ _ _ _ _ s
+
+length-requires : tie.Need-length-of-requires
+length-requires c κs =
+    let s = uri-step _ 0 _ _ (c .before .before .before .before .before .before .before .before .before .before .before .before .pre)
+    _ (c .before .before .before .before .before .before .before .before .before .before .optional .ensures)
+    (c .before .before .before .before .before .before .before .before .before .if1 .left) in
+    step-length _ _ _ _ _ _ _ s
+
+digest-requires : tie.Need-place-of-requires-2
+digest-requires c κs =
+    let s = digest-step _ 0 _ _ (c .before .before .before .before .before .before .before .before .before .before .before .before .before .pre)
+    _ (c .before .before .before .before .before .before .before .before .before .before .before .optional .ensures)
+    (c .before .before .before .before .before .before .before .before .before .before .if1 .left)
+    _ (c .before .before .before .before .before .before .before .before .before .optional2 .ensures)
+    (c .before .before .before .before .before .before .before .before .if2 .left)
+    _ (c .before .before .before .before .before .before .before .optional3 .ensures) (c .before .before .before .before .before .before .if3 .left) in
+    step-length _ _ _ _ _ _ _ s
+
+size-requires : tie.Need-size-of-requires
+size-requires c κs =
+    let s = size-step _ 0 _ _ (c .before .before .before .before .before .before .before .before .before .before .before .before .before .before .pre)
+    _ (c .before .before .before .before .before .before .before .before .before .before .before .before .optional .ensures)
+    (c .before .before .before .before .before .before .before .before .before .before .before .if1 .left)
+    _ (c .before .before .before .before .before .before .before .before .before .before .optional2 .ensures)
+    (c .before .before .before .before .before .before .before .before .before .if2 .left)
+    _ (c .before .before .before .before .before .before .before .before .optional3 .ensures)
+    (c .before .before .before .before .before .before .before .if3 .left) _ (c .before .before .before .before .before .before .optional4 .ensures)
+    (c .before .before .before .before .before .if4 .left) in
+    step-in _ _ _ _ _ _ _ s 6 (omega arith) (omega arith)
+
+good : tie.Need-returns-6
+good c =
+    all-read _ _ _ _ (c .before .before .before .before .before .before .before .before .before .before .before .before .before .before .before .pre)
+    _ (c .before .before .before .before .before .before .before .before .before .before .before .before .before .optional .ensures)
+    (c .before .before .before .before .before .before .before .before .before .before .before .before .if1 .left)
+    _ (c .before .before .before .before .before .before .before .before .before .before .before .optional2 .ensures)
+    (c .before .before .before .before .before .before .before .before .before .before .if2 .left)
+    _ (c .before .before .before .before .before .before .before .before .before .optional3 .ensures)
+    (c .before .before .before .before .before .before .before .before .if3 .left)
+    _ (c .before .before .before .before .before .before .before .optional4 .ensures) (c .before .before .before .before .before .before .if4 .left)
+    _ _ _ _ _ (c .before .before .before .place-of .ensures) (c .before .before .length-of .ensures)
+    (c .before .before .before .before .before .source-of .ensures) (c .before .place-of2 .ensures) (c .size-of .ensures)
+    (c .before .before .before .before .if5 .left)
+
+pub read-params-spec : {M : Type 1} → statement M
+read-params-spec =
+    tie.close
+    (tie.spec
+    (λ c κs. search needs)
+    (λ c κs. search needs)
+    no-first
+    second-requires
+    (λ c κs. search needs)
+    no-second
+    third-requires
+    (λ c κs. search needs)
+    no-third
+    fourth-requires
+    (λ c κs. search needs)
+    no-fourth
+    source-requires
+    (λ c κs. search needs)
+    past
+    uri-requires
+    length-requires
+    digest-requires
+    size-requires
+    good)

@@ -1,0 +1,94 @@
+use mathlib.Core.Path.{sym, _∙_}
+use native.Mathlib.Omega.{arith}
+use borrow.Author.Needs.{needs}
+use denote.Ref.{now}
+use Rattle.program_records.proofs.RecordLaws.{two-is, record-short, record-mark, record-mark-2, record-long, record-jump, record-no-jump, record-command, record-no-command}
+use Rattle.program_records.proofs.record.test_record.Statement.{statement}
+use Rattle.program_records.proofs.record.test_record.Tie as tie
+
+short : tie.Need-returns
+short c =
+    let a = c .before .before .args in
+    record-short (a .group) (a .components) (a .total) (a .n) (now (a .p)) (a .at)
+    (omega arith)
+
+mark : tie.Need-returns-2
+mark c =
+    let a = c .before .before .before .before .args in
+    record-mark (a .group) (a .components) (a .total) (a .n) (now (a .p)) (a .at)
+    (omega arith) (c .if2 .taken)
+
+mark-2 : tie.Need-returns-3
+mark-2 c =
+    let a = c .before .before .before .before .before .before .args in
+    record-mark-2 (a .group) (a .components) (a .total) (a .n) (now (a .p)) (a .at)
+    (omega arith) (c .before .before .if2 .left) (c .if3 .taken)
+
+long : tie.Need-returns-4
+long c =
+    let a = c .before .before .before .before .before .before .before .before .args in
+    record-long (a .group) (a .components) (a .total) (a .n) (now (a .p)) (a .at)
+    (omega arith) (c .before .before .before .before .if2 .left) (c .before .before .if3 .left)
+    _ (two-is (now (a .p)) (a .at) 8 _ (omega arith) (c .before .two .ensures .0)) (omega arith)
+
+jump : tie.Need-returns-5
+jump c =
+    let a = c .before .before .before .before .before .before .before .before .before .before .before .before .before .args in
+    record-jump (a .group) (a .components) (a .total) (a .n) (now (a .p)) (a .at)
+    (omega arith) (c .before .before .before .before .before .before .before .before .before .if2 .left)
+    (c .before .before .before .before .before .before .before .if3 .left)
+    _ (two-is (now (a .p)) (a .at) 8 _ (omega arith) (c .before .before .before .before .before .before .two .ensures .0)) (omega arith)
+    (sym (c .before .before .before .wide .ensures .0) ∙ c .before .before .if5 .taken) _ (c .before .jump-fits .ensures) (c .if6 .taken)
+
+no-jump : tie.Need-returns-6
+no-jump c =
+    let a = c .before .before .before .before .before .before .before .before .before .before .before .before .before .args in
+    record-no-jump (a .group) (a .components) (a .total) (a .n) (now (a .p)) (a .at)
+    (omega arith) (c .before .before .before .before .before .before .before .before .before .if2 .left)
+    (c .before .before .before .before .before .before .before .if3 .left)
+    _ (two-is (now (a .p)) (a .at) 8 _ (omega arith) (c .before .before .before .before .before .before .two .ensures .0)) (omega arith)
+    (sym (c .before .before .before .wide .ensures .0) ∙ c .before .before .if5 .taken) _ (c .before .jump-fits .ensures) (c .if6 .left)
+
+command : tie.Need-returns-7
+command c =
+    let a = c .before .before .before .before .before .before .before .before .before .before .before .before .before .args in
+    record-command (a .group) (a .components) (a .total) (a .n) (now (a .p)) (a .at)
+    (omega arith) (c .before .before .before .before .before .before .before .before .before .if2 .left)
+    (c .before .before .before .before .before .before .before .if3 .left)
+    _ (two-is (now (a .p)) (a .at) 8 _ (omega arith) (c .before .before .before .before .before .before .two .ensures .0)) (omega arith)
+    (λ e. c .before .before .if5 .left (c .before .before .before .wide .ensures .0 ∙ e)) _ (c .before .command-fits .ensures) (c .if7 .taken)
+
+no-command : tie.Need-returns-8
+no-command c =
+    let a = c .before .before .before .before .before .before .before .before .before .before .before .before .before .args in
+    record-no-command (a .group) (a .components) (a .total) (a .n) (now (a .p)) (a .at)
+    (omega arith) (c .before .before .before .before .before .before .before .before .before .if2 .left)
+    (c .before .before .before .before .before .before .before .if3 .left)
+    _ (two-is (now (a .p)) (a .at) 8 _ (omega arith) (c .before .before .before .before .before .before .two .ensures .0)) (omega arith)
+    (λ e. c .before .before .if5 .left (c .before .before .before .wide .ensures .0 ∙ e)) _ (c .before .command-fits .ensures) (c .if7 .left)
+
+pub test-record-spec : {M : Type 1} → statement M
+test-record-spec =
+    tie.close
+    (tie.spec
+    (λ c. search needs)
+    short
+    (λ c. search needs)
+    mark
+    (λ c. search needs)
+    (λ c. search needs)
+    mark-2
+    (λ c. search needs)
+    (λ c κs. search needs)
+    long
+    (λ c. search needs)
+    (λ c. search needs)
+    (λ c. search needs)
+    (λ c. search needs)
+    (λ c κs. search needs)
+    (λ c κs. search needs)
+    jump
+    no-jump
+    (λ c κs. search needs)
+    command
+    no-command)

@@ -1,0 +1,114 @@
+// One record of a command.
+ghost use mathlib.Core.Path.{_≡_};
+ghost use Prim.Native.Nat.{_+_, _≤_, _<_};
+ghost use lib.ListN.{length, drop};
+ghost use Rattle.rules.specs.Tables.{byNumber};
+ghost use Rattle.rules.specs.ProgramTest as Rule;
+ghost use Rattle.program_records.specs.Entries.{nextIn};
+ghost use Rattle.program_records.specs.Arguments.{accepted};
+ghost use Rattle.program_records.specs.Records.{jumpFits, commandAt};
+use crate::argument::allows;
+use crate::argument::argument_fits;
+use crate::argument::target_fits;
+use byte_buffer::two;
+use byte_buffer::wide;
+use rules::answers::Group;
+use rules::tables::Listed;
+use rules_tables::look_up;
+
+pub const RECORD_BYTES: usize = 10;
+
+pub const JUMP: usize = 0xff;
+
+// Whether the jump at `at`, record n of `total` with an argument of `size` bytes, is well formed.
+fn jump_fits(p: &[u8], at: usize, size: usize, total: usize, n: usize) -> bool
+    requires { ⌜ at + 10 ≤ length (now p) ⌝ }
+    ensures { λ r. ⌜ r ≡ jumpFits (now (p .entry)) at size total n ⌝ }
+{
+    if p[at + 3] != 0 {
+        return false;
+    }
+    if two(p, at + 4) != 0 {
+        return false;
+    }
+    if size != 0 {
+        return false;
+    }
+    let target = two(p, at + 6);
+    if target <= n {
+        return false;
+    }
+    target <= total
+}
+
+// Whether the command at `at`, record n of `total` with an argument up to `next`, is well formed.
+fn command_fits(
+    p: &[u8],
+    table: &[u16; 46],
+    at: usize,
+    next: usize,
+    group: Group,
+    components: usize,
+    total: usize,
+    n: usize,
+) -> bool
+    requires { ⌜ (at + 10 ≤ next) × (next ≤ length (now p)) × (now table ≡ byNumber) ⌝ }
+    ensures { λ r. ⌜ r ≡ accepted (commandAt group components total n (now (p .entry)) at next) ⌝ }
+{
+    let code = wide(p[at + 2]);
+    let Listed::Command(row) = look_up(table, code) else {
+        return false;
+    };
+    let sections = row.sections;
+    if !allows(sections, group) {
+        return false;
+    }
+    if components <= wide(p[at + 3]) {
+        return false;
+    }
+    let argument = row.argument;
+    if !argument_fits(p, argument, at + RECORD_BYTES, next, components) {
+        return false;
+    }
+    target_fits(code, two(p, at + 6), n, total)
+}
+
+// The place after record n of `total` at `at`; 0 if it is not well formed.
+pub fn test_record(
+    p: &[u8],
+    table: &[u16; 46],
+    at: usize,
+    group: Group,
+    components: usize,
+    total: usize,
+    n: usize,
+) -> usize
+    requires { ⌜ (at ≤ length (now p)) × (now table ≡ byNumber) ⌝ }
+    ensures { λ r. ⌜ r ≡ nextIn (length (now (p .entry))) (Rule.recordIn group components total n (drop at (now (p .entry)))) ⌝ }
+{
+    let left = p.len() - at;
+    if left < RECORD_BYTES {
+        return 0;
+    }
+    if p[at] != 0x53 {
+        return 0;
+    }
+    if p[at + 1] != 0x50 {
+        return 0;
+    }
+    let size = two(p, at + 8);
+    if left - RECORD_BYTES < size {
+        return 0;
+    }
+    let next = at + RECORD_BYTES + size;
+    if wide(p[at + 2]) == JUMP {
+        if jump_fits(p, at, size, total, n) {
+            return next;
+        }
+        return 0;
+    }
+    if command_fits(p, table, at, next, group, components, total, n) {
+        return next;
+    }
+    0
+}

@@ -1,0 +1,136 @@
+-- One step of a program's run, and the whole run.
+use Prim.Native.Nat.{ℕ, _+_, _-_, _≤_, _<_}
+use mathlib.Core.Path.{_≡_}
+use mathlib.Core.Bool.{true, false, cond}
+use mathlib.Core.List.{List}
+use mathlib.Core.Option.{some}
+use lib.Dec.{eqb}
+use lib.ListN.{length, getD}
+use Rattle.rules.specs.declared.answers.End.the-variants.{ConditionFailed}
+use Rattle.rules.specs.declared.answers.Group.{Group}
+use Rattle.rules.specs.Answers.{endOf}
+use Rattle.rules.specs.Bytes.{Bytes, part}
+use Rattle.rules.specs.Commands.{Op, Row, rowOf, commands}
+use Rattle.rules.specs.Got.{got}
+use Rattle.rules.specs.Limits.{limits}
+use Rattle.rules.specs.Program.{Rec, NONE}
+use Rattle.rules.specs.ProgramRun.{exec}
+use Rattle.rules.specs.ProgramTest.{opIn, nonJumps}
+use Rattle.rules.specs.Run.{next}
+use Rattle.rules.specs.Step.{Env, State, Out, out}
+use Rattle.run_slots.specs.declared.params.Params.{Params}
+use Rattle.run_slots.specs.Params.{Fit}
+use Rattle.run_commands.specs.declared.Done.{Done}
+use Rattle.run_commands.specs.Machine.{stateAt, Lent}
+use Rattle.run_commands.specs.Op.{opOf}
+use Rattle.program_run.specs.declared.step.Walk.{Walk}
+use Rattle.program_run.specs.Walk.{RecordsAt}
+
+-- the argument of a command, as the program test read it
+pub record ArgumentAt (p : Bytes) (components code from to : ℕ) : Type 0 where
+  pub i : ℕ
+  pub row : Row
+  pub listed : rowOf code commands ≡ some row
+  pub op : Op
+  pub lead : 0 < from
+  pub up : from ≤ to
+  pub fits : to ≤ length p
+  pub reads : opIn components i (row .form) (part p from (to - from)) ≡ got op
+
+-- what a command of that code has beside its parameters: 12 the new index, any other the place of its argument
+abbrev pub valueOf : ℕ → ℕ → ℕ → ℕ
+valueOf code i from = cond (eqb code 12) i from
+
+pub record GivenAs (p : Bytes) (components code from to : ℕ) (x : ArgumentAt p components code from to) (r : Params) : Type 0 where
+  pub op : opOf p code (valueOf code (x .i) from) r ≡ x .op
+  pub fit : Fit p components r
+
+-- a condition with the target t failed before the records from number n on
+unfoldable pub failing : Env → List Rec → ℕ → ℕ → State → Out
+failing env rs n t st = elim (eqb t NONE) [ true ↦ out ConditionFailed st | false ↦ exec env rs n (t - n) st ]
+
+-- after a command that gave o
+abbrev pub afterwards : Env → List Rec → ℕ → ℕ → Out → Out
+afterwards env rs n t o = next o (λ st. exec env rs n 0 st) (λ st. failing env rs n t st)
+
+-- record n at `at`, and a target, which is no record or a later one
+pub record OnwardJob (p : Bytes) (at n target : ℕ) : Type 0 where
+  pub group : Group
+  pub components : ℕ
+  pub total : ℕ
+  pub place : RecordsAt p group components total n at
+  pub aims : (target ≡ NONE → ⊥) → (n ≤ target) × (target ≤ total)
+
+-- the run goes on at r, or ended
+pub record Onward (p : Bytes) (group : Group) (components total n at : ℕ) (x : RecordsAt p group components total n at) (target : ℕ) (done : Done) (r : Walk) : Type 0 where
+  pub place : RecordsAt p group components total (r .n) (r .at)
+  pub up : n ≤ r .n
+  pub few : nonJumps (place .records) ≤ nonJumps (x .records)
+  pub events : r .events ≡ done .events
+  pub used : r .used ≡ done .used
+  pub goes : r .stop ≡ 0 → (env : Env) (st : State) → afterwards env (x .records) n target (out (endOf (done .stop)) st) ≡ exec env (place .records) (r .n) 0 st
+  pub stops : 0 < r .stop → (env : Env) (st : State) → afterwards env (x .records) n target (out (endOf (done .stop)) st) ≡ out (endOf (r .stop)) st
+
+-- the state that a run has reached
+abbrev pub stateOf : Bytes → ℕ → List ℕ → Bytes → Bytes → Walk → State
+stateOf p components words slots trace r = stateAt p components words slots trace (r .events) (r .used)
+
+-- a run over lent memory that is at a record or at the end of them, with room for an event of each command that is left
+pub record Ready (env : Env) (group : Group) (p : Bytes) (components total : ℕ) (walk : Walk) (vendor class : Bytes) (found : List ℕ) (answers slots : Bytes) (words : List ℕ) (trace : Bytes) : Type 0 where
+  pub lent : Lent env p vendor class found answers slots words trace
+  pub among : length (env .ids) ≡ components
+  pub place : RecordsAt p group components total (walk .n) (walk .at)
+  pub size : total ≤ limits .records
+  pub few : walk .events + nonJumps (place .records) ≤ limits .commands
+
+-- what the rule gives from there
+abbrev pub rest : (env : Env) (group : Group) (p : Bytes) (components total : ℕ) (walk : Walk) → RecordsAt p group components total (walk .n) (walk .at) → Bytes → List ℕ → Bytes → Out
+rest env group p components total walk x slots words trace = exec env (x .records) (walk .n) 0 (stateOf p components words slots trace walk)
+
+-- the run was taken on to r: it goes on there as the rule does, or ended as the rule says
+pub record Moved (env : Env) (group : Group) (p : Bytes) (components total : ℕ) (walk : Walk) (vendor class : Bytes) (found : List ℕ) (answers slots : Bytes) (words : List ℕ) (trace : Bytes)
+    (x : Ready env group p components total walk vendor class found answers slots words trace) (r : Walk) (slots′ : Bytes) (words′ : List ℕ) (trace′ : Bytes) : Type 0 where
+  pub ready : Ready env group p components total r vendor class found answers slots′ words′ trace′
+  pub goes : r .stop ≡ 0 → rest env group p components total walk (x .place) slots words trace ≡ rest env group p components total r (ready .place) slots′ words′ trace′
+  pub stops : 0 < r .stop → rest env group p components total walk (x .place) slots words trace ≡ out (endOf (r .stop)) (stateOf p components words′ slots′ trace′ r)
+
+-- at a command
+pub record ExecJob (p : Bytes) (components : ℕ) (walk : Walk) (vendor class : Bytes) (found : List ℕ) (answers slots : Bytes) (words : List ℕ) (trace : Bytes) : Type 0 where
+  pub env : Env
+  pub group : Group
+  pub total : ℕ
+  pub ready : Ready env group p components total walk vendor class found answers slots words trace
+  pub before : walk .n < total
+  pub stands : getD p (walk .at + 2) 0 ≡ 0xff → ⊥
+
+-- which was done
+pub record Executed (p : Bytes) (components : ℕ) (walk : Walk) (vendor class : Bytes) (found : List ℕ) (answers slots : Bytes) (words : List ℕ) (trace : Bytes)
+    (j : ExecJob p components walk vendor class found answers slots words trace) (r : Walk) (slots′ : Bytes) (words′ : List ℕ) (trace′ : Bytes) : Type 0 where
+  pub moved : Moved (j .env) (j .group) p components (j .total) walk vendor class found answers slots words trace (j .ready) r slots′ words′ trace′
+  pub wrote : r .events ≡ walk .events + 1
+  pub further : walk .n < r .n
+
+pub record StepJob (p : Bytes) (components total : ℕ) (walk : Walk) (vendor class : Bytes) (found : List ℕ) (answers slots : Bytes) (words : List ℕ) (trace : Bytes) : Type 0 where
+  pub env : Env
+  pub group : Group
+  pub ready : Ready env group p components total walk vendor class found answers slots words trace
+  pub going : walk .stop ≡ 0
+
+-- one event was written, or the end was reached without
+pub record Stepped (p : Bytes) (components total : ℕ) (walk : Walk) (vendor class : Bytes) (found : List ℕ) (answers slots : Bytes) (words : List ℕ) (trace : Bytes)
+    (j : StepJob p components total walk vendor class found answers slots words trace) (r : Walk) (slots′ : Bytes) (words′ : List ℕ) (trace′ : Bytes) : Type 0 where
+  pub moved : Moved (j .env) (j .group) p components total walk vendor class found answers slots words trace (j .ready) r slots′ words′ trace′
+  pub few : r .events ≤ walk .events + 1
+  pub wrote : r .n < total → r .events ≡ walk .events + 1
+  pub late : 0 < r .stop → r .events ≡ walk .events + 1
+  pub further : walk .n < total → walk .n < r .n
+
+-- a run at the first record
+abbrev pub startAt : ℕ → Walk
+startAt from = record { at = from; n = 0; events = 0; used = 0; stop = 0 }
+
+pub record Ran (p : Bytes) (components total from : ℕ) (vendor class : Bytes) (found : List ℕ) (answers slots : Bytes) (words : List ℕ) (trace : Bytes)
+    (j : StepJob p components total (startAt from) vendor class found answers slots words trace) (r : Walk) (slots′ : Bytes) (words′ : List ℕ) (trace′ : Bytes) : Type 0 where
+  pub goes : out (endOf (r .stop)) (stateOf p components words′ slots′ trace′ r) ≡ exec (j .env) (j .ready .place .records) 0 0 (stateAt p components words slots trace 0 0)
+  pub late : 0 < r .stop → 0 < r .events
+  pub few : r .events ≤ limits .commands

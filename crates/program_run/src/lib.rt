@@ -1,0 +1,101 @@
+// The run of a program.
+ghost use mathlib.Core.Path.{_≡_};
+ghost use Rattle.rules.specs.ProgramRun.{runProgram};
+ghost use Rattle.run_admission.specs.Answer.{inputOf, Settles};
+ghost use Rattle.program_run.specs.Known.{Known};
+use program_test::test::Tested;
+use program_test::test::test_program;
+use rules::answers::Refusal;
+use rules::controller::Controller;
+use run_admission::admit::admit;
+use run_admission::answer::Answer;
+use run_admission::answer::Outcome;
+use run_admission::ending::ended;
+use run_admission::ending::taken;
+use step::run_records;
+
+pub mod step;
+pub mod walk;
+
+// The run of a program that the test has accepted, by what the test found.
+fn run_tested(
+    p: &[u8],
+    t: Tested,
+    ids: &[usize; 16],
+    verdict: bool,
+    device: Controller,
+    slots: &mut [u8],
+    answers: &[u8],
+    trace: &mut [u8],
+) -> Outcome
+    requires { ⌜ Known (now p) t (now ids) ⌝ }
+    ensures { λ r. ⌜ Settles device (runProgram (now (p .entry)) (inputOf verdict device (now (slots .entry)) (now (answers .entry)) (now (trace .entry)))) r (now (slots .entry)) (now (slots .exit)) (now (trace .entry)) (now (trace .exit)) ⌝ }
+{
+    let group = t.group;
+    let number = t.number;
+    let n = t.components;
+    let mut found = [0usize; 8];
+    let refusal = admit(
+        p,
+        group,
+        number,
+        ids,
+        n,
+        verdict,
+        device,
+        slots,
+        answers,
+        trace,
+        &mut found,
+    );
+    if refusal != 0 {
+        return Outcome {
+            answer: Answer::Refused(Refusal::of(refusal), 0),
+            number: device.number,
+        };
+    }
+    let vendor = device.vendor;
+    let class = device.class;
+    let mut words = [0usize; 40];
+    let done = run_records(
+        p,
+        n,
+        t.records,
+        t.from,
+        &vendor,
+        &class,
+        &found,
+        answers,
+        slots,
+        &mut words,
+        trace,
+    );
+    Outcome {
+        answer: Answer::Ran(ended(done.stop, done.events, done.used, trace)),
+        number: taken(group, done.stop, number as u32, device.number),
+    }
+}
+
+// Runs the program p, whose group and number it says itself: `verdict` is whether its signature was verified. On a refusal the slots and the
+// trace are as lent.
+pub fn run_program(
+    p: &[u8],
+    verdict: bool,
+    device: Controller,
+    slots: &mut [u8],
+    answers: &[u8],
+    trace: &mut [u8],
+) -> Outcome
+    ensures { λ r. ⌜ Settles device (runProgram (now (p .entry)) (inputOf verdict device (now (slots .entry)) (now (answers .entry)) (now (trace .entry)))) r (now (slots .entry)) (now (slots .exit)) (now (trace .entry)) (now (trace .exit)) ⌝ }
+{
+    let mut ids = [0usize; 16];
+    let t = test_program(p, &mut ids);
+    let good = t.good;
+    if !good {
+        return Outcome {
+            answer: Answer::Refused(Refusal::BadProgram, 0),
+            number: device.number,
+        };
+    }
+    run_tested(p, t, &ids, verdict, device, slots, answers, trace)
+}

@@ -1,0 +1,45 @@
+// The way through a program's records, which only goes forward.
+ghost use mathlib.Core.Path.{_≡_};
+ghost use Rattle.program_run.specs.Walk.{AdvanceJob, Advanced, LandJob, Landed};
+use byte_buffer::two;
+use byte_buffer::wide;
+use program_records::record::JUMP;
+use program_records::record::RECORD_BYTES;
+
+// A record: where it is, and its number.
+pub struct Stand {
+    pub at: usize,
+    pub n: usize,
+}
+
+// Where record t is, from record n at `at`.
+pub fn advance(p: &[u8], at: usize, n: usize, t: usize) -> usize
+    requires { ⌜ AdvanceJob (now p) at n t ⌝ }
+    ensures { λ r. ⌜ ((j : AdvanceJob (now (p .entry)) at n t) → Advanced (now (p .entry)) (j .group) (j .components) (j .total) n at (j .place) t r) ⌝ }
+{
+    let mut next = at;
+    let mut k = n;
+    while k < t {
+        next = next + RECORD_BYTES + two(p, next + 8);
+        k += 1;
+    }
+    next
+}
+
+// The first record from number n at `at` on that is no jump, through the jumps before it; or the end.
+pub fn land(p: &[u8], at: usize, n: usize, total: usize) -> Stand
+    requires { ⌜ LandJob (now p) at n total ⌝ }
+    ensures { λ r. ⌜ ((j : LandJob (now (p .entry)) at n total) → Landed (now (p .entry)) (j .group) (j .components) total n at (j .place) r) ⌝ }
+{
+    let mut next = at;
+    let mut k = n;
+    while k < total {
+        if wide(p[next + 2]) != JUMP {
+            return Stand { at: next, n: k };
+        }
+        let target = two(p, next + 6);
+        next = advance(p, next + RECORD_BYTES, k + 1, target);
+        k = target;
+    }
+    Stand { at: next, n: k }
+}

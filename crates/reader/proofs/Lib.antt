@@ -1,3 +1,0 @@
-pub mod Held
-pub mod Made
-pub mod ReadLaws

@@ -1,0 +1,273 @@
+// The tables of commands and parameters, as data: check, the program test and translation take codes and keys from here.
+ghost use mathlib.Core.Path.{_≡_};
+ghost use mathlib.Core.List.{[], map};
+ghost use Rattle.rules.specs.declared.tables.Listed.the-variants as L;
+ghost use Rattle.rules.specs.Commands.{commands, rowOf, params, paramOf};
+ghost use Rattle.rules_tables.specs.Kinds.{kindOf};
+ghost use Rattle.rules.specs.Tables.{asCommand, asParameterRow, listed, known, argumentNumber, argumentAt, parameterNumber, knownAt, packed, tableOf, byNumber};
+use rules::tables::Argument;
+use rules::tables::Command;
+use rules::tables::Known;
+use rules::tables::Listed;
+use rules::tables::Parameter;
+use rules::tables::ParameterRow;
+
+// A set of sections is the sum of its members.
+pub const COMMON: u8 = 1;
+
+pub const PAYLOAD_FETCH: u8 = 2;
+
+pub const INSTALL: u8 = 4;
+
+pub const VALIDATE: u8 = 8;
+
+pub const LOAD: u8 = 16;
+
+pub const RUN: u8 = 32;
+
+pub const ANYWHERE: u8 = COMMON + PAYLOAD_FETCH + INSTALL + VALIDATE + LOAD + RUN;
+
+pub const COMMANDS: [Command; 13] = [
+    Command {
+        code: 1,
+        argument: Argument::Sixteen,
+        sections: ANYWHERE,
+    },
+    Command {
+        code: 2,
+        argument: Argument::Sixteen,
+        sections: ANYWHERE,
+    },
+    Command {
+        code: 3,
+        argument: Argument::Nil,
+        sections: ANYWHERE,
+    },
+    Command {
+        code: 12,
+        argument: Argument::Index,
+        sections: ANYWHERE,
+    },
+    Command {
+        code: 14,
+        argument: Argument::Nil,
+        sections: ANYWHERE,
+    },
+    Command {
+        code: 15,
+        argument: Argument::Alternatives,
+        sections: ANYWHERE,
+    },
+    Command {
+        code: 19,
+        argument: Argument::Parameters,
+        sections: ANYWHERE,
+    },
+    Command {
+        code: 20,
+        argument: Argument::Parameters,
+        sections: ANYWHERE,
+    },
+    Command {
+        code: 21,
+        argument: Argument::Nil,
+        sections: PAYLOAD_FETCH + INSTALL,
+    },
+    Command {
+        code: 22,
+        argument: Argument::Nil,
+        sections: PAYLOAD_FETCH + INSTALL + LOAD,
+    },
+    Command {
+        code: 23,
+        argument: Argument::Nil,
+        sections: RUN,
+    },
+    Command {
+        code: 30,
+        argument: Argument::Sequence,
+        sections: ANYWHERE,
+    },
+    Command {
+        code: 32,
+        argument: Argument::Nil,
+        sections: PAYLOAD_FETCH + INSTALL + LOAD,
+    },
+];
+
+pub const PARAMETERS: [ParameterRow; 5] = [
+    ParameterRow {
+        key: 2,
+        parameter: Parameter::Coerce,
+    },
+    ParameterRow {
+        key: 6,
+        parameter: Parameter::Uri,
+    },
+    ParameterRow {
+        key: 10,
+        parameter: Parameter::Source,
+    },
+    ParameterRow {
+        key: 11,
+        parameter: Parameter::Digest,
+    },
+    ParameterRow {
+        key: 12,
+        parameter: Parameter::Size,
+    },
+];
+
+fn argument_number(argument: Argument) -> u8
+    ensures { λ r. ⌜ r ≡ argumentNumber argument ⌝ }
+{
+    match argument {
+        Argument::Sixteen => 0,
+        Argument::Nil => 1,
+        Argument::Index => 2,
+        Argument::Alternatives => 3,
+        Argument::Parameters => 4,
+        Argument::Sequence => 5,
+    }
+}
+
+fn argument_at(number: u16) -> Argument
+    ensures { λ r. ⌜ r ≡ argumentAt number ⌝ }
+{
+    match number {
+        0 => Argument::Sixteen,
+        1 => Argument::Nil,
+        2 => Argument::Index,
+        3 => Argument::Alternatives,
+        4 => Argument::Parameters,
+        _ => Argument::Sequence,
+    }
+}
+
+// Its entry in the table by number.
+fn entry(row: Command) -> u16
+    ensures { λ r. ⌜ r ≡ packed (L.Command row) ⌝ }
+{
+    let argument = row.argument;
+    argument_number(argument) as u16 * 64 + row.sections as u16
+}
+
+fn parameter_number(parameter: Parameter) -> u16
+    ensures { λ r. ⌜ r ≡ parameterNumber parameter ⌝ }
+{
+    match parameter {
+        Parameter::Coerce => 1,
+        Parameter::Uri => 2,
+        Parameter::Source => 3,
+        Parameter::Digest => 4,
+        Parameter::Size => 5,
+    }
+}
+
+fn known_at(number: u16) -> Known
+    ensures { λ r. ⌜ r ≡ knownAt number ⌝ }
+{
+    match number {
+        1 => Known::Parameter(Parameter::Coerce),
+        2 => Known::Parameter(Parameter::Uri),
+        3 => Known::Parameter(Parameter::Source),
+        4 => Known::Parameter(Parameter::Digest),
+        5 => Known::Parameter(Parameter::Size),
+        _ => Known::Unknown,
+    }
+}
+
+// The two constants are the rule's tables.
+fn command_rows() -> [Command; 13]
+    ensures { λ r. ⌜ r ≡ map asCommand commands ⌝ }
+{
+    COMMANDS
+}
+
+fn parameter_rows() -> [ParameterRow; 5]
+    ensures { λ r. ⌜ r ≡ map asParameterRow params ⌝ }
+{
+    PARAMETERS
+}
+
+fn with_commands(rows: [Command; 13]) -> [u16; 46]
+    requires { ⌜ rows ≡ map asCommand commands ⌝ }
+    ensures { λ r. ⌜ r ≡ tableOf commands [] ⌝ }
+{
+    let mut table = [0u16; 46];
+    let mut i = 0;
+    while i < 13 {
+        let row = rows[i];
+        table[row.code as usize] = entry(row);
+        i += 1;
+    }
+    table
+}
+
+fn with_parameters(mut table: [u16; 46], rows: [ParameterRow; 5]) -> [u16; 46]
+    requires { ⌜ (table ≡ tableOf commands []) × (rows ≡ map asParameterRow params) ⌝ }
+    ensures { λ r. ⌜ r ≡ byNumber ⌝ }
+{
+    let mut i = 0;
+    while i < 5 {
+        let row = rows[i];
+        let parameter = row.parameter;
+        table[33 + row.key as usize] = parameter_number(parameter);
+        i += 1;
+    }
+    table
+}
+
+// Both tables by number, made once and lent to each look-up: at c the command of code c, at 33 + k the parameter of key k,
+// and 0 where nothing is listed.
+pub fn tables() -> [u16; 46]
+    ensures { λ r. ⌜ r ≡ byNumber ⌝ }
+{
+    with_parameters(with_commands(command_rows()), parameter_rows())
+}
+
+pub fn look_up(table: &[u16; 46], code: usize) -> Listed
+    requires { ⌜ now table ≡ byNumber ⌝ }
+    ensures { λ r. ⌜ r ≡ listed (rowOf code commands) ⌝ }
+{
+    if code > 32 {
+        return Listed::Unlisted;
+    }
+    let entry = table[code];
+    if entry == 0 {
+        return Listed::Unlisted;
+    }
+    Listed::Command(Command {
+        code: code as u8,
+        argument: argument_at(entry / 64),
+        sections: (entry % 64) as u8,
+    })
+}
+
+pub fn look_up_parameter(table: &[u16; 46], key: usize) -> Known
+    requires { ⌜ now table ≡ byNumber ⌝ }
+    ensures { λ r. ⌜ r ≡ known (paramOf key params) ⌝ }
+{
+    if key > 12 {
+        return Known::Unknown;
+    }
+    known_at(table[33 + key])
+}
+
+// For a tool that looks up once.
+pub fn command_of(code: usize) -> Listed
+    ensures { λ r. ⌜ r ≡ listed (rowOf code commands) ⌝ }
+{
+    look_up(&tables(), code)
+}
+
+// What stands after the code of a command; nil where the code is not listed.
+pub fn argument_of(code: usize) -> Argument
+    ensures { λ r. ⌜ r ≡ kindOf code ⌝ }
+{
+    let row = command_of(code);
+    match row {
+        Listed::Command(command) => command.argument,
+        Listed::Unlisted => Argument::Nil,
+    }
+}

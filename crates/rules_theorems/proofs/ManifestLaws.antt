@@ -1,0 +1,244 @@
+-- What holds of an accepted manifest.
+use Prim.Native.Nat.{ℕ, zero, suc, _+_, _-_, _*_, _≤_, _<_}
+use mathlib.Core.Path.{_≡_, refl, _∙_, subst}
+use mathlib.Core.List.{List, [], _∷_, _++_, map, map-append}
+use mathlib.Core.Bool.{false, not}
+use native.Mathlib.Omega.{arith}
+use lib.Dec.{leb, eqb}
+use lib.ListN.{length, length-append, length-map}
+use borrow.Author.Tests.{leb-true, not-true}
+use Rattle.rules.specs.declared.answers.Refusal.the-variants.{EnvelopeTooLong, Malformed, NotCbor, RepeatedIdentifier, WrongVersion}
+use Rattle.rules.specs.Limits.{limits}
+use Rattle.rules.specs.Bytes.{Bytes, Span, span, bytesAt, same, member, repeats}
+use Rattle.rules.specs.Got.{got}
+use Rattle.rules.specs.Cbor.{NUMBER, ARRAY, MAP, item}
+use Rattle.rules.specs.Manifest.{count, Section, countAll, Manifest, names}
+use Rattle.rules.specs.Check.{number, key, inBytes, strings, identifier, identifiers, components, sequenceAt, sectionAt, commonSeq, commonAt, sectionsAt, manifestAt, unread, check}
+use Rattle.rules.specs.ProgramSize.{argSize}
+use Rattle.rules.proofs.GotLaws.{passed, both, split, split₂, or-false}
+use Rattle.rules.proofs.CheckLaws.{Item, item-law, number-law, key-law, inBytes-law, strings-law}
+use Rattle.rules_theorems.proofs.RoundTrip.{GoodIds}
+use Rattle.rules.proofs.BytesLaws.{length-part}
+use Rattle.rules.proofs.SameLaws.{same-sym}
+use Rattle.rules_theorems.proofs.TreeLaws.{GoodSeq, Tree, seq-tree}
+
+member-append : (x id : Bytes) (xs : List Bytes) → member x xs ≡ false → same x id ≡ false → member x (xs ++ (id ∷ [])) ≡ false
+member-append x id [] h e = rw e
+member-append x id (y ∷ ys) h e = let (a, b) = or-false (same x y) (member x ys) h in rw (a, member-append x id ys b e)
+
+repeats-append : (xs : List Bytes) (id : Bytes) → repeats xs ≡ false → member id xs ≡ false → repeats (xs ++ (id ∷ [])) ≡ false
+repeats-append [] id h e = refl
+repeats-append (x ∷ xs) id h e =
+    let (a, b) = or-false (member x xs) (repeats xs) h in
+    let (c, d) = or-false (same id x) (member id xs) e in
+    rw (member-append x id xs a (same-sym x id ∙ c), repeats-append xs id b d)
+
+ids-append : (xs : List Bytes) (id : Bytes) → GoodIds xs → 1 ≤ length id → length id ≤ limits .identifier → GoodIds (xs ++ (id ∷ []))
+ids-append [] id g a b = (a, b, tt)
+ids-append (x ∷ xs) id g a b = (g .0, g .1, ids-append xs id (g .2) a b)
+
+module _ (s : Bytes) where
+  record Identifier (before : List Span) (e at : ℕ) (id : Span) : Type 0 where
+    up : at < id .to
+    fits : id .to ≤ e
+    some-bytes : 1 ≤ length (bytesAt s id)
+    short : length (bytesAt s id) ≤ limits .identifier
+    new : member (bytesAt s id) (map (bytesAt s) before) ≡ false
+
+  identifier-law : (before : List Span) (e at : ℕ) (id : Span) → e ≤ length s → identifier s before e at ≡ got id → Identifier before e at id
+  unfolding identifier
+  identifier-law before e at id l q₀ =
+      split _ (item ARRAY 1 (limits .parts) s e at) _ id q₀ λ h qh q₁.
+      split _ (strings s (h .num) e (h .next)) _ id q₁ λ next qn q₂.
+      let (a, q₃) = passed (leb (next - at) (limits .identifier)) Malformed at _ id q₂ in
+      let (b, q₄) = passed (not (member (bytesAt s (span at next)) (map (bytesAt s) before))) RepeatedIdentifier at _ id q₃ in
+      let i : Item s ARRAY 1 (limits .parts) e at h = item-law s ARRAY 1 (limits .parts) e at h qh in
+      let (u, f) = strings-law s (h .num) e (h .next) next (omega arith) qn in
+      let ei : span at next ≡ id = cc in
+      let n : next - at ≤ limits .identifier = leb-true _ _ a in
+      let j : length (bytesAt s (span at next)) ≡ next - at = length-part s at (next - at) (omega arith) in
+      subst (λ (x : Span). Identifier before e at x) ei
+      (record { up = omega arith; fits = omega arith; some-bytes = omega arith; short = omega arith; new = not-true _ b })
+
+  -- identifiers that are good and distinct
+  record Distinct (ids : List Span) : Type 0 where
+    pub good : GoodIds (map (bytesAt s) ids)
+    pub once : repeats (map (bytesAt s) ids) ≡ false
+
+  one-more : (ids : List Span) (id : Span) → Distinct ids → 1 ≤ length (bytesAt s id) → length (bytesAt s id) ≤ limits .identifier →
+      member (bytesAt s id) (map (bytesAt s) ids) ≡ false → Distinct (ids ++ (id ∷ []))
+  one-more ids id d a b m =
+      record {
+        good = rw (map-append (bytesAt s) ids (id ∷ [])) (ids-append (map (bytesAt s) ids) (bytesAt s id) (d .good) a b);
+        once = rw (map-append (bytesAt s) ids (id ∷ [])) (repeats-append (map (bytesAt s) ids) (bytesAt s id) (d .once) m);
+      }
+
+  identifiers-law : (k : ℕ) (before : List Span) (e at : ℕ) (ids : List Span) (q : ℕ) → e ≤ length s → at ≤ e → Distinct before →
+      identifiers s k before e at ≡ got (ids, q) → (at ≤ q) × (q ≤ e) × Distinct ids × (length ids ≡ length before + k)
+  unfolding identifiers
+  identifiers-law zero before e at ids q l u d q₀ =
+      let (ei, eq) = both q₀ in
+      rw (← ei, ← eq) (omega arith, u, d, omega arith)
+  identifiers-law (suc k) before e at ids q l u d q₀ =
+      split _ (identifier s before e at) _ (ids, q) q₀ λ id qi q₁.
+      let i = identifier-law before e at id l qi in
+      let (a, b, d′, n) =
+      identifiers-law k (before ++ (id ∷ [])) e (id .to) ids q l (i .fits) (one-more before id d (i .some-bytes) (i .short) (i .new)) q₁ in
+      let j : length (before ++ (id ∷ [])) ≡ length before + 1 = length-append before (id ∷ []) in
+      (omega (arith, i .up), b, d′, omega arith)
+
+  components-law : (e at : ℕ) (ids : List Span) (q : ℕ) → e ≤ length s → components s e at ≡ got (ids, q) →
+      (at ≤ q) × (q ≤ e) × Distinct ids × (1 ≤ length ids) × (length ids ≤ limits .components)
+  unfolding components
+  components-law e at ids q l q₀ =
+      split _ (item ARRAY 1 (limits .components) s e at) _ (ids, q) q₀ λ h qh q₁.
+      let i : Item s ARRAY 1 (limits .components) e at h = item-law s ARRAY 1 (limits .components) e at h qh in
+      let (a, b, d, n) = identifiers-law (h .num) [] e (h .next) ids q l (omega arith) (record { good = tt; once = refl }) q₁ in
+      (omega arith, b, d, omega arith, omega arith)
+
+-- argument bytes of a list of sections
+abbrev pub argSizeIn : List Section → ℕ
+argSizeIn [] = 0
+argSizeIn (x ∷ xs) = argSize (x .seq) + argSizeIn xs
+
+abbrev pub GoodSections : ℕ → List Section → Type 0
+GoodSections n [] = Unit {0}
+GoodSections n (x ∷ xs) = GoodSeq (x .seq) n (x .key) × GoodSections n xs
+
+pub record Sound (s : Bytes) (m : Manifest) : Type 0 where
+  pub number : m .number ≤ limits .number
+  pub ids : GoodIds (names s m)
+  pub distinct : repeats (names s m) ≡ false
+  pub some-ids : (1 ≤ length (names s m)) × (length (names s m) ≤ limits .components)
+  pub sections : GoodSections (length (names s m)) (m .sections)
+  pub few : countAll (m .sections) ≤ limits .commands
+  pub light : argSizeIn (m .sections) ≤ 4096 + 25 * countAll (m .sections)
+
+count-append : (xs ys : List Section) → (countAll (xs ++ ys) ≡ countAll xs + countAll ys) × (argSizeIn (xs ++ ys) ≡ argSizeIn xs + argSizeIn ys)
+count-append [] ys = (omega arith, omega arith)
+count-append (x ∷ xs) ys = let r = count-append xs ys in (omega (arith, r .0), omega (arith, r .1))
+
+sections-append : (n : ℕ) (xs ys : List Section) → GoodSections n xs → GoodSections n ys → GoodSections n (xs ++ ys)
+sections-append n [] ys g h = h
+sections-append n (x ∷ xs) ys g h = (g .0, sections-append n xs ys (g .1) h)
+
+module _ (s : Bytes) (small : length s < 65536) where
+  section-law : (n k m e at : ℕ) (x : Section) (q : ℕ) → e ≤ length s → sectionAt s n k m e at ≡ got (x, q) →
+      Tree m e at q (count (x .seq)) (argSize (x .seq)) (GoodSeq (x .seq) n (x .key))
+  unfolding sectionAt
+  section-law n k m e at x q l q₀ =
+      split₂ _ (inBytes s (sequenceAt s n k (limits .depth) m) e at) _ (x, q) q₀ λ a p qa q₁.
+      let i = inBytes-law s (sequenceAt s n k (limits .depth) m) e at a p qa in
+      let t = seq-tree s n k small (limits .depth) m (p .to) (p .from) a (p .to) (omega (arith, i .fits)) (i .mid) (i .reads) in
+      let (ex, eq) = both q₁ in
+      rw (← ex, ← eq)
+      (record { up = omega (arith, i .up, t .up); fits = i .fits; few = t .few; light = omega (arith, i .up, t .light); good = t .good })
+
+  abbrev Listed : ℕ → ℕ → ℕ → List Section → ℕ → ℕ → Type 0
+  Listed m e at xs q n = Tree m e at q (countAll xs) (argSizeIn xs) (GoodSections n xs)
+
+  sections-law : (n k low m e at : ℕ) (xs : List Section) (q : ℕ) → e ≤ length s → at ≤ e → sectionsAt s n k low m e at ≡ got (xs, q) → Listed m e at xs q n
+  unfolding sectionsAt
+  sections-law n zero low m e at xs q l u q₀ =
+      let (ex, eq) = both q₀ in
+      rw (← ex, ← eq) (record { up = omega arith; fits = u; few = λ h. omega arith; light = omega arith; good = tt })
+  sections-law n (suc k) low m e at xs q l u q₀ =
+      split _ (item NUMBER low 12 s e at) _ (xs, q) q₀ λ h qh q₁.
+      split₂ _ (sectionAt s n (h .num) m e (h .next)) _ (xs, q) q₁ λ x p qa q₂.
+      split₂ _ (sectionsAt s n k (h .num + 1) (m + count (x .seq)) e p) _ (xs, q) q₂ λ rest p′ qs q₃.
+      let i : Item s NUMBER low 12 e at h = item-law s NUMBER low 12 e at h qh in
+      let t = section-law n (h .num) m e (h .next) x p l qa in
+      let t′ = sections-law n k (h .num + 1) (m + count (x .seq)) e p rest p′ l (t .fits) qs in
+      let (ex, eq) = both q₃ in
+      rw (← ex, ← eq)
+      (record {
+        up = omega (arith, t .up, t′ .up);
+        fits = t′ .fits;
+        few = λ z. let y : m + count (x .seq) + countAll rest ≤ limits .commands = t′ .few (t .few z) in omega arith;
+        light = omega (arith, t .light, t′ .light);
+        good = (t .good, t′ .good);
+      })
+
+  commonSeq-law : (n k e at : ℕ) (xs : List Section) (q : ℕ) → e ≤ length s → at ≤ e → commonSeq s n k e at ≡ got (xs, q) → Listed 0 e at xs q n
+  unfolding commonSeq
+  commonSeq-law n zero e at xs q l u q₀ =
+      let (ex, eq) = both q₀ in
+      rw (← ex, ← eq) (record { up = omega arith; fits = u; few = λ h. omega arith; light = omega arith; good = tt })
+  commonSeq-law n (suc k) e at xs q l u q₀ =
+      split _ (key s 4 e at) _ (xs, q) q₀ λ p qp q₁.
+      split₂ _ (sectionAt s n 3 0 e p) _ (xs, q) q₁ λ x next qx q₂.
+      let (y, z) = key-law s 4 e at p qp in
+      let t = section-law n 3 0 e p x next l qx in
+      let (ex, eq) = both q₂ in
+      rw (← ex, ← eq)
+      (record {
+        up = omega (arith, t .up);
+        fits = t .fits;
+        few = λ h. let w : 0 + count (x .seq) ≤ limits .commands = t .few h in omega arith;
+        light = omega (arith, t .light);
+        good = (t .good, tt);
+      })
+
+  common-law : (e at : ℕ) (r : List Span × List Section) (q : ℕ) → e ≤ length s → commonAt s e at ≡ got (r, q) →
+      Listed 0 e at (r .1) q (length (r .0)) × Distinct s (r .0) × (1 ≤ length (r .0)) × (length (r .0) ≤ limits .components)
+  unfolding commonAt
+  common-law e at r q l q₀ =
+      split _ (item MAP 1 2 s e at) _ (r, q) q₀ λ h qh q₁.
+      split _ (key s 2 e (h .next)) _ (r, q) q₁ λ p qp q₂.
+      split₂ _ (inBytes s (components s) e p) _ (r, q) q₂ λ ids w qi q₃.
+      split₂ _ (commonSeq s (length ids) (h .num - 1) e (w .to)) _ (r, q) q₃ λ xs p₃ qa q₄.
+      let i : Item s MAP 1 2 e at h = item-law s MAP 1 2 e at h qh in
+      let (x, y) = key-law s 2 e (h .next) p qp in
+      let j = inBytes-law s (components s) e p ids w qi in
+      let (u₂, f₂, d, n₁, n₂) = components-law s (w .to) (w .from) ids (w .to) (omega (arith, j .fits)) (j .reads) in
+      let t = commonSeq-law (length ids) (h .num - 1) e (w .to) xs p₃ l (j .fits) qa in
+      let (er, eq) = both q₄ in
+      rw (← er, ← eq)
+      (record { up = omega (arith, t .up, j .up); fits = t .fits; few = t .few; light = omega (arith, t .light, j .up); good = t .good }, d, n₁, n₂)
+
+  manifest-law : (e at : ℕ) (m : Manifest) (q : ℕ) → length s ≤ limits .envelope → e ≤ length s → manifestAt s e at ≡ got (m, q) → Sound s m
+  unfolding manifestAt
+  manifest-law e at m q big l q₀ =
+      split _ (item MAP 3 8 s e at) _ (m, q) q₀ λ h qh q₁.
+      split _ (key s 1 e (h .next)) _ (m, q) q₁ λ p qp q₂.
+      split₂ _ (number s e p) _ (m, q) q₂ λ version p₁ qv q₃.
+      let (_, q₄) = passed (eqb version 1) WrongVersion p _ (m, q) q₃ in
+      split _ (key s 2 e p₁) _ (m, q) q₄ λ p₂ qk q₅.
+      split₂ _ (number s e p₂) _ (m, q) q₅ λ n p₃ qn q₆.
+      split _ (key s 3 e p₃) _ (m, q) q₆ λ p₄ qk₃ q₇.
+      split₂ _ (inBytes s (commonAt s) e p₄) _ (m, q) q₇ λ c w qc q₈.
+      split₂ _ (sectionsAt s (length (c .0)) (h .num - 3) 8 (countAll (c .1)) e (w .to)) _ (m, q) q₈ λ ys p₆ qs q₉.
+      let (_, _, big-n) = number-law s e p₂ n p₃ qn in
+      let j = inBytes-law s (commonAt s) e p₄ c w qc in
+      let (t, d, n₁, n₂) = common-law (w .to) (w .from) c (w .to) (omega (arith, j .fits)) (j .reads) in
+      let t′ = sections-law (length (c .0)) (h .num - 3) 8 (countAll (c .1)) e (w .to) ys p₆ l (j .fits) qs in
+      let (em, _) = both q₉ in
+      let x : 0 + countAll (c .1) ≤ limits .commands = t .few (omega arith) in
+      let y : countAll (c .1) + countAll ys ≤ limits .commands = t′ .few (omega arith) in
+      let (ca, wa) = count-append (c .1) ys in
+      let len : length (map (bytesAt s) (c .0)) ≡ length (c .0) = length-map (c .0) (bytesAt s) in
+      rw (← em)
+      (record {
+        number = big-n;
+        ids = d .good;
+        distinct = d .once;
+        some-ids = (omega arith, omega arith);
+        sections = rw len (sections-append (length (c .0)) (c .1) ys (t .good) (t′ .good));
+        few = omega arith;
+        light = omega (arith, t .light, t′ .light, t′ .fits);
+      })
+
+pub sound : (s : Bytes) (m : Manifest) → check s ≡ got m → Sound s m
+unfolding check
+sound s m q₀ =
+    let (big, q₁) = passed (leb (length s) (limits .envelope)) EnvelopeTooLong 0 _ m q₀ in
+    let b : length s ≤ limits .envelope = leb-true _ _ big in
+    split _ (item MAP 2 2 s (length s) 0) _ m q₁ λ h qh q₂.
+    split _ (key s 1 (length s) (h .next)) _ m q₂ λ p qp q₃.
+    split _ (unread s (length s) p) _ m q₃ λ q qu q₄.
+    split _ (key s 3 (length s) q) _ m q₄ λ r qr q₅.
+    split₂ _ (inBytes s (manifestAt s) (length s) r) _ m q₅ λ m′ w qm q₆.
+    let (_, q₇) = passed (eqb (w .to) (length s)) NotCbor (w .to) _ m q₆ in
+    let j = inBytes-law s (manifestAt s) (length s) r m′ w qm in
+    let em : m′ ≡ m = cc in
+    subst (λ (x : Manifest). Sound s x) em (manifest-law s (omega arith) (w .to) (w .from) m′ (w .to) b (j .fits) (j .reads))

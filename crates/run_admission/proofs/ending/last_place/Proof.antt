@@ -1,0 +1,32 @@
+use Prim.Native.Nat.{ℕ, _+_, _-_, _*_, _≤_, _<_}
+use mathlib.Core.Path.{_≡_, sym, _∙_}
+use mathlib.Core.Bool.{cond}
+use lib.Dec.{eqb}
+use lib.ListN.{length, getD}
+use native.Mathlib.Omega.{arith}
+use borrow.Author.Needs.{needs}
+use borrow.Author.Tests.{eq-eqb, ne-eqb}
+use Rattle.rules.specs.Bytes.{Bytes, num, part}
+use Rattle.rules.proofs.BytesLaws.{num-2}
+use Rattle.run_admission.proofs.ending.last_place.Statement.{statement}
+use Rattle.run_admission.proofs.ending.last_place.Tie as tie
+
+finished : tie.Need-returns
+finished c = rw (eq-eqb _ 0 (c .if1 .taken))
+
+last-law : (s : Bytes) (stop events r : ℕ) → (stop ≡ 0 → ⊥) → (0 < stop → 0 < events) × (8 * events ≤ length s) →
+    r ≡ getD s (8 * events - 4) 0 * 256 + getD s (8 * events - 4 + 1) 0 → r ≡ cond (eqb stop 0) 0 (num (part s (8 * events - 4) 2))
+last-law s stop events r d (l, f) e = let g : 0 < events = l (omega arith) in rw (ne-eqb stop 0 d) (e ∙ sym (num-2 s (8 * events - 4) (omega arith)))
+
+last : tie.Need-returns-2
+last c = last-law _ _ _ _ (c .before .if1 .left) (c .before .before .before .pre) (c .two .ensures .0)
+
+pub last-place-spec : {M : Type 1} → statement M
+last-place-spec =
+    tie.close
+    (tie.spec
+    finished
+    (λ c. search needs)
+    (λ c. omega (arith, c .before .before .pre .0 (omega (arith, c .if1 .left))))
+    (λ c κs. omega (arith, c .before .before .pre .0 (omega (arith, c .if1 .left)), c .before .before .pre .1))
+    last)

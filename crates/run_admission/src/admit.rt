@@ -1,0 +1,75 @@
+// The tests of a run, in the order of the table of refusals.
+ghost use mathlib.Core.Path.{_≡_};
+ghost use Prim.Native.Nat.{ℕ, _≤_, _<_};
+ghost use lib.ListN.{length};
+ghost use Rattle.rules.specs.Bytes.{spanAt};
+ghost use Rattle.rules.specs.Run as Rule;
+ghost use Rattle.run_slots.specs.Slot.{namesAt, Found};
+ghost use Rattle.run_admission.specs.Answer.{inputOf, stopOf};
+use rules::answers::Group;
+use rules::controller::Controller;
+use run_slots::image::IMAGE_BYTES;
+use run_slots::search::find_slots;
+use run_slots::whole::good_slots;
+
+// 81: no install while an event is open.
+fn may_start(group: Group, device: Controller) -> bool
+    ensures { λ r. ⌜ r ≡ Rule.mayStart group device ⌝ }
+{
+    match group {
+        Group::Install => !device.event,
+        Group::Boot => true,
+    }
+}
+
+// 82: an install needs a number above the device's, a boot that number.
+fn number_fits(group: Group, number: usize, device: Controller) -> bool
+    ensures { λ r. ⌜ r ≡ Rule.numberFits group number device ⌝ }
+{
+    let held = device.number as usize;
+    match group {
+        Group::Install => held < number,
+        Group::Boot => number == held,
+    }
+}
+
+// The number of the refusal of a run, or 0 and the slots of the n components, whose identifiers stand at the places `ids` of s.
+pub fn admit(
+    s: &[u8],
+    group: Group,
+    number: usize,
+    ids: &[usize; 16],
+    n: usize,
+    verdict: bool,
+    device: Controller,
+    slots: &[u8],
+    answers: &[u8],
+    trace: &[u8],
+    found: &mut [usize; 8],
+) -> usize
+    requires { ⌜ (n ≤ 8) × ((k : ℕ) → k < n → (spanAt (now ids) k .from ≤ spanAt (now ids) k .to) × (spanAt (now ids) k .to ≤ length (now s))) ⌝ }
+    ensures { λ r. ⌜ (r ≡ stopOf (Rule.admit group number (namesAt (now (s .entry)) (now (ids .entry)) n) (inputOf verdict device (now (slots .entry)) (now (answers .entry)) (now (trace .entry))))) × (r ≡ 0 → Found (namesAt (now (s .entry)) (now (ids .entry)) n) (now (slots .entry)) (now (found .entry)) (now (found .exit))) ⌝ }
+{
+    if !verdict {
+        return 80;
+    }
+    if !may_start(group, device) {
+        return 81;
+    }
+    if !number_fits(group, number, device) {
+        return 82;
+    }
+    if !good_slots(slots) {
+        return 85;
+    }
+    if !find_slots(s, ids, n, slots, found) {
+        return 83;
+    }
+    if answers.len() % IMAGE_BYTES != 0 {
+        return 86;
+    }
+    if trace.len() < Controller::TRACE_BYTES {
+        return 84;
+    }
+    0
+}

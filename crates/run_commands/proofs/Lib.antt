@@ -1,0 +1,3 @@
+pub mod ActionLaws
+pub mod PerformLaws
+pub mod LentLaws

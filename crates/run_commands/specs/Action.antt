@@ -1,0 +1,31 @@
+-- What an action ends with, and what it finds in lent memory.
+use Prim.Native.Nat.{ℕ, _-_, _<_}
+use mathlib.Core.Path.{_≡_}
+use mathlib.Core.List.{List}
+use mathlib.Core.Bool.{cond}
+use lib.Dec.{eqb}
+use lib.ListN.{getD}
+use Rattle.rules.specs.Answers.{endOf, resultNumber}
+use Rattle.rules.specs.Bytes.{Bytes}
+use Rattle.rules.specs.Commands as Rules
+use Rattle.rules.specs.Step.{Env, State, slotNo, paramsOf}
+use Rattle.run_slots.specs.Slot.{Holds}
+
+-- n is the number of an end: the result in its event too, but for 2
+pub record Ends (n : ℕ) : Type 0 where
+  pub small : n < 39
+  pub result : resultNumber (endOf n) ≡ cond (eqb n 2) 0 n
+
+-- each number of found is that of a slot
+abbrev pub AllHold : List ℕ → Bytes → Type 0
+AllHold found slots = (i : ℕ) → i < 8 → Holds slots (getD found i 0)
+
+-- in st, component i has the slot of number k of `slots`, and the parameters p
+pub record At (env : Env) (i : ℕ) (st : State) (slots : Bytes) (k : ℕ) (p : Rules.Params) : Type 0 where
+  pub lent : st .slots ≡ slots
+  pub number : slotNo env i st ≡ k
+  pub params : paramsOf env i st ≡ p
+
+-- where a source is set, found has the number of its slot
+abbrev pub SourceAt : Env → State → ℕ → List ℕ → Type 0
+SourceAt env st source found = 0 < source → slotNo env (source - 1) st ≡ getD found (source - 1) 0

@@ -1,0 +1,64 @@
+// The commands that look at the device or a slot, and change nothing.
+ghost use mathlib.Core.Path.{_≡_};
+ghost use Prim.Native.Nat.{ℕ, _+_, _≤_, _<_};
+ghost use lib.ListN.{length};
+ghost use Rattle.rules.specs.Answers.{endOf};
+ghost use Rattle.rules.specs.Bytes.{part, same};
+ghost use Rattle.rules.specs.Commands.{run};
+ghost use Rattle.rules.specs.Step as Step;
+ghost use Rattle.run_slots.specs.Slot.{Holds};
+ghost use Rattle.run_slots.specs.Params.{meaning};
+ghost use Rattle.run_commands.specs.Action.{Ends, At};
+use run_slots::bytes::same_parts;
+use run_slots::params::Params;
+use run_slots::slot::DIGEST;
+use run_slots::slot::SLOT_BYTES;
+use run_slots::slot::present;
+use run_slots::slot::size;
+
+// 1 and 2: pass on equal bytes.
+pub fn equal_sixteen(s: &[u8], at: usize, own: &[u8; 16]) -> usize
+    requires { ⌜ at + 16 ≤ length (now s) ⌝ }
+    ensures { λ r. ⌜ Ends r × ((st : Step.State) → Step.out (endOf r) st ≡ Step.passes (same (part (now (s .entry)) at 16) (now (own .entry))) st) ⌝ }
+{
+    if same_parts(s, at, own, 0, 16) {
+        return 0;
+    }
+    1
+}
+
+// 3, with the parameters p, for the slot of number k.
+pub fn matches(s: &[u8], p: Params, slots: &[u8], k: usize) -> usize
+    requires { ⌜ Holds (now slots) k × (0 < p .digest → p .digest + 32 ≤ length (now s)) ⌝ }
+    ensures { λ r. ⌜ Ends r × ((env : Step.Env) (i : ℕ) (st : Step.State) → At env i st (now (slots .entry)) k (meaning (now (s .entry)) p) → Step.out (endOf r) st ≡ Step.matches env i st) ⌝ }
+{
+    let digest = p.digest;
+    if digest == 0 {
+        return 32;
+    }
+    if !present(slots, k) {
+        return 1;
+    }
+    if !same_parts(slots, SLOT_BYTES * k + DIGEST, s, digest, 32) {
+        return 1;
+    }
+    let wanted = p.size;
+    if wanted == 0 {
+        return 0;
+    }
+    if wanted - 1 != size(slots, k) {
+        return 1;
+    }
+    0
+}
+
+// 23, for the slot of number k.
+pub fn runs(slots: &[u8], k: usize) -> usize
+    requires { ⌜ Holds (now slots) k ⌝ }
+    ensures { λ r. ⌜ Ends r × ((env : Step.Env) (i : ℕ) (st : Step.State) → st .slots ≡ now (slots .entry) → Step.slotNo env i st ≡ k → Step.out (endOf r) st ≡ Step.acts env run i st) ⌝ }
+{
+    if present(slots, k) {
+        return 2;
+    }
+    38
+}

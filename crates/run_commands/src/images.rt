@@ -1,0 +1,121 @@
+// The commands that fill slots.
+ghost use mathlib.Core.Path.{_≡_};
+ghost use Prim.Native.Nat.{ℕ, _+_, _%_, _≤_, _<_};
+ghost use lib.ListN.{length};
+ghost use Rattle.rules.specs.Answers.{endOf};
+ghost use Rattle.rules.specs.Bytes.{Bytes};
+ghost use Rattle.rules.specs.Step as Step;
+ghost use Rattle.run_slots.specs.Slot.{Holds};
+ghost use Rattle.run_slots.specs.Params.{meaning};
+ghost use Rattle.run_commands.specs.Action.{Ends, At, AllHold, SourceAt};
+use crate::Done;
+use byte_buffer::four;
+use run_slots::image::IMAGE_BYTES;
+use run_slots::image::image;
+use run_slots::image::put_image;
+use run_slots::image::take;
+use run_slots::params::Params;
+use run_slots::slot::capacity;
+use run_slots::slot::present;
+use run_slots::slot::size;
+
+// 21, with the parameters p, for the slot of number k.
+pub fn fetch(
+    p: Params,
+    answers: &[u8],
+    events: usize,
+    used: usize,
+    slots: &mut [u8],
+    k: usize,
+) -> Done
+    requires { ⌜ Holds (now slots) k × (length (now answers) % 37 ≡ 0) ⌝ }
+    ensures { λ r. ⌜ (r .events ≡ events) × Ends (r .stop) × ((s : Bytes) (env : Step.Env) (i : ℕ) (st : Step.State) → At env i st (now (slots .entry)) k (meaning s p) → env .answers ≡ now (answers .entry) → st .used ≡ used → Step.out (endOf (r .stop)) (Step.withUsed (Step.withSlots st (now (slots .exit))) (r .used)) ≡ Step.fetches env i st) ⌝ }
+{
+    let uri = p.uri;
+    if uri == 0 {
+        return Done {
+            events,
+            used,
+            stop: 32,
+        };
+    }
+    if answers.len() / IMAGE_BYTES <= used {
+        return Done {
+            events,
+            used,
+            stop: 34,
+        };
+    }
+    let at = IMAGE_BYTES * used;
+    let taken = used + 1;
+    if answers[at] != 0 {
+        return Done {
+            events,
+            used: taken,
+            stop: 35,
+        };
+    }
+    if capacity(slots, k) < four(answers, at + 1) {
+        return Done {
+            events,
+            used: taken,
+            stop: 36,
+        };
+    }
+    let mut answer = take(answers, at);
+    answer[0] = 1;
+    put_image(slots, k, answer);
+    Done {
+        events,
+        used: taken,
+        stop: 0,
+    }
+}
+
+// 22, with the parameters p, to the slot of number k.
+pub fn copy(p: Params, found: &[usize; 8], slots: &mut [u8], k: usize) -> usize
+    requires { ⌜ Holds (now slots) k × AllHold (now found) (now slots) × (p .source ≤ 8) ⌝ }
+    ensures { λ r. ⌜ Ends r × ((s : Bytes) (env : Step.Env) (i : ℕ) (st : Step.State) → At env i st (now (slots .entry)) k (meaning s p) → SourceAt env st (p .source) (now (found .entry)) → Step.out (endOf r) (Step.withSlots st (now (slots .exit))) ≡ Step.copies env i st) ⌝ }
+{
+    let source = p.source;
+    if source == 0 {
+        return 32;
+    }
+    let j = found[source - 1];
+    if !present(slots, j) {
+        return 37;
+    }
+    if capacity(slots, k) < size(slots, j) {
+        return 36;
+    }
+    put_image(slots, k, image(slots, j));
+    0
+}
+
+// 32, with the parameters p, between the slot of number k and the source's.
+pub fn swap(p: Params, found: &[usize; 8], slots: &mut [u8], k: usize) -> usize
+    requires { ⌜ Holds (now slots) k × AllHold (now found) (now slots) × (p .source ≤ 8) ⌝ }
+    ensures { λ r. ⌜ Ends r × ((s : Bytes) (env : Step.Env) (i : ℕ) (st : Step.State) → At env i st (now (slots .entry)) k (meaning s p) → SourceAt env st (p .source) (now (found .entry)) → Step.out (endOf r) (Step.withSlots st (now (slots .exit))) ≡ Step.swaps env i st) ⌝ }
+{
+    let source = p.source;
+    if source == 0 {
+        return 32;
+    }
+    let j = found[source - 1];
+    if !present(slots, k) {
+        return 37;
+    }
+    if !present(slots, j) {
+        return 37;
+    }
+    if capacity(slots, k) < size(slots, j) {
+        return 36;
+    }
+    if capacity(slots, j) < size(slots, k) {
+        return 36;
+    }
+    let own = image(slots, k);
+    put_image(slots, k, image(slots, j));
+    put_image(slots, j, own);
+    0
+}

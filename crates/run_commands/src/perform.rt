@@ -1,0 +1,117 @@
+// What each command that writes an event does, whether it stands in an envelope or in a program.
+ghost use mathlib.Core.Path.{_≡_};
+ghost use Prim.Native.Nat.{ℕ, _+_, _*_, _%_, _≤_, _<_};
+ghost use lib.ListN.{length, getD};
+ghost use Rattle.rules.specs.Bytes.{Bytes};
+ghost use Rattle.rules.specs.Step.{Env, acts, step};
+ghost use Rattle.run_slots.specs.Params.{Fit, FitAll};
+ghost use Rattle.run_commands.specs.Op.{opOf, IsCode};
+ghost use Rattle.run_commands.specs.Action.{Ends, AllHold};
+ghost use Rattle.run_commands.specs.Machine.{stateAt, outAt, Host};
+use crate::Done;
+use crate::conditions::equal_sixteen;
+use crate::conditions::matches;
+use crate::conditions::runs;
+use crate::event::put_event;
+use crate::images::copy;
+use crate::images::fetch;
+use crate::images::swap;
+use run_slots::params::Params;
+use run_slots::params::load;
+use run_slots::params::over;
+use run_slots::params::store;
+
+fn ended(stop: usize, events: usize, used: usize) -> Done
+    ensures { λ r. ⌜ r ≡ record { events = events; used = used; stop = stop } ⌝ }
+{
+    Done { events, used, stop }
+}
+
+// The command of that code at component i, whose slot has number k, its event aside.
+fn act(
+    s: &[u8],
+    code: usize,
+    value: usize,
+    given: Params,
+    i: usize,
+    k: usize,
+    vendor: &[u8; 16],
+    class: &[u8; 16],
+    found: &[usize; 8],
+    answers: &[u8],
+    slots: &mut [u8],
+    words: &mut [usize; 40],
+    events: usize,
+    used: usize,
+) -> Done
+    requires { ⌜ (i < 8) × (k ≡ getD (now found) i 0) × (code < 3 → value + 16 ≤ length (now s)) × AllHold (now found) (now slots) × FitAll (now s) 8 (now words) × (length (now answers) % 37 ≡ 0) × IsCode (now s) code value given ⌝ }
+    ensures { λ r. ⌜ (r .events ≡ events) × Ends (r .stop) × ((env : Env) (trace : Bytes) → Host env (now (vendor .entry)) (now (class .entry)) (now (answers .entry)) (now (found .entry)) (now (slots .entry)) → i < length (env .ids) → FitAll (now (s .entry)) (length (env .ids)) (now (words .entry)) → outAt (now (s .entry)) (length (env .ids)) (now (words .exit)) (now (slots .exit)) trace r ≡ acts env (opOf (now (s .entry)) code value given) i (stateAt (now (s .entry)) (length (env .ids)) (now (words .entry)) (now (slots .entry)) trace events used)) × ((n : ℕ) → FitAll (now (s .entry)) n (now (words .entry)) → Fit (now (s .entry)) n given → FitAll (now (s .entry)) n (now (words .exit))) ⌝ }
+{
+    let p = load(words, i);
+    match code {
+        1 => ended(equal_sixteen(s, value, vendor), events, used),
+        2 => ended(equal_sixteen(s, value, class), events, used),
+        3 => ended(matches(s, p, slots, k), events, used),
+        12 => ended(0, events, used),
+        14 => ended(33, events, used),
+        19 => {
+            store(words, i, over(p, given));
+            ended(0, events, used)
+        }
+        20 => {
+            store(words, i, over(given, p));
+            ended(0, events, used)
+        }
+        21 => fetch(p, answers, events, used, slots, k),
+        22 => ended(copy(p, found, slots, k), events, used),
+        23 => ended(runs(slots, k), events, used),
+        _ => ended(swap(p, found, slots, k), events, used),
+    }
+}
+
+// The command of that code at component i, and its event.
+pub fn perform(
+    s: &[u8],
+    code: usize,
+    value: usize,
+    given: Params,
+    i: usize,
+    place: usize,
+    vendor: &[u8; 16],
+    class: &[u8; 16],
+    found: &[usize; 8],
+    answers: &[u8],
+    slots: &mut [u8],
+    words: &mut [usize; 40],
+    trace: &mut [u8],
+    events: usize,
+    used: usize,
+) -> Done
+    requires { ⌜ (i < 8) × (code < 3 → value + 16 ≤ length (now s)) × AllHold (now found) (now slots) × FitAll (now s) 8 (now words) × (length (now answers) % 37 ≡ 0) × IsCode (now s) code value given × (8 * events + 8 ≤ length (now trace)) ⌝ }
+    ensures { λ r. ⌜ (r .events ≡ events + 1) × Ends (r .stop) × ((env : Env) → Host env (now (vendor .entry)) (now (class .entry)) (now (answers .entry)) (now (found .entry)) (now (slots .entry)) → i < length (env .ids) → FitAll (now (s .entry)) (length (env .ids)) (now (words .entry)) → outAt (now (s .entry)) (length (env .ids)) (now (words .exit)) (now (slots .exit)) (now (trace .exit)) r ≡ step env (opOf (now (s .entry)) code value given) i place (stateAt (now (s .entry)) (length (env .ids)) (now (words .entry)) (now (slots .entry)) (now (trace .entry)) events used)) × ((n : ℕ) → FitAll (now (s .entry)) n (now (words .entry)) → Fit (now (s .entry)) n given → FitAll (now (s .entry)) n (now (words .exit))) ⌝ }
+{
+    let k = found[i];
+    let d = act(
+        s,
+        code,
+        value,
+        given,
+        i,
+        k,
+        vendor,
+        class,
+        found,
+        answers,
+        slots,
+        words,
+        events,
+        used,
+    );
+    let stop = d.stop;
+    put_event(trace, events, code, i, place, stop);
+    Done {
+        events: events + 1,
+        used: d.used,
+        stop,
+    }
+}

@@ -1,0 +1,92 @@
+-- The answer of a run, by the rule.
+use Prim.Native.Nat.{ℕ, _*_, _≤_, _<_}
+use mathlib.Core.Path.{_≡_, ap, _∙_}
+use mathlib.Core.List.{List}
+use native.Mathlib.Omega.{arith}
+use lib.ListN.{length, replicate, length-map}
+use Rattle.rules.specs.declared.answers.Group.{Group}
+use Rattle.rules.specs.declared.answers.Refusal.{Refusal}
+use Rattle.rules.specs.Answers.{refusalOf, endOf}
+use Rattle.rules.specs.Bytes.{Bytes, bytesAt}
+use Rattle.rules.specs.Got.{refused}
+use Rattle.rules.specs.Manifest.{names}
+use Rattle.rules.specs.Check.{check}
+use Rattle.rules.specs.Run.{Input, runAll, planOf, admit, numberAfter, report, startState, envOf, runOf, runEnvelope}
+use Rattle.rules_theorems.proofs.Effects.{envelope-effects}
+use Rattle.check_envelope.specs.declared.report.Checked.the-variants as The
+use Rattle.check_envelope.specs.declared.report.Report.{Report}
+use Rattle.check_envelope.specs.Report.{reportOf}
+use Rattle.run_admission.specs.declared.answer.Answer.the-variants.{Refused, Ran}
+use Rattle.run_admission.specs.declared.answer.Ending.{Ending}
+use Rattle.run_sequence.specs.declared.Run.{Run}
+use Rattle.run_slots.specs.Slot.{namesAt, Found}
+use Rattle.run_admission.specs.Answer.{stopOf, endingOf, Settles}
+use Rattle.run_sequence.specs.Cycle.{outOf}
+use Rattle.run_envelope.specs.Sections.{SectionsJob, SectionsRan}
+use Rattle.manifest_accessors.specs.Accepted.{Accepted}
+use Rattle.manifest_accessors.proofs.AcceptedLaws.{known, named, refused-by}
+use Rattle.run_admission.proofs.FrameLaws.{trace-room, lent-start, state-start, settles-refused}
+use Rattle.run_admission.proofs.FrameLaws as Frame
+
+module _ (s : Bytes) (number n : ℕ) (ids sections : List ℕ) (a : Accepted s number n ids sections) where
+  module _ (group : Group) (x : Input) (refusal : ℕ) (e : refusal ≡ stopOf (admit group number (namesAt s ids n) x)) where
+    stops : refusal ≡ stopOf (admit group (a .manifest .number) (names s (a .manifest)) x)
+    stops = rw (← a .numbered, ← named s number n ids sections a) e
+
+    is-run : runEnvelope s group x ≡ runOf group (a .manifest .number) (names s (a .manifest)) (λ env st. runAll env (planOf group (a .manifest)) st) x
+    unfolding runEnvelope
+    is-run = rw (a .checks)
+
+    pub refused-answer : (refusal ≡ 0 → ⊥) → (r : Refusal) → r ≡ refusalOf refusal →
+        Settles (x .device) (runEnvelope s group x) (record { answer = Refused r 0; number = x .device .number }) (x .slots) (x .slots) (x .trace) (x .trace)
+    refused-answer = Frame.refused-answer group (a .manifest .number) (names s (a .manifest)) x _ (runEnvelope s group x) is-run refusal stops
+
+    module _ (z : refusal ≡ 0) (found : List ℕ) (f : Found (namesAt s ids n) (x .slots) (replicate 8 0) found) where
+      unfoldable whole : SectionsJob s sections (x .device .vendor) (x .device .class) found (x .answers) (x .slots) (replicate 40 0) (x .trace)
+      whole =
+          record {
+            manifest = a .manifest;
+            checks = a .checks;
+            places = a .places;
+            ready =
+                record {
+                  env = envOf (names s (a .manifest)) x;
+                  lent = lent-start group (a .manifest .number) (names s (a .manifest)) x refusal stops z (known s number n ids sections a .some-ids .1) found (rw (named s number n ids sections a) at f) s;
+                  inside = known s number n ids sections a .some-ids .0;
+                };
+            among = length-map (a .manifest .ids) (bytesAt s);
+          }
+
+      pub job : SectionsJob s sections (x .device .vendor) (x .device .class) found (x .answers) (x .slots) (replicate 40 0) (x .trace)
+      job = whole
+
+      module _ (r : Run) (slots′ : Bytes) (words′ : List ℕ) (trace′ : Bytes)
+          (d : (j : SectionsJob s sections (x .device .vendor) (x .device .class) found (x .answers) (x .slots) (replicate 40 0) (x .trace)) →
+          SectionsRan s (j .ready .env) (planOf group (j .manifest)) (x .slots) (replicate 40 0) (x .trace) r slots′ words′ trace′) where
+        ran : SectionsRan s (envOf (names s (a .manifest)) x) (planOf group (a .manifest)) (x .slots) (replicate 40 0) (x .trace) r slots′ words′ trace′
+        unfolding whole
+        ran = d whole
+
+        goes : outOf s (length (names s (a .manifest))) words′ slots′ trace′ r ≡ runAll (envOf (names s (a .manifest)) x) (planOf group (a .manifest)) (startState (names s (a .manifest)) x)
+        goes = ran .goes ∙ ap (runAll (envOf (names s (a .manifest)) x) (planOf group (a .manifest))) (state-start s (names s (a .manifest)) x)
+
+        pub last-event : (0 < r .stop → 0 < r .events) × (8 * r .events ≤ length trace′)
+        unfolding report
+        last-event =
+            let f = envelope-effects s group (a .manifest) x _ (a .checks) (Frame.run-as group (a .manifest .number) (names s (a .manifest)) x _ (runEnvelope s group x) is-run refusal stops z (r .stop) (r .events) (r .used) _ slots′ trace′ goes) in
+            (ran .late, omega (arith, f .fits, f .trace-length, trace-room group (a .manifest .number) (names s (a .manifest)) x refusal stops z))
+
+        pub answered : (ending : Ending) (after : ℕ) → ending ≡ endingOf (r .stop) (r .events) (r .used) trace′ → after ≡ numberAfter group (endOf (r .stop)) number (x .device .number) →
+            Settles (x .device) (runEnvelope s group x) (record { answer = Ran ending; number = after }) (x .slots) slots′ (x .trace) trace′
+        answered ending after p q =
+            Frame.answered group (a .manifest .number) (names s (a .manifest)) x _ (runEnvelope s group x) is-run refusal stops z (r .stop) (r .events) (r .used) _ slots′ trace′ goes ending after p
+            (rw (← a .numbered) q)
+
+module _ (s : Bytes) (r : Report) (e : r ≡ reportOf (check s)) (k : Refusal) (p : ℕ) (h : r .answer ≡ The.Refused k p) where
+  not-run : (group : Group) (x : Input) → runEnvelope s group x ≡ refused k p
+  unfolding runEnvelope
+  not-run group x = rw (refused-by s r e k p h)
+
+  pub refused-check : (group : Group) (x : Input) →
+      Settles (x .device) (runEnvelope s group x) (record { answer = Refused k p; number = x .device .number }) (x .slots) (x .slots) (x .trace) (x .trace)
+  refused-check group x = settles-refused x (runEnvelope s group x) k p (not-run group x)

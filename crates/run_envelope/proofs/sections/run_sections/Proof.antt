@@ -1,0 +1,76 @@
+use mathlib.Core.Path.{_≡_, refl}
+use Prim.Native.Nat.{_-_}
+use lib.ListN.{length}
+use native.Mathlib.Omega.{arith}
+use borrow.Author.Needs.{needs}
+use Rattle.rules.specs.Run.{planOf}
+use Rattle.run_envelope.specs.Sections.{SectionsJob}
+use Rattle.run_envelope.proofs.SectionsLaws.{Left, left-start, turn-job, turn-stops, turn-goes, all-done}
+use Rattle.run_envelope.proofs.sections.run_sections.Statement.{statement}
+use Rattle.run_envelope.proofs.sections.run_sections.Tie as tie
+
+abbrev Inv-loop : tie.InvT-loop
+Inv-loop s group sections vendor class found answers slots₀ words₀ trace₀ now₀ k₀ slots words trace now k =
+    (length slots ≡ length slots₀) × (length trace ≡ length trace₀)
+    × ((j : SectionsJob s sections vendor class found answers slots₀ words₀ trace₀) →
+    Left s vendor class found answers group sections (j .ready .env) (planOf group (j .manifest)) slots₀ words₀ trace₀ slots words trace now k)
+
+abbrev μ-loop : tie.MeasureT-loop
+μ-loop s group sections vendor class found answers slots₀ words₀ trace₀ now₀ k₀ slots words trace now k = 6 - k
+
+start : tie.Need-loop-holds Inv-loop μ-loop
+start c = (refl, refl, λ j. left-start _ _ _ _ _ _ _ _ _ _ j)
+
+section-requires : tie.Need-run-section-requires Inv-loop μ-loop
+section-requires c κs w =
+    turn-job _ _ _ _ _ _ _ _ _ _ _ _ _ _ _ _ _
+    (c .before .before .before .before .before .before .before .loop .inv .2 (c .before .before .before .before .before .before .before .before .before .before .before .before .pre))
+    (c .before .before .before .before .before .before .loop-test .taken) _ (c .before .before .before .wanted .ensures) w
+
+stops : tie.Need-returns Inv-loop μ-loop
+stops c j =
+    turn-stops _ _ _ _ _ _ _ _ _ _ _ _ _ _ _ _ _
+    (c .before .before .before .before .before .before .before .before .before .before .before .before .before .loop .inv .2 j)
+    (c .before .before .before .before .before .before .before .before .before .before .before .before .loop-test .taken) _ (c .before .before .before .before .before .before .before .before .before .wanted .ensures)
+    _ _ _ _ (c .before .before .before .before .before .run-section .ensures .0) (c .before .before .before .before .before .run-section .ensures .1)
+    (c .if1 .taken)
+
+again : tie.Need-loop-again Inv-loop μ-loop
+again c = (
+  search needs,
+  search needs,
+  λ j. turn-goes _ _ _ _ _ _ _ _ _ _ _ _ _ _ _ _ _
+      (c .before .before .before .before .before .before .before .before .before .before .before .before .before .loop .inv .2 j)
+      (c .before .before .before .before .before .before .before .before .before .before .before .before .loop-test .taken) _ (c .before .before .before .before .before .before .before .before .before .wanted .ensures)
+      _ _ _ _ (c .before .before .before .before .before .run-section .ensures .0) (c .before .before .before .before .before .run-section .ensures .1)
+      (c .if1 .left),
+)
+
+done : tie.Need-returns-2 Inv-loop μ-loop
+done c j = all-done _ _ _ _ _ _ _ _ _ _ _ _ _ _ _ _ _ (c .before .loop .inv .2 j) (c .loop-test .left)
+
+pub run-sections-spec : {M : Type 1} → statement M
+run-sections-spec =
+    tie.close
+    (tie.spec
+    Inv-loop
+    μ-loop
+    start
+    (λ c. search needs)
+    (λ c. search needs)
+    (λ c. search needs)
+    (λ c. search needs)
+    (λ c. search needs)
+    (λ c. search needs)
+    (λ c. search needs)
+    (λ c κs. search needs)
+    section-requires
+    (λ c. search needs)
+    (λ c. search needs)
+    stops
+    (λ c. search needs)
+    (λ c. omega arith)
+    again
+    (λ c. search needs)
+    (λ c. search needs)
+    done)

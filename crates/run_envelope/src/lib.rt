@@ -1,0 +1,116 @@
+// A run: the envelope is checked, the run is admitted, and the sections of the group are run.
+ghost use mathlib.Core.Path.{_≡_};
+ghost use Prim.Native.Nat.{_-_};
+ghost use Rattle.rules.specs.Run.{runEnvelope};
+ghost use Rattle.run_admission.specs.Answer.{inputOf, Settles};
+ghost use Rattle.manifest_accessors.specs.Accepted.{Accepted};
+use check_envelope::check;
+use check_envelope::report::Checked;
+use rules::answers::Group;
+use rules::answers::Refusal;
+use rules::controller::Controller;
+use run_admission::admit::admit;
+use run_admission::answer::Answer;
+use run_admission::answer::Outcome;
+use run_admission::ending::ended;
+use run_admission::ending::taken;
+use sections::run_sections;
+
+pub mod sections;
+
+// The run of an envelope that check has accepted, by what check reported.
+fn run_checked(
+    s: &[u8],
+    group: Group,
+    number: usize,
+    n: usize,
+    ids: &[usize; 16],
+    sections: &[usize; 12],
+    verdict: bool,
+    device: Controller,
+    slots: &mut [u8],
+    answers: &[u8],
+    trace: &mut [u8],
+) -> Outcome
+    requires { ⌜ Accepted (now s) number n (now ids) (now sections) ⌝ }
+    ensures { λ r. ⌜ Settles device (runEnvelope (now (s .entry)) group (inputOf verdict device (now (slots .entry)) (now (answers .entry)) (now (trace .entry)))) r (now (slots .entry)) (now (slots .exit)) (now (trace .entry)) (now (trace .exit)) ⌝ }
+{
+    let mut found = [0usize; 8];
+    let refusal = admit(
+        s,
+        group,
+        number,
+        ids,
+        n,
+        verdict,
+        device,
+        slots,
+        answers,
+        trace,
+        &mut found,
+    );
+    if refusal != 0 {
+        return Outcome {
+            answer: Answer::Refused(Refusal::of(refusal), 0),
+            number: device.number,
+        };
+    }
+    let vendor = device.vendor;
+    let class = device.class;
+    let mut words = [0usize; 40];
+    let done = run_sections(
+        s,
+        group,
+        sections,
+        &vendor,
+        &class,
+        &found,
+        answers,
+        slots,
+        &mut words,
+        trace,
+    );
+    Outcome {
+        answer: Answer::Ran(ended(done.stop, done.events, done.used, trace)),
+        number: taken(group, done.stop, number as u32, device.number),
+    }
+}
+
+// Runs the envelope s for a group; `verdict`: its signature was verified. On a refusal slots and trace are as lent.
+pub fn run(
+    s: &[u8],
+    group: Group,
+    verdict: bool,
+    device: Controller,
+    slots: &mut [u8],
+    answers: &[u8],
+    trace: &mut [u8],
+) -> Outcome
+    ensures { λ r. ⌜ Settles device (runEnvelope (now (s .entry)) group (inputOf verdict device (now (slots .entry)) (now (answers .entry)) (now (trace .entry)))) r (now (slots .entry)) (now (slots .exit)) (now (trace .entry)) (now (trace .exit)) ⌝ }
+{
+    let report = check(s);
+    let answer = report.answer;
+    match answer {
+        Checked::Refused(refusal, at) => Outcome {
+            answer: Answer::Refused(refusal, at),
+            number: device.number,
+        },
+        Checked::Accepted => {
+            let ids = report.ids;
+            let sections = report.sections;
+            run_checked(
+                s,
+                group,
+                report.number,
+                report.components,
+                &ids,
+                &sections,
+                verdict,
+                device,
+                slots,
+                answers,
+                trace,
+            )
+        }
+    }
+}

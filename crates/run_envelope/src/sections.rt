@@ -1,0 +1,103 @@
+// The sections of a group, one after the other.
+ghost use mathlib.Core.Path.{_≡_};
+ghost use mathlib.Core.Bool.{true, false};
+ghost use Rattle.rules.specs.Run.{planOf};
+ghost use Rattle.run_sequence.specs.Cycle.{SequenceJob, SequenceRan};
+ghost use Rattle.run_envelope.specs.Sections.{startOf, SectionsJob, SectionsRan};
+use manifest_accessors::sections::wanted;
+use rules::answers::Group;
+use rules::controller::Controller;
+use run_sequence::Run;
+use run_sequence::run_sequence;
+
+// The sequence at `from`, after what `run` has done; nothing where it is not wanted.
+fn run_section(
+    s: &[u8],
+    wanted: bool,
+    from: usize,
+    run: Run,
+    vendor: &[u8; 16],
+    class: &[u8; 16],
+    found: &[usize; 8],
+    answers: &[u8],
+    slots: &mut [u8],
+    words: &mut [usize; 40],
+    trace: &mut [u8],
+) -> Run
+    requires { ⌜ (wanted ≡ true → SequenceJob (now s) 4 (startOf from run) (now vendor) (now class) (now found) (now answers) (now slots) (now words) (now trace)) ⌝ }
+    ensures { λ r. ⌜ (wanted ≡ true → (j : SequenceJob (now (s .entry)) 4 (startOf from run) (now (vendor .entry)) (now (class .entry)) (now (found .entry)) (now (answers .entry)) (now (slots .entry)) (now (words .entry)) (now (trace .entry))) → SequenceRan (now (s .entry)) (j .ready .env) (j .place .seq) false (startOf from run) (now (slots .entry)) (now (words .entry)) (now (trace .entry)) r (now (slots .exit)) (now (words .exit)) (now (trace .exit))) × (wanted ≡ false → (r ≡ run) × (now (slots .exit) ≡ now (slots .entry)) × (now (words .exit) ≡ now (words .entry)) × (now (trace .exit) ≡ now (trace .entry))) ⌝ }
+{
+    if !wanted {
+        return run;
+    }
+    run_sequence(
+        s,
+        Controller::DEPTH,
+        false,
+        Run {
+            next: from,
+            index: 0,
+            coerce: 1,
+            events: run.events,
+            used: run.used,
+            stop: 0,
+        },
+        vendor,
+        class,
+        found,
+        answers,
+        slots,
+        words,
+        trace,
+    )
+}
+
+// The sections of the group, from the places that check reported, until one does not finish.
+pub fn run_sections(
+    s: &[u8],
+    group: Group,
+    sections: &[usize; 12],
+    vendor: &[u8; 16],
+    class: &[u8; 16],
+    found: &[usize; 8],
+    answers: &[u8],
+    slots: &mut [u8],
+    words: &mut [usize; 40],
+    trace: &mut [u8],
+) -> Run
+    requires { ⌜ SectionsJob (now s) (now sections) (now vendor) (now class) (now found) (now answers) (now slots) (now words) (now trace) ⌝ }
+    ensures { λ r. ⌜ ((j : SectionsJob (now (s .entry)) (now (sections .entry)) (now (vendor .entry)) (now (class .entry)) (now (found .entry)) (now (answers .entry)) (now (slots .entry)) (now (words .entry)) (now (trace .entry))) → SectionsRan (now (s .entry)) (j .ready .env) (planOf group (j .manifest)) (now (slots .entry)) (now (words .entry)) (now (trace .entry)) r (now (slots .exit)) (now (words .exit)) (now (trace .exit))) ⌝ }
+{
+    let mut now = Run {
+        next: 0,
+        index: 0,
+        coerce: 1,
+        events: 0,
+        used: 0,
+        stop: 0,
+    };
+    let mut k = 0;
+    while k < 6 {
+        let from = sections[2 * k];
+        let to = sections[2 * k + 1];
+        now = run_section(
+            s,
+            wanted(group, k, to),
+            from,
+            now,
+            vendor,
+            class,
+            found,
+            answers,
+            slots,
+            words,
+            trace,
+        );
+        let stop = now.stop;
+        if stop != 0 {
+            return now;
+        }
+        k += 1;
+    }
+    now
+}

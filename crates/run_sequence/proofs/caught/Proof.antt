@@ -1,0 +1,18 @@
+use borrow.Author.Tests.{eq-eqb, ne-eqb}
+use Rattle.run_sequence.proofs.caught.Statement.{statement}
+use Rattle.run_sequence.proofs.caught.Tie as tie
+
+returns : tie.Need-returns
+returns c = rw (c .before .before .if1 .taken, eq-eqb _ _ (c .before .if2 .taken), eq-eqb _ _ (c .if3 .taken))
+
+returns-2 : tie.Need-returns-2
+returns-2 c = rw (c .before .before .if1 .taken, eq-eqb _ _ (c .before .if2 .taken), ne-eqb _ _ (c .if3 .left))
+
+returns-3 : tie.Need-returns-3
+returns-3 c = rw (c .before .if1 .taken, ne-eqb _ _ (c .if2 .left))
+
+returns-4 : tie.Need-returns-4
+returns-4 c = rw (c .if1 .left)
+
+pub caught-spec : {M : Type 1} → statement M
+caught-spec = tie.close (tie.spec returns returns-2 returns-3 returns-4)

@@ -1,0 +1,274 @@
+// The run of sequences and commands: sequences hold commands and commands hold sequences.
+ghost use mathlib.Core.Path.{_≡_};
+ghost use mathlib.Core.Bool.{cond};
+ghost use lib.Dec.{eqb};
+ghost use Rattle.rules.specs.Manifest.{one};
+ghost use Rattle.run_sequence.specs.Cycle.{LeafJob, CommandJob, SequenceJob, CommandRan, SequenceRan, caughtBy};
+use manifest_accessors::arguments::read_one;
+use manifest_accessors::heads::open;
+use manifest_accessors::heads::skip;
+use run_commands::perform::perform;
+use run_slots::params::Params;
+use run_slots::params::either;
+
+// Where the next command is, the index and coerce of the sequence (1 false, 2 true), events written, answers used, and
+// the number of the end of what was done last, 0 to go on.
+pub struct Run {
+    pub next: usize,
+    pub index: usize,
+    pub coerce: usize,
+    pub events: usize,
+    pub used: usize,
+    pub stop: usize,
+}
+
+// The component of the command of that code: for 12 its value, the new index.
+fn component(code: usize, value: usize, index: usize) -> usize
+    ensures { λ r. ⌜ r ≡ cond (eqb code 12) value index ⌝ }
+{
+    if code == 12 {
+        return value;
+    }
+    index
+}
+
+// The command at run.next, which holds no sequence; its code stands before `at`.
+fn leaf(
+    s: &[u8],
+    code: usize,
+    at: usize,
+    run: Run,
+    vendor: &[u8; 16],
+    class: &[u8; 16],
+    found: &[usize; 8],
+    answers: &[u8],
+    slots: &mut [u8],
+    words: &mut [usize; 40],
+    trace: &mut [u8],
+) -> Run
+    requires { ⌜ LeafJob (now s) code at run (now vendor) (now class) (now found) (now answers) (now slots) (now words) (now trace) ⌝ }
+    ensures { λ r. ⌜ ((j : LeafJob (now (s .entry)) code at run (now (vendor .entry)) (now (class .entry)) (now (found .entry)) (now (answers .entry)) (now (slots .entry)) (now (words .entry)) (now (trace .entry))) → CommandRan (now (s .entry)) (j .ready .env) (one (run .next) (j .argument .op) (j .argument .coerce)) (j .argument .to) run (now (slots .entry)) (now (words .entry)) (now (trace .entry)) r (now (slots .exit)) (now (words .exit)) (now (trace .exit))) ⌝ }
+{
+    let a = read_one(s, code, at);
+    let index = component(code, a.value, run.index);
+    let given = Params {
+        uri: a.uri,
+        length: a.length,
+        source: a.source,
+        digest: a.digest,
+        size: a.size,
+    };
+    let d = perform(
+        s,
+        code,
+        a.value,
+        given,
+        index,
+        run.next,
+        vendor,
+        class,
+        found,
+        answers,
+        slots,
+        words,
+        trace,
+        run.events,
+        run.used,
+    );
+    Run {
+        next: a.next,
+        index,
+        coerce: either(a.coerce, a.coerce, run.coerce),
+        events: d.events,
+        used: d.used,
+        stop: d.stop,
+    }
+}
+
+// The run at the start of the sequence at `at`, with what `now` has done.
+fn enter(run: Run, at: usize, now: Run) -> Run
+    ensures { λ r. ⌜ r ≡ record { next = at; index = run .index; coerce = run .coerce; events = now .events; used = now .used; stop = 0 } ⌝ }
+{
+    Run {
+        next: at,
+        index: run.index,
+        coerce: run.coerce,
+        events: now.events,
+        used: now.used,
+        stop: 0,
+    }
+}
+
+// The run after a command that held sequences: its caller's index and coerce, with what `now` has done.
+fn leave(caller: Run, at: usize, now: Run) -> Run
+    ensures { λ r. ⌜ r ≡ record { next = at; index = caller .index; coerce = caller .coerce; events = now .events; used = now .used; stop = now .stop } ⌝ }
+{
+    Run {
+        next: at,
+        index: caller.index,
+        coerce: caller.coerce,
+        events: now.events,
+        used: now.used,
+        stop: now.stop,
+    }
+}
+
+// The run after a try each of which no alternative succeeded.
+fn all_failed(outer: Run, at: usize, now: Run) -> Run
+    ensures { λ r. ⌜ r ≡ record { next = at; index = outer .index; coerce = outer .coerce; events = now .events; used = now .used; stop = 1 } ⌝ }
+{
+    Run {
+        next: at,
+        index: outer.index,
+        coerce: outer.coerce,
+        events: now.events,
+        used: now.used,
+        stop: 1,
+    }
+}
+
+// The sequence at run.next. `own`: code 30 runs it, so that its coerce makes a failed condition a success.
+pub fn run_sequence(
+    s: &[u8],
+    depth: usize,
+    own: bool,
+    run: Run,
+    vendor: &[u8; 16],
+    class: &[u8; 16],
+    found: &[usize; 8],
+    answers: &[u8],
+    slots: &mut [u8],
+    words: &mut [usize; 40],
+    trace: &mut [u8],
+) -> Run
+    requires { ⌜ SequenceJob (now s) depth run (now vendor) (now class) (now found) (now answers) (now slots) (now words) (now trace) ⌝ }
+    ensures { λ r. ⌜ ((j : SequenceJob (now (s .entry)) depth run (now (vendor .entry)) (now (class .entry)) (now (found .entry)) (now (answers .entry)) (now (slots .entry)) (now (words .entry)) (now (trace .entry))) → SequenceRan (now (s .entry)) (j .ready .env) (j .place .seq) own run (now (slots .entry)) (now (words .entry)) (now (trace .entry)) r (now (slots .exit)) (now (words .exit)) (now (trace .exit))) ⌝ }
+{
+    let h = open(s, run.next);
+    let mut left = h.value / 2;
+    let mut now = Run {
+        next: h.next,
+        index: run.index,
+        coerce: 1,
+        events: run.events,
+        used: run.used,
+        stop: 0,
+    };
+    while 0 < left {
+        let coerce = now.coerce;
+        now = run_command(
+            s,
+            depth - 1,
+            now,
+            vendor,
+            class,
+            found,
+            answers,
+            slots,
+            words,
+            trace,
+        );
+        let stop = now.stop;
+        if stop != 0 {
+            return caught(now, own, coerce);
+        }
+        left -= 1;
+    }
+    now
+}
+
+// Where a condition failed in a sequence that code 30 runs and coerce is true, a success.
+fn caught(run: Run, own: bool, coerce: usize) -> Run
+    ensures { λ r. ⌜ r ≡ caughtBy own coerce run ⌝ }
+{
+    let stop = run.stop;
+    if own {
+        if coerce == 2 {
+            if stop == 1 {
+                let mut r = run;
+                r.stop = 0;
+                return r;
+            }
+        }
+    }
+    run
+}
+
+// The command at run.next; the sequences that it holds may be `depth` deep.
+pub fn run_command(
+    s: &[u8],
+    depth: usize,
+    run: Run,
+    vendor: &[u8; 16],
+    class: &[u8; 16],
+    found: &[usize; 8],
+    answers: &[u8],
+    slots: &mut [u8],
+    words: &mut [usize; 40],
+    trace: &mut [u8],
+) -> Run
+    requires { ⌜ CommandJob (now s) depth run (now vendor) (now class) (now found) (now answers) (now slots) (now words) (now trace) ⌝ }
+    ensures { λ r. ⌜ ((j : CommandJob (now (s .entry)) depth run (now (vendor .entry)) (now (class .entry)) (now (found .entry)) (now (answers .entry)) (now (slots .entry)) (now (words .entry)) (now (trace .entry))) → CommandRan (now (s .entry)) (j .ready .env) (j .place .cmd) (j .place .to) run (now (slots .entry)) (now (words .entry)) (now (trace .entry)) r (now (slots .exit)) (now (words .exit)) (now (trace .exit))) ⌝ }
+{
+    let c = open(s, run.next);
+    let code = c.value;
+    if code == 30 {
+        let b = open(s, c.next);
+        let inner = run_sequence(
+            s,
+            depth,
+            true,
+            enter(run, b.next, run),
+            vendor,
+            class,
+            found,
+            answers,
+            slots,
+            words,
+            trace,
+        );
+        return leave(run, b.next + b.value, inner);
+    }
+    if code == 15 {
+        let h = open(s, c.next);
+        let mut p = h.next;
+        let mut left = h.value;
+        let mut now = run;
+        while 0 < left {
+            let b = open(s, p);
+            now = run_sequence(
+                s,
+                depth,
+                false,
+                enter(run, b.next, now),
+                vendor,
+                class,
+                found,
+                answers,
+                slots,
+                words,
+                trace,
+            );
+            p = b.next + b.value;
+            left -= 1;
+            let stop = now.stop;
+            if stop != 1 {
+                return leave(run, skip(s, left, p), now);
+            }
+        }
+        return all_failed(run, p, now);
+    }
+    leaf(
+        s,
+        code,
+        c.next,
+        run,
+        vendor,
+        class,
+        found,
+        answers,
+        slots,
+        words,
+        trace,
+    )
+}

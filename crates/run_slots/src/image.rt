@@ -1,0 +1,45 @@
+// The image of a slot: present, size and digest, laid out as an answer of the host.
+ghost use mathlib.Core.Path.{_≡_};
+ghost use Prim.Native.Nat.{_+_, _*_, _≤_};
+ghost use lib.ListN.{length};
+ghost use Rattle.rules.specs.Bytes.{part};
+ghost use Rattle.rules.specs.Slots.{imageAt, putImage};
+ghost use Rattle.run_slots.specs.Slot.{Holds};
+use crate::slot::IMAGE;
+use crate::slot::SLOT_BYTES;
+
+pub const IMAGE_BYTES: usize = 37;
+
+// The 37 bytes at `at`.
+pub fn take(b: &[u8], at: usize) -> [u8; 37]
+    requires { ⌜ at + 37 ≤ length (now b) ⌝ }
+    ensures { λ r. ⌜ r ≡ part (now (b .entry)) at 37 ⌝ }
+{
+    let mut image = [0u8; 37];
+    let mut k = 0;
+    while k < IMAGE_BYTES {
+        image[k] = b[at + k];
+        k += 1;
+    }
+    image
+}
+
+pub fn image(slots: &[u8], k: usize) -> [u8; 37]
+    requires { ⌜ Holds (now slots) k ⌝ }
+    ensures { λ r. ⌜ r ≡ imageAt (now (slots .entry)) k ⌝ }
+{
+    take(slots, SLOT_BYTES * k + IMAGE)
+}
+
+// Puts the image into the slot of number k.
+pub fn put_image(slots: &mut [u8], k: usize, image: [u8; 37])
+    requires { ⌜ Holds (now slots) k ⌝ }
+    ensures { λ _. ⌜ now (slots .exit) ≡ putImage (now (slots .entry)) k image ⌝ }
+{
+    let at = SLOT_BYTES * k + IMAGE;
+    let mut i = 0;
+    while i < IMAGE_BYTES {
+        slots[at + i] = image[i];
+        i += 1;
+    }
+}

@@ -1,0 +1,67 @@
+// The parameters of components, as numbers in lent memory: a string as its place in the bytes that the commands stand in.
+ghost use mathlib.Core.Path.{_≡_};
+ghost use Prim.Native.Nat.{_+_, _*_, _≤_, _<_};
+ghost use mathlib.Core.Bool.{cond};
+ghost use lib.Dec.{eqb};
+ghost use lib.ListN.{length};
+ghost use Rattle.run_slots.specs.Params.{wordsAt, stored, overWords};
+
+// 0 is unset: where the URI and the digest start, and one more than the source and the size.
+pub struct Params {
+    pub uri: usize,
+    pub length: usize,
+    pub source: usize,
+    pub digest: usize,
+    pub size: usize,
+}
+
+const WORDS: usize = 5;
+
+pub fn load(words: &[usize; 40], i: usize) -> Params
+    requires { ⌜ i < 8 ⌝ }
+    ensures { λ r. ⌜ r ≡ wordsAt (now (words .entry)) i ⌝ }
+{
+    let at = WORDS * i;
+    Params {
+        uri: words[at],
+        length: words[at + 1],
+        source: words[at + 2],
+        digest: words[at + 3],
+        size: words[at + 4],
+    }
+}
+
+pub fn store(words: &mut [usize], i: usize, p: Params)
+    requires { ⌜ 5 * i + 5 ≤ length (now words) ⌝ }
+    ensures { λ _. ⌜ now (words .exit) ≡ stored (now (words .entry)) i p ⌝ }
+{
+    let at = WORDS * i;
+    words[at] = p.uri;
+    words[at + 1] = p.length;
+    words[at + 2] = p.source;
+    words[at + 3] = p.digest;
+    words[at + 4] = p.size;
+}
+
+// x where `test` is set, else y.
+pub fn either(test: usize, x: usize, y: usize) -> usize
+    ensures { λ r. ⌜ r ≡ cond (eqb test 0) y x ⌝ }
+{
+    if test == 0 {
+        return y;
+    }
+    x
+}
+
+// Those of a, and those of b that a leaves unset.
+pub fn over(a: Params, b: Params) -> Params
+    ensures { λ r. ⌜ r ≡ overWords a b ⌝ }
+{
+    Params {
+        uri: either(a.uri, a.uri, b.uri),
+        length: either(a.uri, a.length, b.length),
+        source: either(a.source, a.source, b.source),
+        digest: either(a.digest, a.digest, b.digest),
+        size: either(a.size, a.size, b.size),
+    }
+}

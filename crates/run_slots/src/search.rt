@@ -1,0 +1,65 @@
+// Slots are found by identifier, never by position.
+ghost use mathlib.Core.Path.{_≡_};
+ghost use mathlib.Core.Bool.{true};
+ghost use Prim.Native.Nat.{ℕ, _+_, _-_, _*_, _≤_, _<_};
+ghost use lib.ListN.{length, getD};
+ghost use Rattle.rules.specs.Bytes.{part, same, allIn, spanAt};
+ghost use Rattle.rules.specs.Limits.{limits};
+ghost use Rattle.rules.specs.Slots.{slotBytes, slotAt, slotOf, slotNames};
+ghost use Rattle.run_slots.specs.Slot.{Holds, Short, namesAt, Found};
+use crate::bytes::same_parts;
+use crate::slot::SLOT_BYTES;
+
+// Whether the slot of number k has the identifier of n bytes at `at`.
+pub fn named(s: &[u8], at: usize, n: usize, slots: &[u8], k: usize) -> bool
+    requires { ⌜ (at + n ≤ length (now s)) × Holds (now slots) k × (getD (now slots) (slotBytes * k) 0 ≤ limits .identifier) ⌝ }
+    ensures { λ r. ⌜ r ≡ same (part (now (s .entry)) at n) (slotAt (now (slots .entry)) k .id) ⌝ }
+{
+    let length = slots[SLOT_BYTES * k] as usize;
+    if n != length {
+        return false;
+    }
+    same_parts(s, at, slots, SLOT_BYTES * k + 1, n)
+}
+
+// The number of the slot with that identifier, or how many slots there are.
+pub fn slot_of(s: &[u8], at: usize, n: usize, slots: &[u8]) -> usize
+    requires { ⌜ (at + n ≤ length (now s)) × Short (now slots) ⌝ }
+    ensures { λ r. ⌜ r ≡ slotOf (part (now (s .entry)) at n) (now (slots .entry)) ⌝ }
+{
+    let count = slots.len() / SLOT_BYTES;
+    let mut k = 0;
+    while k < count {
+        if named(s, at, n, slots, k) {
+            return k;
+        }
+        k += 1;
+    }
+    k
+}
+
+// The slots of n components, whose identifiers stand at the places `ids` of s; false if one of them has none.
+pub fn find_slots(
+    s: &[u8],
+    ids: &[usize; 16],
+    n: usize,
+    slots: &[u8],
+    found: &mut [usize; 8],
+) -> bool
+    requires { ⌜ (n ≤ 8) × ((k : ℕ) → k < n → (spanAt (now ids) k .from ≤ spanAt (now ids) k .to) × (spanAt (now ids) k .to ≤ length (now s))) × Short (now slots) ⌝ }
+    ensures { λ r. ⌜ (r ≡ allIn (namesAt (now (s .entry)) (now (ids .entry)) n) (slotNames (now (slots .entry)))) × (r ≡ true → Found (namesAt (now (s .entry)) (now (ids .entry)) n) (now (slots .entry)) (now (found .entry)) (now (found .exit))) ⌝ }
+{
+    let numbers: &mut [usize] = found;
+    let count = slots.len() / SLOT_BYTES;
+    let mut i = 0;
+    while i < n {
+        let from = ids[2 * i];
+        let k = slot_of(s, from, ids[2 * i + 1] - from, slots);
+        if k == count {
+            return false;
+        }
+        numbers[i] = k;
+        i += 1;
+    }
+    true
+}

@@ -1,0 +1,59 @@
+// The fields of a slot.
+ghost use mathlib.Core.Path.{_≡_};
+ghost use Prim.Native.Nat.{_+_, _*_, _≤_};
+ghost use mathlib.Core.Bool.{not};
+ghost use lib.Dec.{eqb};
+ghost use lib.ListN.{length, getD};
+ghost use Rattle.rules.specs.Slots.{slotAt, goodSlot};
+ghost use Rattle.run_slots.specs.Slot.{Holds};
+use byte_buffer::four;
+use rules::controller::Controller;
+
+pub const SLOT_BYTES: usize = 74;
+
+const CAPACITY: usize = 33;
+
+pub const IMAGE: usize = 37;
+
+const SIZE: usize = 38;
+
+pub const DIGEST: usize = 42;
+
+pub fn capacity(slots: &[u8], k: usize) -> usize
+    requires { ⌜ Holds (now slots) k ⌝ }
+    ensures { λ r. ⌜ r ≡ slotAt (now (slots .entry)) k .capacity ⌝ }
+{
+    four(slots, SLOT_BYTES * k + CAPACITY)
+}
+
+pub fn present(slots: &[u8], k: usize) -> bool
+    requires { ⌜ Holds (now slots) k ⌝ }
+    ensures { λ r. ⌜ r ≡ slotAt (now (slots .entry)) k .present ⌝ }
+{
+    slots[SLOT_BYTES * k + IMAGE] != 0
+}
+
+pub fn size(slots: &[u8], k: usize) -> usize
+    requires { ⌜ Holds (now slots) k ⌝ }
+    ensures { λ r. ⌜ r ≡ slotAt (now (slots .entry)) k .size ⌝ }
+{
+    four(slots, SLOT_BYTES * k + SIZE)
+}
+
+// 85, of one slot.
+pub fn good_slot(slots: &[u8], k: usize) -> bool
+    requires { ⌜ Holds (now slots) k ⌝ }
+    ensures { λ r. ⌜ r ≡ goodSlot (slotAt (now (slots .entry)) k) ⌝ }
+{
+    let length = slots[SLOT_BYTES * k] as usize;
+    if length < 1 {
+        return false;
+    }
+    if Controller::IDENTIFIER_BYTES < length {
+        return false;
+    }
+    if present(slots, k) {
+        return size(slots, k) <= capacity(slots, k);
+    }
+    true
+}

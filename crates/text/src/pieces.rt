@@ -1,0 +1,98 @@
+// What lines of text are made of, in lent room: numbers behind a label, and parts of lent bytes in hexadecimal. A part is cut where the bytes end.
+ghost use mathlib.Core.Path.{_≡_};
+ghost use mathlib.Core.List.{[], _∷_};
+ghost use Prim.Native.Nat.{_≤_};
+ghost use lib.ListN.{length};
+ghost use Rattle.text.specs.Text.{Wrote, hex};
+ghost use Rattle.text.specs.Pieces.{part, spaced, labelled, counted, coded};
+use crate::put;
+use crate::put_byte;
+use crate::put_decimal;
+use crate::put_hex;
+
+struct Range {
+    from: usize,
+    to: usize,
+}
+
+// The part's own places in the bytes.
+fn within(s: &[u8], from: usize, to: usize) -> Range
+    ensures { λ r. ⌜ (r .from ≤ r .to) × (r .to ≤ length (now (s .entry))) × (part (now (s .entry)) (r .from) (r .to) ≡ part (now (s .entry)) from to) ⌝ }
+{
+    let end = s.len();
+    if to <= from {
+        return Range { from: 0, to: 0 };
+    }
+    if end <= from {
+        return Range { from: 0, to: 0 };
+    }
+    if end <= to {
+        return Range { from, to: end };
+    }
+    Range { from, to }
+}
+
+// The bytes from one place to before another.
+pub fn put_part(room: &mut [u8], at: usize, s: &[u8], from: usize, to: usize) -> usize
+    ensures { λ r. ⌜ Wrote (hex (part (now (s .entry)) from to)) at (now (room .entry)) r (now (room .exit)) ⌝ }
+{
+    let p = within(s, from, to);
+    let a = p.from;
+    let b = p.to;
+    put_hex(room, at, &s[a..b])
+}
+
+// The same, each byte behind a space.
+pub fn put_spaced(room: &mut [u8], at: usize, s: &[u8], from: usize, to: usize) -> usize
+    ensures { λ r. ⌜ Wrote (spaced (part (now (s .entry)) from to)) at (now (room .entry)) r (now (room .exit)) ⌝ }
+{
+    let p = within(s, from, to);
+    let a = p.from;
+    let b = p.to;
+    put_each(room, at, &s[a..b])
+}
+
+fn put_each(room: &mut [u8], at: usize, s: &[u8]) -> usize
+    ensures { λ r. ⌜ Wrote (spaced (now (s .entry))) at (now (room .entry)) r (now (room .exit)) ⌝ }
+{
+    let mut to = at;
+    let mut i = 0;
+    while i < s.len() {
+        to = put_one(room, to, s[i]);
+        i += 1;
+    }
+    to
+}
+
+fn put_one(room: &mut [u8], at: usize, b: u8) -> usize
+    ensures { λ r. ⌜ Wrote (spaced (b ∷ [])) at (now (room .entry)) r (now (room .exit)) ⌝ }
+{
+    let to = put_byte(room, at, b' ');
+    put_hex(room, to, &[b])
+}
+
+pub fn put_labelled(room: &mut [u8], at: usize, label: &[u8], n: usize) -> usize
+    ensures { λ r. ⌜ Wrote (labelled (now (label .entry)) n) at (now (room .entry)) r (now (room .exit)) ⌝ }
+{
+    let to = put(room, at, label);
+    put_decimal(room, to, n)
+}
+
+pub fn put_counted(room: &mut [u8], at: usize, label: &[u8], n: usize, thing: &[u8]) -> usize
+    ensures { λ r. ⌜ Wrote (counted (now (label .entry)) n (now (thing .entry))) at (now (room .entry)) r (now (room .exit)) ⌝ }
+{
+    let a = put_labelled(room, at, label, n);
+    let b = put(room, a, thing);
+    if n == 1 {
+        return b;
+    }
+    put_byte(room, b, b's')
+}
+
+// A code or key, behind its name.
+pub fn put_code(room: &mut [u8], at: usize, n: usize) -> usize
+    ensures { λ r. ⌜ Wrote (coded n) at (now (room .entry)) r (now (room .exit)) ⌝ }
+{
+    let to = put_labelled(room, at, b" (", n);
+    put_byte(room, to, b')')
+}

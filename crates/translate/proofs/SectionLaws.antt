@@ -1,0 +1,205 @@
+-- The sections of a group, as their sizes are added up and their records are written.
+use Prim.Native.Nat.{ℕ, _+_, _*_, _≤_, _<_}
+use mathlib.Core.Path.{_≡_, refl, sym, ap, _∙_}
+use mathlib.Core.List.{List, [], _∷_, _++_, append-assoc, append-nil}
+use mathlib.Core.Bool.{Bool, true, false}
+use native.Mathlib.Omega.{arith}
+use lib.ListN.{length, getD, length-map}
+use Rattle.rules.specs.declared.answers.Group.{Group}
+use Rattle.rules.specs.Bytes.{Bytes, put, bytesAt}
+use Rattle.rules.specs.Manifest.{Seq}
+use Rattle.rules.specs.Run.{planOf}
+use Rattle.rules.specs.Program.{Rec, NONE, size, flatSeq, flatAll, programOf}
+use Rattle.rules.specs.ProgramSize.{argSize, sizeAll, argSizeAll}
+use Rattle.rules_theorems.proofs.ManifestLaws.{Sound, sound}
+use Rattle.rules_theorems.proofs.RoundTrip.{GoodProgram}
+use Rattle.rules_theorems.proofs.FlatLaws.{well-formed, program-size, length-all}
+use Rattle.rules_theorems.proofs.RunLaws.{length-seq}
+use Rattle.translate_size.specs.declared.sizes.Size.{Size}
+use Rattle.translate_record.specs.declared.record.Pen.{Pen}
+use Rattle.translate_size.specs.Size.{most, SequenceHere, SequenceSized}
+use Rattle.translate_record.specs.Record.{written, Wrote}
+use Rattle.translate_sequence.specs.Write.{SequenceJob}
+use Rattle.translate.specs.Sections.{SectionsHere, SectionsSized, startOf}
+use Rattle.manifest_accessors.proofs.SectionPlaces.{Wanted}
+use Rattle.translate.proofs.PlanLaws.{PlanAt, seqsOf, plan-start, plan-end, Skipped, skip, Taken, take}
+use Rattle.translate_sequence.proofs.WriteLaws.{bytes-seq, wrote-none, wrote-then, same-room}
+
+size-first : (a : Seq) (xs : List Seq) → (sizeAll (a ∷ xs) ≡ size a + sizeAll xs) × (argSizeAll (a ∷ xs) ≡ argSize a + argSizeAll xs)
+unfolding sizeAll argSizeAll
+size-first a xs = (refl, refl)
+
+size-none : (sizeAll [] ≡ 0) × (argSizeAll [] ≡ 0)
+unfolding sizeAll argSizeAll
+size-none = (refl, refl)
+
+flat-first : (a : Seq) (xs : List Seq) (n : ℕ) → flatAll (a ∷ xs) n ≡ flatSeq a false 0 false NONE 0 n ++ flatAll xs (n + size a)
+unfolding flatAll
+flat-first a xs n = refl
+
+flat-none : (n : ℕ) → flatAll [] n ≡ []
+unfolding flatAll
+flat-none n = refl
+
+module _ (s : Bytes) (group : Group) (places : List ℕ) (h : SectionsHere s places) where
+  abbrev plan : List Seq
+  plan = planOf group (h .manifest)
+
+  abbrev components : ℕ
+  components = length (h .manifest .ids)
+
+  known : Sound s (h .manifest)
+  known = sound s (h .manifest) (h .checks)
+
+  formed : GoodProgram (programOf s group (h .manifest))
+  formed = well-formed s group (h .manifest) known
+
+  plan-few : sizeAll plan ≤ 1024
+  unfolding programOf
+  plan-few = omega (arith, formed .few, length-all plan 0)
+
+  plan-small : sizeAll plan + argSizeAll plan ≤ most
+  plan-small = omega (arith, formed .short, program-size s group (h .manifest) known)
+
+  first-size : (k : ℕ) (p : PlanAt s components group places k) (t : Taken s components group places k p) →
+      (sizeAll (seqsOf s components group places k p) ≡ size (t .place .seq) + sizeAll (seqsOf s components group places (k + 1) (t .next)))
+      × (argSizeAll (seqsOf s components group places k p) ≡ argSize (t .place .seq) + argSizeAll (seqsOf s components group places (k + 1) (t .next)))
+  first-size k p t =
+      let f = size-first (t .place .seq) (seqsOf s components group places (k + 1) (t .next)) in
+      (ap sizeAll (t .first) ∙ f .0, ap argSizeAll (t .first) ∙ f .1)
+
+  -- what is counted and the sections that are left make the whole
+  pub record Sizing (k : ℕ) (now : Size) : Type 0 where
+    pub at : PlanAt s components group places k
+    pub records : now .records + sizeAll (seqsOf s components group places k at) ≡ sizeAll plan
+    pub arguments : now .arguments + argSizeAll (seqsOf s components group places k at) ≡ argSizeAll plan
+
+  pub sizing-starts : Sizing 0 (record { next = 0; records = 0; arguments = 0 })
+  sizing-starts = record { at = plan-start s components group places (h .manifest) refl (h .checks) (h .places); records = omega arith; arguments = omega arith }
+
+  pub sizing-done : (k : ℕ) (now : Size) → Sizing k now → 6 ≤ k → SectionsSized plan now
+  sizing-done k now z l =
+      let e = plan-end s components group places k (z .at) l in
+      record { records = omega (arith, z .records, ap sizeAll e, size-none .0); arguments = omega (arith, z .arguments, ap argSizeAll e, size-none .1) }
+
+  module _ (k : ℕ) (now : Size) (z : Sizing k now) (l : k < 6) (w : Bool) (e : Wanted group places k w) where
+    taken : w ≡ true → Taken s components group places k (z .at)
+    taken t = take s components group places k (z .at) l (sym t ∙ e)
+
+    skipped : w ≡ false → Skipped s components group places k (z .at)
+    skipped t = skip s components group places k (z .at) l (sym t ∙ e)
+
+    pub sizing-job : w ≡ true → SequenceHere s 4 (getD places (2 * k) 0)
+    sizing-job t = record { n = components; place = taken t .place; small = omega (arith, plan-small, z .records, z .arguments, first-size k (z .at) (taken t) .0, first-size k (z .at) (taken t) .1) }
+
+    module _ (r : Size) (whole : w ≡ true → (j : SequenceHere s 4 (getD places (2 * k) 0)) → SequenceSized (j .place .seq) r)
+        (none : w ≡ false → (r .records ≡ 0) × (r .arguments ≡ 0)) where
+      pub sizing-on : Sizing (k + 1) (record { next = 0; records = now .records + r .records; arguments = now .arguments + r .arguments })
+      unfolding sizing-job
+      sizing-on = go w refl
+        where
+          go : (b : Bool) → w ≡ b → Sizing (k + 1) (record { next = 0; records = now .records + r .records; arguments = now .arguments + r .arguments })
+          go true t =
+              let y = whole t (sizing-job t) in
+              record {
+                at = taken t .next;
+                records = omega (arith, y .records, z .records, first-size k (z .at) (taken t) .0);
+                arguments = omega (arith, y .arguments, z .arguments, first-size k (z .at) (taken t) .1);
+              }
+          go false t =
+              let q = skipped t in
+              record {
+                at = q .next;
+                records = omega (arith, none t .0, z .records, ap sizeAll (q .same));
+                arguments = omega (arith, none t .1, z .arguments, ap argSizeAll (q .same));
+              }
+
+      pub sizing-adds : (now .records + r .records ≤ most) × (now .arguments + r .arguments ≤ most)
+      sizing-adds = (omega (arith, sizing-on .records, plan-small), omega (arith, sizing-on .arguments, plan-small))
+
+  -- what is written and the sections that are left make the whole
+  module _ (pen : Pen) (room₀ : Bytes) where
+    pub record Writing (room : Bytes) (k : ℕ) (now : Pen) : Type 0 where
+      pub at : PlanAt s components group places k
+      pub done : List Rec
+      pub wrote : Wrote done pen room₀ now room
+      pub goes : flatAll plan 0 ≡ done ++ flatAll (seqsOf s components group places k at) (now .n)
+      pub enough : now .to + 10 * sizeAll (seqsOf s components group places k at) + argSizeAll (seqsOf s components group places k at) ≤ length room
+      pub few : now .n + sizeAll (seqsOf s components group places k at) ≤ 1024
+      pub small : length room ≤ most
+
+    pub writing-starts : pen .n ≡ 0 → pen .to + 10 * sizeAll plan + argSizeAll plan ≤ length room₀ → length room₀ ≤ most → Writing room₀ 0 pen
+    writing-starts z e l =
+        record {
+          at = plan-start s components group places (h .manifest) refl (h .checks) (h .places);
+          done = [];
+          wrote = wrote-none pen pen room₀ refl refl;
+          goes = ap (flatAll plan) (sym z);
+          enough = e;
+          few = omega (arith, plan-few);
+          small = l;
+        }
+
+    pub writing-done : (room : Bytes) (k : ℕ) (now : Pen) → Writing room k now → 6 ≤ k → room ≡ put room₀ (pen .to) (written (flatAll plan 0))
+    writing-done room k now z l =
+        let e = plan-end s components group places k (z .at) l in
+        let f : flatAll plan 0 ≡ z .done = z .goes ∙ ap (λ (x : List Seq). z .done ++ flatAll x (now .n)) e ∙ ap (λ (x : List Rec). z .done ++ x) (flat-none (now .n)) ∙ append-nil (z .done) in
+        z .wrote .filled ∙ ap (λ (x : List Rec). put room₀ (pen .to) (written x)) (sym f)
+
+    module _ (room : Bytes) (k : ℕ) (now : Pen) (z : Writing room k now) (l : k < 6) (w : Bool) (e : Wanted group places k w) where
+      its : w ≡ true → Taken s components group places k (z .at)
+      its t = take s components group places k (z .at) l (sym t ∙ e)
+
+      pub writing-job : w ≡ true → SequenceJob s 4 (startOf (getD places (2 * k) 0) now) room
+      writing-job t =
+          record {
+            n = components;
+            place = its t .place;
+            inside = omega (arith, known .some-ids .0, length-map (h .manifest .ids) (bytesAt s));
+            components = omega (arith, known .some-ids .1, length-map (h .manifest .ids) (bytesAt s));
+            enough = omega (arith, z .enough, first-size k (z .at) (its t) .0, first-size k (z .at) (its t) .1);
+            few = omega (arith, z .few, first-size k (z .at) (its t) .0);
+            small = z .small;
+          }
+
+      module _ (r : Pen) (room′ : Bytes)
+          (whole : w ≡ true → (j : SequenceJob s 4 (startOf (getD places (2 * k) 0) now) room) → Wrote (flatSeq (j .place .seq) false 0 false NONE 0 (now .n)) now room r room′)
+          (none : w ≡ false → (r ≡ now) × (room′ ≡ room)) where
+        pub writing-on : Writing room′ (k + 1) r
+        unfolding writing-job
+        writing-on = go w refl
+          where
+            go : (b : Bool) → w ≡ b → Writing room′ (k + 1) r
+            go true t =
+                let a : Seq = its t .place .seq in
+                let f : List Rec = flatSeq a false 0 false NONE 0 (now .n) in
+                let y : Wrote f now room r room′ = whole t (writing-job t) in
+                let n : r .n ≡ now .n + size a = omega (arith, y .n, length-seq a false 0 false NONE 0 (now .n)) in
+                let to : r .to ≡ now .to + 10 * size a + argSize a = omega (arith, y .to, bytes-seq a false 0 false NONE 0 (now .n)) in
+                record {
+                  at = its t .next;
+                  done = z .done ++ f;
+                  wrote = wrote-then (z .done) f pen room₀ now room now r room′ refl refl (z .wrote) y;
+                  goes =
+                      z .goes
+                      ∙ ap (λ (x : List Seq). z .done ++ flatAll x (now .n)) (its t .first)
+                      ∙ ap (λ (x : List Rec). z .done ++ x) (flat-first a (seqsOf s components group places (k + 1) (its t .next)) (now .n))
+                      ∙ sym (append-assoc (z .done) f _)
+                      ∙ ap (λ (x : ℕ). z .done ++ f ++ flatAll (seqsOf s components group places (k + 1) (its t .next)) x) (sym n);
+                  enough = omega (arith, z .enough, first-size k (z .at) (its t) .0, first-size k (z .at) (its t) .1, same-room f now room r room′ y);
+                  few = omega (arith, z .few, first-size k (z .at) (its t) .0);
+                  small = omega (arith, z .small, same-room f now room r room′ y);
+                }
+            go false t =
+                let q = skip s components group places k (z .at) l (sym t ∙ e) in
+                let (er, em) = none t in
+                rw (er, em)
+                (record {
+                  at = q .next;
+                  done = z .done;
+                  wrote = z .wrote;
+                  goes = z .goes ∙ ap (λ (x : List Seq). z .done ++ flatAll x (now .n)) (sym (q .same));
+                  enough = omega (arith, z .enough, ap sizeAll (q .same), ap argSizeAll (q .same));
+                  few = omega (arith, z .few, ap sizeAll (q .same));
+                  small = z .small;
+                })

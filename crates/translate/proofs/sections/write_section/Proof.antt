@@ -1,0 +1,25 @@
+use mathlib.Core.Path.{refl}
+use borrow.Author.Needs.{needs}
+use borrow.Author.Tests.{not-true, not-false}
+use Rattle.manifest_accessors.proofs.SectionPlaces.{one-answer}
+use Rattle.translate_sequence.proofs.WriteLaws.{wrote-at}
+use Rattle.translate.proofs.sections.write_section.Statement.{statement}
+use Rattle.translate.proofs.sections.write_section.Tie as tie
+
+skip : tie.Need-returns
+skip c = ((λ w. one-answer _ w (not-true _ (c .if1 .taken))), λ w. (refl, refl))
+
+whole : tie.Need-returns-2
+whole c = (
+  (λ w j. wrote-at _ _ _ _ _ _ _ refl refl refl refl (c .before .before .write-sequence .ensures j)),
+  λ w. one-answer _ (not-false _ (c .before .before .before .before .if1 .left)) w,
+)
+
+pub write-section-spec : {M : Type 1} → statement M
+write-section-spec =
+    tie.close
+    (tie.spec
+    skip
+    (λ c κs. c .before .before .before .before .pre (not-false _ (c .before .if1 .left)))
+    (λ c. search needs)
+    whole)

@@ -1,0 +1,3 @@
+pub mod Start
+pub mod Sections
+pub mod Translate

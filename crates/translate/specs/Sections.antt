@@ -1,0 +1,36 @@
+-- The sections of a group, sized, and written one after the other.
+use Prim.Native.Nat.{ℕ, _+_, _*_, _≤_}
+use mathlib.Core.Path.{_≡_}
+use mathlib.Core.List.{List}
+use lib.ListN.{length, replicate}
+use Rattle.rules.specs.declared.answers.Group.{Group}
+use Rattle.rules.specs.Bytes.{Bytes}
+use Rattle.rules.specs.Got.{got}
+use Rattle.rules.specs.Manifest.{Seq, Manifest}
+use Rattle.rules.specs.Check.{check}
+use Rattle.rules.specs.Run.{planOf}
+use Rattle.rules.specs.ProgramSize.{sizeAll, argSizeAll}
+use Rattle.check_manifest.specs.Sections.{placed}
+use Rattle.translate_size.specs.declared.sizes.Size.{Size}
+use Rattle.translate_record.specs.declared.record.Pen.{Pen}
+use Rattle.translate_size.specs.Size.{most}
+
+-- the places of the sections of an accepted envelope
+pub record SectionsHere (s : Bytes) (sections : List ℕ) : Type 0 where
+  pub manifest : Manifest
+  pub checks : check s ≡ got manifest
+  pub places : sections ≡ placed (manifest .sections) (replicate 12 0)
+
+pub record SectionsSized (plan : List Seq) (r : Size) : Type 0 where
+  pub records : r .records ≡ sizeAll plan
+  pub arguments : r .arguments ≡ argSizeAll plan
+
+-- and room for their records
+pub record SectionsJob (s : Bytes) (group : Group) (sections : List ℕ) (to : ℕ) (room : Bytes) : Type 0 where
+  pub here : SectionsHere s sections
+  pub enough : to + 10 * sizeAll (planOf group (here .manifest)) + argSizeAll (planOf group (here .manifest)) ≤ length room
+  pub small : length room ≤ most
+
+-- the pen at the start of the sequence at `from`, where `now` writes
+abbrev pub startOf : ℕ → Pen → Pen
+startOf from now = record { next = from; index = 0; coerce = 1; n = now .n; to = now .to }

@@ -1,0 +1,74 @@
+// Translate: the program of an accepted envelope's group, written to lent room.
+ghost use lib.ListN.{length};
+ghost use Rattle.rules.specs.Program as Rule;
+ghost use Rattle.manifest_accessors.specs.Accepted.{Accepted};
+ghost use Rattle.translate.specs.Translate.{Translates};
+use check_envelope::check;
+use check_envelope::report::Checked;
+use names::size_names;
+use names::write_names;
+use rules::answers::Group;
+use rules::answers::Refusal;
+use sections::size_sections;
+use sections::write_sections;
+use start::START_BYTES;
+use start::put_start;
+
+pub mod names;
+pub mod sections;
+pub mod start;
+
+// A refusal with its place, or how long the program is.
+pub enum Translated {
+    Refused(Refusal, usize),
+    Program(usize),
+}
+
+// The program of an envelope that check has accepted, by what check reported.
+fn translate_checked(
+    s: &[u8],
+    group: Group,
+    number: usize,
+    n: usize,
+    ids: &[usize; 16],
+    sections: &[usize; 12],
+    room: &mut [u8],
+) -> Translated
+    requires { ⌜ Accepted (now s) number n (now ids) (now sections) ⌝ }
+    ensures { λ r. ⌜ Translates (Rule.translate (now (s .entry)) group (length (now (room .entry)))) r (now (room .entry)) (now (room .exit)) ⌝ }
+{
+    let size = size_sections(s, group, sections);
+    let names = size_names(ids, n);
+    let length = START_BYTES + names + 10 * size.records + size.arguments;
+    if room.len() < length {
+        return Translated::Refused(Refusal::ShortRoom, 0);
+    }
+    put_start(room, group, number, n, size.records);
+    let at = write_names(s, ids, n, room, START_BYTES);
+    write_sections(s, group, sections, at, room);
+    Translated::Program(length)
+}
+
+// Translates the envelope s for a group into the room. On a refusal the room is as lent; else the program is at its start.
+pub fn translate(s: &[u8], group: Group, room: &mut [u8]) -> Translated
+    ensures { λ r. ⌜ Translates (Rule.translate (now (s .entry)) group (length (now (room .entry)))) r (now (room .entry)) (now (room .exit)) ⌝ }
+{
+    let report = check(s);
+    let answer = report.answer;
+    match answer {
+        Checked::Refused(refusal, at) => Translated::Refused(refusal, at),
+        Checked::Accepted => {
+            let ids = report.ids;
+            let sections = report.sections;
+            translate_checked(
+                s,
+                group,
+                report.number,
+                report.components,
+                &ids,
+                &sections,
+                room,
+            )
+        }
+    }
+}

@@ -1,0 +1,55 @@
+// The identifiers of the components: their records, sized and written.
+ghost use mathlib.Core.Path.{_≡_};
+ghost use mathlib.Core.List.{map};
+ghost use Prim.Native.Nat.{ℕ, _+_, _-_, _*_, _≤_, _<_};
+ghost use lib.ListN.{length};
+ghost use Rattle.rules.specs.Bytes.{Bytes, part, flat, spanAt};
+ghost use Rattle.rules.specs.Program.{idBytes};
+ghost use Rattle.run_slots.specs.Slot.{namesAt};
+ghost use Rattle.component_ids.specs.Identifiers.{InBytes};
+ghost use Rattle.translate_record.specs.Record.{Filled};
+use translate_record::bytes::copy;
+
+const NAME_BYTES: usize = 4;
+
+// How many bytes the records of the n identifiers have.
+pub fn size_names(ids: &[usize; 16], n: usize) -> usize
+    requires { ⌜ (n ≤ 8) × InBytes (now ids) n 65536 ⌝ }
+    ensures { λ r. ⌜ ((s : Bytes) → InBytes (now (ids .entry)) n (length s) → r ≡ length (flat (map idBytes (namesAt s (now (ids .entry)) n)))) ⌝ }
+{
+    let mut sum = 0;
+    let mut k = 0;
+    while k < n {
+        sum += NAME_BYTES + ids[2 * k + 1] - ids[2 * k];
+        k += 1;
+    }
+    sum
+}
+
+// The record of the identifier of n bytes at `from`: the place after it.
+fn put_name(s: &[u8], from: usize, n: usize, room: &mut [u8], to: usize) -> usize
+    requires { ⌜ (from + n ≤ length (now s)) × (n < 256) × (to + 4 + n ≤ length (now room)) ⌝ }
+    ensures { λ r. ⌜ Filled (idBytes (part (now (s .entry)) from n)) to (now (room .entry)) r (now (room .exit)) ⌝ }
+{
+    room[to] = 0x53;
+    room[to + 1] = 0x50;
+    room[to + 2] = 0xfd;
+    room[to + 3] = n as u8;
+    copy(s, from, n, room, to + NAME_BYTES);
+    to + NAME_BYTES + n
+}
+
+// The records of the n identifiers at the places `ids` of s, written from `at` on: the place after them.
+pub fn write_names(s: &[u8], ids: &[usize; 16], n: usize, room: &mut [u8], at: usize) -> usize
+    requires { ⌜ (n ≤ 8) × InBytes (now ids) n (length (now s)) × ((k : ℕ) → k < n → spanAt (now ids) k .to - spanAt (now ids) k .from < 256) × (at + length (flat (map idBytes (namesAt (now s) (now ids) n))) ≤ length (now room)) ⌝ }
+    ensures { λ r. ⌜ Filled (flat (map idBytes (namesAt (now (s .entry)) (now (ids .entry)) n))) at (now (room .entry)) r (now (room .exit)) ⌝ }
+{
+    let mut to = at;
+    let mut k = 0;
+    while k < n {
+        let from = ids[2 * k];
+        to = put_name(s, from, ids[2 * k + 1] - from, room, to);
+        k += 1;
+    }
+    to
+}

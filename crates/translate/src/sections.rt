@@ -1,0 +1,104 @@
+// The sections of a group: sized, and written one after the other.
+ghost use mathlib.Core.Path.{_≡_};
+ghost use mathlib.Core.Bool.{true, false};
+ghost use Rattle.rules.specs.Bytes.{put};
+ghost use Rattle.rules.specs.Program.{NONE, flatSeq, flatAll};
+ghost use Rattle.rules.specs.Run.{planOf};
+ghost use Rattle.translate_size.specs.Size.{SequenceHere, SequenceSized};
+ghost use Rattle.translate_record.specs.Record.{written, Wrote};
+ghost use Rattle.translate_sequence.specs.Write.{SequenceJob};
+ghost use Rattle.translate.specs.Sections.{SectionsHere, SectionsSized, SectionsJob, startOf};
+use manifest_accessors::sections::wanted;
+use rules::answers::Group;
+use rules::controller::Controller;
+use translate_record::record::NO_TARGET;
+use translate_record::record::Pen;
+use translate_sequence::write::write_sequence;
+use translate_size::sizes::Size;
+use translate_size::sizes::size_sequence;
+
+// The size of the sequence at `from`; nothing where it is not wanted.
+fn size_section(s: &[u8], wanted: bool, from: usize) -> Size
+    requires { ⌜ (wanted ≡ true → SequenceHere (now s) 4 from) ⌝ }
+    ensures { λ r. ⌜ (wanted ≡ true → (j : SequenceHere (now (s .entry)) 4 from) → SequenceSized (j .place .seq) r) × (wanted ≡ false → (r .records ≡ 0) × (r .arguments ≡ 0)) ⌝ }
+{
+    if !wanted {
+        return Size {
+            next: from,
+            records: 0,
+            arguments: 0,
+        };
+    }
+    size_sequence(s, Controller::DEPTH, from)
+}
+
+// The size of the group's sections, from the places that check reported.
+pub fn size_sections(s: &[u8], group: Group, sections: &[usize; 12]) -> Size
+    requires { ⌜ SectionsHere (now s) (now sections) ⌝ }
+    ensures { λ r. ⌜ ((j : SectionsHere (now (s .entry)) (now (sections .entry))) → SectionsSized (planOf group (j .manifest)) r) ⌝ }
+{
+    let mut now = Size {
+        next: 0,
+        records: 0,
+        arguments: 0,
+    };
+    let mut k = 0;
+    while k < 6 {
+        let from = sections[2 * k];
+        let to = sections[2 * k + 1];
+        let r = size_section(s, wanted(group, k, to), from);
+        now = Size {
+            next: 0,
+            records: now.records + r.records,
+            arguments: now.arguments + r.arguments,
+        };
+        k += 1;
+    }
+    now
+}
+
+// The sequence at `from`, written at the pen; nothing where it is not wanted.
+fn write_section(s: &[u8], wanted: bool, from: usize, pen: Pen, room: &mut [u8]) -> Pen
+    requires { ⌜ (wanted ≡ true → SequenceJob (now s) 4 (startOf from pen) (now room)) ⌝ }
+    ensures { λ r. ⌜ (wanted ≡ true → (j : SequenceJob (now (s .entry)) 4 (startOf from pen) (now (room .entry))) → Wrote (flatSeq (j .place .seq) false 0 false NONE 0 (pen .n)) pen (now (room .entry)) r (now (room .exit))) × (wanted ≡ false → (r ≡ pen) × (now (room .exit) ≡ now (room .entry))) ⌝ }
+{
+    if !wanted {
+        return pen;
+    }
+    write_sequence(
+        s,
+        Controller::DEPTH,
+        false,
+        NO_TARGET,
+        0,
+        Pen {
+            next: from,
+            index: 0,
+            coerce: 1,
+            n: pen.n,
+            to: pen.to,
+        },
+        room,
+    )
+}
+
+// The records of the group's sections, written from `to` on.
+pub fn write_sections(s: &[u8], group: Group, sections: &[usize; 12], to: usize, room: &mut [u8])
+    requires { ⌜ SectionsJob (now s) group (now sections) to (now room) ⌝ }
+    ensures { λ _. ⌜ ((j : SectionsJob (now (s .entry)) group (now (sections .entry)) to (now (room .entry))) → now (room .exit) ≡ put (now (room .entry)) to (written (flatAll (planOf group (j .here .manifest)) 0))) ⌝ }
+{
+    let mut now = Pen {
+        next: 0,
+        index: 0,
+        coerce: 1,
+        n: 0,
+        to,
+    };
+    let mut k = 0;
+    while k < 6 {
+        let from = sections[2 * k];
+        let end = sections[2 * k + 1];
+        now = write_section(s, wanted(group, k, end), from, now, room);
+        k += 1;
+    }
+}

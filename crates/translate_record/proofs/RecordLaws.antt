@@ -1,0 +1,160 @@
+-- The bytes of parameters, arguments and records.
+use Prim.Native.Nat.{ℕ, _+_, _-_, _≤_, _<_}
+use mathlib.Core.Path.{_≡_, refl, sym, _∙_}
+use mathlib.Core.List.{[], _∷_, _++_, append-nil}
+use mathlib.Core.Bool.{cond}
+use mathlib.Core.Logic.{_⊎_, inl, inr}
+use native.Mathlib.Omega.{arith}
+use lib.Dec.{eqb, leb}
+use lib.ListN.{length, length-append}
+use Rattle.rules.specs.Bytes.{Bytes, put, part, be4}
+use Rattle.rules.specs.Commands as Rules
+use Rattle.rules.specs.Commands.{Op, vendor, class, imageMatch, setIndex, abort, setParams, overrideParams, fetch, copy, run, swap, code}
+use Rattle.rules.specs.Manifest.{one}
+use Rattle.rules.specs.Program.{does, jump, targetOf, entry, paramBytes, argBytes, recBytes, flatCmd, flatSeq}
+use Rattle.run_slots.specs.declared.params.Params.{Params}
+use Rattle.run_slots.specs.Params.{optional, meaning, Fit}
+use Rattle.run_commands.specs.Op.{opOf, IsCode}
+use Rattle.manifest_accessors.specs.declared.arguments.Args.{Args}
+use Rattle.manifest_accessors.specs.Arguments.{paramsOf, ReadAs}
+use Rattle.rules_theorems.proofs.OpLaws.{code-small}
+use Rattle.manifest_accessors.proofs.OneLaws.{one-plain, coerce-after}
+use Rattle.translate_record.specs.declared.record.Pen.{Pen}
+use Rattle.translate_record.specs.Record.{Filled, headBytes, written, JumpWrote, LeafJob, CommandWrote}
+use Rattle.rules.proofs.BytesLaws.{length-part}
+use Rattle.translate_record.proofs.FillLaws.{put-before, filled-then}
+
+-- the entries of the parameters
+module _ (s : Bytes) (p : Params) where
+  abbrev pub uriBytes : Bytes
+  uriBytes = entry 6 (λ b. b) (optional (p .uri) (part s (p .uri) (p .length)))
+
+  abbrev pub sourceBytes : Bytes
+  sourceBytes = entry 10 (λ n. n ∷ []) (optional (p .source) (p .source - 1))
+
+  abbrev pub digestBytes : Bytes
+  digestBytes = entry 11 (λ b. b) (optional (p .digest) (part s (p .digest) 32))
+
+  abbrev pub sizeBytes : Bytes
+  sizeBytes = entry 12 be4 (optional (p .size) (p .size - 1))
+
+  params-are : paramBytes (meaning s p) ≡ uriBytes ++ (sourceBytes ++ (digestBytes ++ sizeBytes))
+  unfolding meaning
+  params-are = rw (append-nil sizeBytes)
+
+  pub params-length : length (paramBytes (meaning s p)) ≡ length uriBytes + length sourceBytes + length digestBytes + length sizeBytes
+  params-length =
+      rw params-are
+      (omega (arith, length-append uriBytes (sourceBytes ++ (digestBytes ++ sizeBytes)), length-append sourceBytes (digestBytes ++ sizeBytes), length-append digestBytes sizeBytes))
+
+  pub params-filled : (to : ℕ) (room : Bytes) (p₁ : ℕ) (room₁ : Bytes) (p₂ : ℕ) (room₂ : Bytes) (p₃ : ℕ) (room₃ : Bytes) (p₄ : ℕ) (room₄ : Bytes) →
+      Filled uriBytes to room p₁ room₁ → Filled sourceBytes p₁ room₁ p₂ room₂ → Filled digestBytes p₂ room₂ p₃ room₃ → Filled sizeBytes p₃ room₃ p₄ room₄ →
+      Filled (paramBytes (meaning s p)) to room p₄ room₄
+  params-filled to room p₁ room₁ p₂ room₂ p₃ room₃ p₄ room₄ a b c d =
+      rw params-are (filled-then _ _ _ _ _ _ _ _ a (filled-then _ _ _ _ _ _ _ _ b (filled-then _ _ _ _ _ _ _ _ c d)))
+
+-- the argument by the code
+module _ (s : Bytes) (c v : ℕ) (p : Params) where
+  pub sixteen-bytes : (c ≡ 1) ⊎ (c ≡ 2) → argBytes (opOf s c v p) ≡ part s v 16
+  unfolding opOf
+  sixteen-bytes (inl k) = rw k
+  sixteen-bytes (inr k) = rw k
+
+  pub sixteen-filled : (c ≡ 1) ⊎ (c ≡ 2) → v + 16 ≤ length s → (to : ℕ) (room room′ : Bytes) → room′ ≡ put room to (part s v 16) →
+      Filled (argBytes (opOf s c v p)) to room (to + 16) room′
+  sixteen-filled k l to room room′ e = rw (sixteen-bytes k) (record { filled = e; next = omega (arith, length-part s v 16 l) })
+
+  pub params-bytes : (c ≡ 19) ⊎ (c ≡ 20) → argBytes (opOf s c v p) ≡ paramBytes (meaning s p)
+  unfolding opOf
+  params-bytes (inl k) = rw k
+  params-bytes (inr k) = rw k
+
+pub no-bytes : (op : Op) (c : ℕ) → code op ≡ c → (1 ≤ c → 3 ≤ c) → (19 ≤ c → 21 ≤ c) → argBytes op ≡ []
+no-bytes (vendor b) c k i j = absurd (omega (arith, i (omega arith)))
+no-bytes (class b) c k i j = absurd (omega (arith, i (omega arith)))
+no-bytes imageMatch c k i j = refl
+no-bytes (setIndex n) c k i j = refl
+no-bytes abort c k i j = refl
+no-bytes (setParams p) c k i j = absurd (omega (arith, j (omega arith)))
+no-bytes (overrideParams p) c k i j = absurd (omega (arith, j (omega arith)))
+no-bytes fetch c k i j = refl
+no-bytes copy c k i j = refl
+no-bytes run c k i j = refl
+no-bytes swap c k i j = refl
+
+-- a record is its head and its argument
+head-length : (c i p t n : ℕ) → length (headBytes c i p t n) ≡ 10
+unfolding headBytes
+head-length c i p t n = refl
+
+command-bytes : (op : Op) (i p t : ℕ) → written (does op i p t ∷ []) ≡ headBytes (code op) i p t (length (argBytes op)) ++ argBytes op
+unfolding headBytes written recBytes
+command-bytes op i p t = append-nil _
+
+jump-bytes : (t : ℕ) → written (jump t ∷ []) ≡ headBytes 0xff 0 0 t 0
+unfolding headBytes written recBytes
+jump-bytes t = refl
+
+flat-one : (p : ℕ) (op : Op) (b : _) (i t n : ℕ) → flatCmd (one p op b) i t n ≡ does op (Rules.component op i) p (targetOf op t) ∷ []
+unfolding flatSeq
+flat-one p op b i t n = refl
+
+pub jump-wrote : (target : ℕ) (pen : Pen) (room room′ : Bytes) → room′ ≡ put room (pen .to) (headBytes 0xff 0 0 target 0) →
+    JumpWrote target pen room (record { next = pen .next; index = pen .index; coerce = pen .coerce; n = pen .n + 1; to = pen .to + 10 }) room′
+jump-wrote target pen room room′ e =
+    record {
+      wrote = record { filled = e ∙ (rw (jump-bytes target)); to = rw (jump-bytes target, head-length 0xff 0 0 target 0); n = refl };
+      next = refl;
+      index = refl;
+      coerce = refl;
+    }
+
+module _ (s : Bytes) (c at : ℕ) (pen : Pen) (room : Bytes) (j : LeafJob s c at pen room) (a : Args) (r : ReadAs s c at (j .argument) a) where
+  is-code : code (j .argument .op) ≡ c
+  is-code = one-plain s c at (j .argument) .0
+
+  pub leaf-code : IsCode s c (a .value) (paramsOf a)
+  leaf-code = rw (r .op) is-code
+
+  pub leaf-small : c < 256
+  leaf-small = omega (arith, is-code, code-small (j .argument .op))
+
+  pub leaf-fit : Fit s 256 (paramsOf a)
+  leaf-fit = record { source = omega (arith, r .fit .source, j .components); digest = r .fit .digest }
+
+  pub leaf-room : pen .to + 10 + length (argBytes (opOf s c (a .value) (paramsOf a))) ≤ length room
+  leaf-room = rw (r .op) (j .enough)
+
+  module _ (i : ℕ) (e : i ≡ cond (eqb c 12) (a .value) (pen .index)) where
+    leaf-component : i ≡ Rules.component (j .argument .op) (pen .index)
+    leaf-component = e ∙ sym (r .component (pen .index))
+
+    pub leaf-inside : i < j .argument .n
+    leaf-inside = omega (arith, leaf-component, r .inside (pen .index) (j .inside))
+
+    pub leaf-wrote : (target t : ℕ) → t ≡ cond (leb c 3) target 0xffff → (to : ℕ) (room₁ : Bytes) → Filled (argBytes (opOf s c (a .value) (paramsOf a))) (pen .to + 10) room to room₁ →
+        (room₂ : Bytes) → room₂ ≡ put room₁ (pen .to) (headBytes c i (pen .next) t (to - (pen .to + 10))) → (b : ℕ) → b ≡ cond (eqb (a .coerce) 0) (pen .coerce) (a .coerce) →
+        CommandWrote (one (pen .next) (j .argument .op) (j .argument .coerce)) (j .argument .to) (j .argument .n) target pen room
+        (record { next = a .next; index = i; coerce = b; n = pen .n + 1; to = to }) room₂
+    leaf-wrote target t et to room₁ f room₂ g b eb =
+        let op = j .argument .op in
+        let args = argBytes op in
+        let f′ : Filled args (pen .to + 10) room to room₁ = rw (r .op) at f in
+        let size : to - (pen .to + 10) ≡ length args = omega (arith, f′ .next) in
+        let target-is : t ≡ targetOf op target = rw is-code et in
+        let head = headBytes (code op) (Rules.component op (pen .index)) (pen .next) (targetOf op target) (length args) in
+        let ten : length head ≡ 10 = head-length _ _ _ _ _ in
+        let bytes : written (flatCmd (one (pen .next) op (j .argument .coerce)) (pen .index) target (pen .n)) ≡ head ++ args = rw (flat-one (pen .next) op (j .argument .coerce) (pen .index) target (pen .n)) (command-bytes op _ (pen .next) (targetOf op target)) in
+        let whole : put (put room (pen .to + 10) args) (pen .to) head ≡ put room (pen .to) (head ++ args) = rw ten at (put-before room (pen .to) head args) in
+        let same : headBytes c i (pen .next) t (to - (pen .to + 10)) ≡ head = rw (size, target-is, leaf-component, is-code) in
+        record {
+          wrote = record {
+            filled = g ∙ (rw (same, f′ .filled, bytes) whole);
+            to = rw bytes (omega (arith, f′ .next, ten, length-append head args));
+            n = rw (flat-one (pen .next) op (j .argument .coerce) (pen .index) target (pen .n));
+          };
+          next = r .next;
+          index = leaf-component;
+          inside = leaf-inside;
+          coerce = rw (eb, ← r .coerce) (coerce-after (a .coerce) (pen .coerce));
+        }

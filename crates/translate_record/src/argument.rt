@@ -1,0 +1,89 @@
+// The argument of a record, written to lent room. Each function gives the place after what it wrote.
+ghost use mathlib.Core.List.{[], _∷_};
+ghost use Prim.Native.Nat.{_+_, _-_, _≤_, _<_};
+ghost use lib.ListN.{length};
+ghost use Rattle.rules.specs.Bytes.{part, be4};
+ghost use Rattle.rules.specs.Program.{entry, paramBytes, argBytes};
+ghost use Rattle.run_slots.specs.Params.{optional, meaning, Fit};
+ghost use Rattle.run_commands.specs.Op.{opOf, IsCode};
+ghost use Rattle.manifest_accessors.specs.Arguments.{paramsOf, Within};
+ghost use Rattle.translate_record.specs.Record.{Filled};
+use crate::bytes::copy;
+use manifest_accessors::arguments::Args;
+use rules::tables::Argument;
+use rules_tables::argument_of;
+
+// The URI or the digest under that key: the n bytes of s from `from` on; 0 is unset.
+fn put_string(s: &[u8], key: u8, from: usize, n: usize, room: &mut [u8], to: usize) -> usize
+    requires { ⌜ (0 < from → from + n ≤ length (now s)) × (n < 256) × (to + length (entry key (λ b. b) (optional from (part (now s) from n))) ≤ length (now room)) ⌝ }
+    ensures { λ r. ⌜ Filled (entry key (λ b. b) (optional from (part (now (s .entry)) from n))) to (now (room .entry)) r (now (room .exit)) ⌝ }
+{
+    if from == 0 {
+        return to;
+    }
+    room[to] = key;
+    room[to + 1] = n as u8;
+    copy(s, from, n, room, to + 2);
+    to + 2 + n
+}
+
+// The source, which is one less than the number; 0 is unset.
+fn put_source(source: usize, room: &mut [u8], to: usize) -> usize
+    requires { ⌜ (source ≤ 256) × (to + length (entry 10 (λ n. n ∷ []) (optional source (source - 1))) ≤ length (now room)) ⌝ }
+    ensures { λ r. ⌜ Filled (entry 10 (λ n. n ∷ []) (optional source (source - 1))) to (now (room .entry)) r (now (room .exit)) ⌝ }
+{
+    if source == 0 {
+        return to;
+    }
+    room[to] = 10;
+    room[to + 1] = 1;
+    room[to + 2] = (source - 1) as u8;
+    to + 3
+}
+
+// The size, which is one less than the number; 0 is unset.
+fn put_size(size: usize, room: &mut [u8], to: usize) -> usize
+    requires { ⌜ to + length (entry 12 be4 (optional size (size - 1))) ≤ length (now room) ⌝ }
+    ensures { λ r. ⌜ Filled (entry 12 be4 (optional size (size - 1))) to (now (room .entry)) r (now (room .exit)) ⌝ }
+{
+    if size == 0 {
+        return to;
+    }
+    let n = size - 1;
+    room[to] = 12;
+    room[to + 1] = 4;
+    room[to + 2] = (n / 16777216 % 256) as u8;
+    room[to + 3] = (n / 65536 % 256) as u8;
+    room[to + 4] = (n / 256 % 256) as u8;
+    room[to + 5] = (n % 256) as u8;
+    to + 6
+}
+
+// The parameters that are set.
+fn put_parameters(s: &[u8], a: Args, room: &mut [u8], to: usize) -> usize
+    requires { ⌜ Within (now s) (paramsOf a) × Fit (now s) 256 (paramsOf a) × (to + length (paramBytes (meaning (now s) (paramsOf a))) ≤ length (now room)) ⌝ }
+    ensures { λ r. ⌜ Filled (paramBytes (meaning (now (s .entry)) (paramsOf a))) to (now (room .entry)) r (now (room .exit)) ⌝ }
+{
+    let p = put_string(s, 6, a.uri, a.length, room, to);
+    let q = put_source(a.source, room, p);
+    let r = put_string(s, 11, a.digest, 32, room, q);
+    put_size(a.size, room, r)
+}
+
+// The argument of the command of that code, by its kind in the table.
+pub fn put_argument(s: &[u8], code: usize, a: Args, room: &mut [u8], to: usize) -> usize
+    requires { ⌜ Within (now s) (paramsOf a) × Fit (now s) 256 (paramsOf a) × (code < 3 → a .value + 16 ≤ length (now s)) × IsCode (now s) code (a .value) (paramsOf a) × (to + length (argBytes (opOf (now s) code (a .value) (paramsOf a))) ≤ length (now room)) ⌝ }
+    ensures { λ r. ⌜ Filled (argBytes (opOf (now (s .entry)) code (a .value) (paramsOf a))) to (now (room .entry)) r (now (room .exit)) ⌝ }
+{
+    match argument_of(code) {
+        Argument::Sixteen => {
+            copy(s, a.value, 16, room, to);
+            to + 16
+        }
+        Argument::Parameters => put_parameters(s, a, room, to),
+        Argument::Nil => to,
+        Argument::Index => to,
+        Argument::Alternatives => to,
+        Argument::Sequence => to,
+    }
+}

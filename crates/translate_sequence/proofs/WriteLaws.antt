@@ -1,0 +1,610 @@
+-- The records of sequences and commands, as the code writes them.
+use Prim.Native.Nat.{ℕ, _+_, _-_, _*_, _/_, _≤_, _<_}
+use mathlib.Core.Path.{_≡_, refl, sym, ap, _∙_}
+use mathlib.Core.Bool.{Bool, true, false, _&&_, cond}
+use mathlib.Core.List.{List, [], _∷_, _++_, append-assoc, append-nil}
+use mathlib.Core.Option.{Option}
+use native.Mathlib.Omega.{arith}
+use lib.ListN.{length, length-append}
+use lib.Seq.{length-sets}
+use Rattle.rules.specs.Bytes.{Bytes, put}
+use Rattle.rules.specs.Cbor.{BYTES, ARRAY}
+use Rattle.rules.specs.Limits.{limits}
+use Rattle.rules.specs.Commands.{Op}
+use Rattle.rules.specs.Manifest.{Seq, end, then, Cmd, one, sub, try, Alts, last, or}
+use Rattle.rules.specs.Check.{sequenceAt}
+use Rattle.rules.specs.Run.{indexAfter, coerceAfter}
+use Rattle.rules.specs.Program.{Rec, jump, argBytes, size, sizeCmd, sizeAlts, flatSeq, flatCmd, flatAlts, recBytes}
+use Rattle.rules.specs.ProgramSize.{argSize, argSizeCmd, argSizeAlts}
+use Rattle.rules_theorems.proofs.RunLaws.{length-seq, length-cmd}
+use Rattle.rules_theorems.proofs.FlatLaws.{bytes, sum-seq, sum-cmd}
+use Rattle.manifest_accessors.specs.Heads.{Headed}
+use Rattle.manifest_accessors.specs.Arguments.{isTrue, One}
+use Rattle.manifest_accessors.specs.Places.{SequenceAt}
+use Rattle.manifest_accessors.proofs.HeadLaws.{item-headed, number-headed}
+use Rattle.manifest_accessors.proofs.ArgumentLaws.{command-one}
+use Rattle.manifest_accessors.proofs.SequencePlaces.{CommandsAt, Start, start, Turn, turn, no-more}
+use Rattle.manifest_accessors.proofs.CommandPlaces.{Coded, coded, Sub, its-sequence, Tries, its-alternatives, listOf, Alternatives, alternatives-law}
+use Rattle.manifest_accessors.proofs.TryPlaces.{AltsAt, Choice, choice}
+use Rattle.translate_record.specs.declared.record.Pen.{Pen}
+use Rattle.translate_size.specs.Size.{most, SequenceHere, CommandHere}
+use Rattle.translate_record.specs.Record.{written, LeafJob, Wrote, CommandWrote, JumpWrote}
+use Rattle.translate_sequence.specs.Write.{SequenceJob, CommandJob}
+use Rattle.translate_record.proofs.FillLaws.{put-append}
+
+pub written-append : (a b : List Rec) → written (a ++ b) ≡ written a ++ written b
+unfolding written
+written-append [] b = refl
+written-append (x ∷ a) b = ap (λ (w : Bytes). recBytes x ++ w) (written-append a b) ∙ sym (append-assoc (recBytes x) (written a) (written b))
+
+bytes-jump : (t : ℕ) → length (written (jump t ∷ [])) ≡ 10
+unfolding written recBytes
+bytes-jump t = refl
+
+length-written : (a b : List Rec) → length (written (a ++ b)) ≡ length (written a) + length (written b)
+length-written a b = ap length (written-append a b) ∙ length-append (written a) (written b)
+
+pub bytes-seq : (a : Seq) (own : Bool) (i : ℕ) (c : Bool) (t z k : ℕ) → length (written (flatSeq a own i c t z k)) ≡ 10 * size a + argSize a
+unfolding written bytes
+bytes-seq a own i c t z k = sum-seq a own i c t z k .1
+
+bytes-cmd : (x : Cmd) (i t k : ℕ) → length (written (flatCmd x i t k)) ≡ 10 * sizeCmd x + argSizeCmd x
+unfolding written bytes
+bytes-cmd x i t k = sum-cmd x i t k .1
+
+-- nothing written
+pub wrote-none : (pen now : Pen) (room : Bytes) → now .to ≡ pen .to → now .n ≡ pen .n → Wrote [] pen room now room
+unfolding written
+wrote-none pen now room e e′ = record { filled = refl; to = omega (arith, e); n = omega (arith, e′) }
+
+-- one after the other
+pub wrote-then : (a b : List Rec) (pen : Pen) (room : Bytes) (now : Pen) (room′ : Bytes) (at : Pen) (r : Pen) (room″ : Bytes) → at .to ≡ now .to → at .n ≡ now .n →
+    Wrote a pen room now room′ → Wrote b at room′ r room″ → Wrote (a ++ b) pen room r room″
+wrote-then a b pen room now room′ at r room″ e e′ w v =
+    record {
+      filled = v .filled ∙ rw (e, w .to, w .filled, written-append a b) (put-append room (pen .to) (written a) (written b));
+      to = omega (arith, v .to, e, w .to, length-written a b);
+      n = omega (arith, v .n, e′, w .n, length-append a b);
+    }
+
+pub same-room : (a : List Rec) (pen : Pen) (room : Bytes) (now : Pen) (room′ : Bytes) → Wrote a pen room now room′ → length room′ ≡ length room
+same-room a pen room now room′ w = ap length (w .filled) ∙ length-sets room (pen .to) (written a)
+
+-- some commands as check read them, and room for their records
+pub record CommandsJob (s : Bytes) (depth k : ℕ) (pen : Pen) (room : Bytes) : Type 0 where
+  pub n : ℕ
+  pub place : CommandsAt s n depth 0 k (pen .next)
+  pub inside : pen .index < n
+  pub components : n ≤ 8
+  pub enough : pen .to + 10 * size (place .cmds) + argSize (place .cmds) ≤ length room
+  pub few : pen .n + size (place .cmds) ≤ 1024
+  pub small : length room ≤ most
+
+-- the loop over commands: the records of the whole are those written and those of the commands that are left
+pub record Loop (s : Bytes) (depth : ℕ) (own : Bool) (target beyond components : ℕ) (whole : List Rec) (pen : Pen) (room₀ room : Bytes) (left : ℕ) (now : Pen) : Type 0 where
+  pub job : CommandsJob s depth left now room
+  pub same : job .n ≡ components
+  pub done : List Rec
+  pub wrote : Wrote done pen room₀ now room
+  pub goes : whole ≡ done ++ flatSeq (job .place .cmds) own (now .index) (isTrue (now .coerce)) target beyond (now .n)
+
+flat-then : (x : Cmd) (xs : Seq) (own : Bool) (i : ℕ) (c : Bool) (t z n : ℕ) →
+    flatSeq (then x xs) own i c t z n ≡ flatCmd x i (cond (own && c) z t) n ++ flatSeq xs own (indexAfter x i) (coerceAfter x c) t z (n + sizeCmd x)
+unfolding flatSeq
+flat-then x xs own i c t z n = refl
+
+flat-end : (own : Bool) (i : ℕ) (c : Bool) (t z n : ℕ) → flatSeq end own i c t z n ≡ []
+unfolding flatSeq
+flat-end own i c t z n = refl
+
+size-then : (x : Cmd) (xs : Seq) → size (then x xs) ≡ sizeCmd x + size xs
+unfolding size
+size-then x xs = refl
+
+arg-size-then : (x : Cmd) (xs : Seq) → argSize (then x xs) ≡ argSizeCmd x + argSize xs
+unfolding argSize
+arg-size-then x xs = refl
+
+module _ (s : Bytes) (depth : ℕ) (own : Bool) (target beyond : ℕ) where
+  pub loop-starts : (left : ℕ) (now : Pen) (room : Bytes) (x : CommandsJob s depth left now room) →
+      Loop s depth own target beyond (x .n) (flatSeq (x .place .cmds) own (now .index) (isTrue (now .coerce)) target beyond (now .n)) now room room left now
+  loop-starts left now room x = record { job = x; same = refl; done = []; wrote = wrote-none now now room refl refl; goes = refl }
+
+  module _ (components : ℕ) (whole : List Rec) (pen : Pen) (room₀ room : Bytes) (left : ℕ) (now : Pen)
+      (l : Loop s depth own target beyond components whole pen room₀ room left now) where
+    pub loop-done : left ≡ 0 → Wrote whole pen room₀ now room
+    loop-done z =
+        let e : whole ≡ l .done =
+        l .goes
+        ∙ ap (λ (a : Seq). l .done ++ flatSeq a own (now .index) (isTrue (now .coerce)) target beyond (now .n)) (no-more s (l .job .n) depth 0 left (now .next) (l .job .place) z)
+        ∙ ap (λ (a : List Rec). l .done ++ a) (flat-end own (now .index) (isTrue (now .coerce)) target beyond (now .n))
+        ∙ append-nil (l .done) in
+        rw e (l .wrote)
+
+    module _ (h : 0 < left) where
+      abbrev pub its-turn : Turn s (l .job .n) depth 0 left (now .next) (l .job .place)
+      its-turn = turn s (l .job .n) depth 0 left (now .next) (l .job .place) h
+
+      pub its-size : size (l .job .place .cmds) ≡ sizeCmd (its-turn .first .cmd) + size (its-turn .rest .cmds)
+      its-size = ap size (its-turn .cmds) ∙ size-then (its-turn .first .cmd) (its-turn .rest .cmds)
+
+      pub its-weight : argSize (l .job .place .cmds) ≡ argSizeCmd (its-turn .first .cmd) + argSize (its-turn .rest .cmds)
+      its-weight = ap argSize (its-turn .cmds) ∙ arg-size-then (its-turn .first .cmd) (its-turn .rest .cmds)
+
+      abbrev pub command-job : CommandJob s depth now room
+      command-job =
+          record {
+            n = l .job .n;
+            place = its-turn .first;
+            inside = l .job .inside;
+            components = l .job .components;
+            enough = omega (arith, l .job .enough, its-size, its-weight);
+            few = omega (arith, l .job .few, its-size);
+            small = l .job .small;
+          }
+
+      pub loop-goes-on : (t : ℕ) → t ≡ cond (own && isTrue (now .coerce)) beyond target → (r : Pen) (room′ : Bytes) →
+          CommandWrote (its-turn .first .cmd) (its-turn .first .to) (l .job .n) t now room r room′ →
+          Loop s depth own target beyond components whole pen room₀ room′ (left - 1) r
+      loop-goes-on t e r room′ w =
+          let x : Cmd = its-turn .first .cmd in
+          let xs : Seq = its-turn .rest .cmds in
+          let f : List Rec = flatCmd x (now .index) t (now .n) in
+          let nn : r .n ≡ now .n + sizeCmd x = w .wrote .n ∙ ap (λ (k : ℕ). now .n + k) (length-cmd x (now .index) t (now .n)) in
+          let nt = w .wrote .to in
+          let nl = same-room f now room r room′ (w .wrote) in
+          let nb = bytes-cmd x (now .index) t (now .n) in
+          record {
+            job =
+                record {
+                  n = l .job .n;
+                  place =
+                      record {
+                        section = its-turn .rest .section;
+                        m = its-turn .rest .m;
+                        e = its-turn .rest .e;
+                        fits = its-turn .rest .fits;
+                        cmds = its-turn .rest .cmds;
+                        to = its-turn .rest .to;
+                        reads = rw (w .next) (its-turn .rest .reads);
+                        few = its-turn .rest .few;
+                      };
+                  inside = w .inside;
+                  components = l .job .components;
+                  enough = omega (arith, l .job .enough, its-size, its-weight, nt, nl, nb);
+                  few = omega (arith, l .job .few, its-size, nn);
+                  small = omega (arith, l .job .small, nl);
+                };
+            same = l .same;
+            done = l .done ++ f;
+            wrote = wrote-then (l .done) f pen room₀ now room now r room′ refl refl (l .wrote) (w .wrote);
+            goes =
+                l .goes
+                ∙ ap (λ (a : Seq). l .done ++ flatSeq a own (now .index) (isTrue (now .coerce)) target beyond (now .n)) (its-turn .cmds)
+                ∙ ap (λ (a : List Rec). l .done ++ a) (flat-then x xs own (now .index) (isTrue (now .coerce)) target beyond (now .n))
+                ∙ sym (append-assoc (l .done) (flatCmd x (now .index) (cond (own && isTrue (now .coerce)) beyond target) (now .n)) (flatSeq xs own (indexAfter x (now .index)) (coerceAfter x (isTrue (now .coerce))) target beyond (now .n + sizeCmd x)))
+                ∙ rw (e, w .index, w .coerce, nn);
+          }
+
+-- the records of a sequence, from its job
+module _ (s : Bytes) (depth : ℕ) (pen : Pen) (room : Bytes) (j : SequenceJob s depth pen room) where
+  abbrev began : Start s (j .n) depth 0 (pen .next) (j .place)
+  began = start s (j .n) depth 0 (pen .next) (j .place)
+
+  pub sequence-deep : 0 < depth
+  sequence-deep = began .deep
+
+  abbrev pub sequence-head : Headed s (pen .next)
+  sequence-head = item-headed s ARRAY 0 (limits .pairs + limits .pairs) (j .place .e) (pen .next) (began .head) (j .place .fits) (omega arith) (began .item)
+
+  abbrev pub commands-job : (v p : ℕ) → (v ≡ sequence-head .head .num) × (p ≡ sequence-head .head .next) →
+      CommandsJob s (depth - 1) (v / 2) (record { next = p; index = pen .index; coerce = 1; n = pen .n; to = pen .to }) room
+  commands-job v p q =
+      record {
+        n = j .n;
+        place =
+            record {
+              section = j .place .section;
+              m = j .place .m;
+              e = j .place .e;
+              fits = j .place .fits;
+              cmds = j .place .seq;
+              to = j .place .to;
+              reads = rw (q .0, q .1) (began .reads);
+              few = j .place .few;
+            };
+        inside = j .inside;
+        components = j .components;
+        enough = j .enough;
+        few = j .few;
+        small = j .small;
+      }
+
+-- the same place in the room
+pub wrote-at : (rs : List Rec) (pen pen′ : Pen) (room : Bytes) (r r′ : Pen) (room′ : Bytes) → pen .to ≡ pen′ .to → pen .n ≡ pen′ .n → r .to ≡ r′ .to → r .n ≡ r′ .n →
+    Wrote rs pen room r room′ → Wrote rs pen′ room r′ room′
+wrote-at rs pen pen′ room r r′ room′ a b d e w = record { filled = w .filled ∙ ap (λ (k : ℕ). put room k (written rs)) a; to = omega (arith, a, d, w .to); n = omega (arith, b, e, w .n) }
+
+-- the pen where a sequence starts, and after a command that held sequences
+abbrev pub entered : Pen → ℕ → Pen → Pen
+entered pen at now = record { next = at; index = pen .index; coerce = pen .coerce; n = now .n; to = now .to }
+
+-- what a command that held sequences leaves
+holds-sequences : (cmd : Cmd) (to components target : ℕ) (pen : Pen) (room : Bytes) (at : ℕ) (r : Pen) (room′ : Bytes) →
+    Wrote (flatCmd cmd (pen .index) target (pen .n)) pen room r room′ → at ≡ to → pen .index < components →
+    ((i : ℕ) → indexAfter cmd i ≡ i) → ((c : Bool) → coerceAfter cmd c ≡ c) →
+    CommandWrote cmd to components target pen room (entered pen at r) room′
+holds-sequences cmd to components target pen room at r room′ w e inside index coerce =
+    record {
+      wrote = wrote-at (flatCmd cmd (pen .index) target (pen .n)) pen pen room r (entered pen at r) room′ refl refl refl refl w;
+      next = e;
+      index = sym (index (pen .index));
+      inside = inside;
+      coerce = sym (coerce _);
+    }
+
+wrote-as : (cmd cmd′ : Cmd) (to to′ components components′ target : ℕ) (pen : Pen) (room : Bytes) (r : Pen) (room′ : Bytes) →
+    cmd ≡ cmd′ → to′ ≡ to → components′ ≡ components → CommandWrote cmd′ to′ components′ target pen room r room′ → CommandWrote cmd to components target pen room r room′
+wrote-as cmd cmd′ to to′ components components′ target pen room r room′ e e′ e″ w = rw (e, ← e′, ← e″) w
+
+pub size-sub : (a : Seq) → sizeCmd (sub a) ≡ size a
+unfolding size
+size-sub a = refl
+
+pub arg-size-sub : (a : Seq) → argSizeCmd (sub a) ≡ argSize a
+unfolding argSize
+arg-size-sub a = refl
+
+flat-sub : (a : Seq) (i t n : ℕ) → flatCmd (sub a) i t n ≡ flatSeq a true i false t (n + size a) n
+unfolding flatSeq
+flat-sub a i t n = refl
+
+pub size-try : (a : Alts) → sizeCmd (try a) ≡ sizeAlts a
+unfolding size
+size-try a = refl
+
+pub arg-size-try : (a : Alts) → argSizeCmd (try a) ≡ argSizeAlts a
+unfolding argSize
+arg-size-try a = refl
+
+flat-try : (a : Alts) (i t n : ℕ) → flatCmd (try a) i t n ≡ flatAlts a i t (n + sizeAlts a) n
+unfolding flatSeq
+flat-try a i t n = refl
+
+pub size-one : (p : ℕ) (op : Op) (b : Option Bool) → sizeCmd (one p op b) ≡ 1
+unfolding size
+size-one p op b = refl
+
+pub arg-size-one : (p : ℕ) (op : Op) (b : Option Bool) → argSizeCmd (one p op b) ≡ length (argBytes op)
+unfolding argSize
+arg-size-one p op b = refl
+
+-- alternatives by their list
+listed-some : (a : Alts) → 0 < length (listOf a)
+listed-some (last x) = omega arith
+listed-some (or x a) = omega arith
+
+more-alts : (a : Alts) (x : Seq) (xs : List Seq) → listOf a ≡ x ∷ xs → 0 < length xs → (b : Alts) × (a ≡ or x b) × (xs ≡ listOf b)
+more-alts (last y) x xs e h = let n : xs ≡ [] = cc in absurd (omega (arith, h, ap length n))
+more-alts (or y b) x xs e h = let n : y ≡ x = cc in let m : xs ≡ listOf b = cc in (b, ap (λ (v : Seq). or v b) n, m)
+
+last-alts : (a : Alts) (x : Seq) (xs : List Seq) → listOf a ≡ x ∷ xs → length xs ≡ 0 → (a ≡ last x) × (xs ≡ [])
+last-alts (last y) x xs e h = let n : y ≡ x = cc in let m : xs ≡ [] = cc in (ap last n, m)
+last-alts (or y b) x xs e h = let m : xs ≡ listOf b = cc in absurd (omega (arith, h, ap length m, listed-some b))
+
+size-or : (x : Seq) (a : Alts) → (sizeAlts (or x a) ≡ size x + (1 + sizeAlts a)) × (argSizeAlts (or x a) ≡ argSize x + argSizeAlts a)
+unfolding size argSize
+size-or x a = (refl, refl)
+
+size-last : (x : Seq) → (sizeAlts (last x) ≡ size x) × (argSizeAlts (last x) ≡ argSize x)
+unfolding size argSize
+size-last x = (refl, refl)
+
+flat-or : (x : Seq) (a : Alts) (i t z n : ℕ) → flatAlts (or x a) i t z n ≡ flatSeq x false i false (n + size x + 1) z n ++ jump z ∷ flatAlts a i t z (n + size x + 1)
+unfolding flatSeq
+flat-or x a i t z n = refl
+
+flat-last : (x : Seq) (i t z n : ℕ) → flatAlts (last x) i t z n ≡ flatSeq x false i false t z n
+unfolding flatSeq
+flat-last x i t z n = refl
+
+first-fits : (a : Alts) (x : Seq) (xs : List Seq) → listOf a ≡ x ∷ xs → (size x ≤ sizeAlts a) × (argSize x ≤ argSizeAlts a)
+first-fits (last y) x xs e = let n : y ≡ x = cc in let (p, q) = size-last y in (omega (arith, p, ap size n), omega (arith, q, ap argSize n))
+first-fits (or y b) x xs e = let n : y ≡ x = cc in let (p, q) = size-or y b in (omega (arith, p, ap size n), omega (arith, q, ap argSize n))
+
+-- the loop over alternatives: the records of the command are those written and those of the alternatives that are left
+pub record AltsLoop (s : Bytes) (depth components : ℕ) (cmd : Cmd) (to target : ℕ) (pen : Pen) (room₀ : Bytes) (z : ℕ) (room : Bytes) (k p : ℕ) (now : Pen) : Type 0 where
+  pub whole : Alts
+  pub is : cmd ≡ try whole
+  pub inside : pen .index < components
+  pub eight : components ≤ 8
+  pub alts : Alts
+  pub place : AltsAt s components depth 0 k p to
+  pub listed : listOf alts ≡ place .seqs
+  pub some-left : 0 < k
+  pub done : List Rec
+  pub wrote : Wrote done pen room₀ now room
+  pub goes : flatCmd cmd (pen .index) target (pen .n) ≡ done ++ flatAlts alts (pen .index) target z (now .n)
+  pub enough : now .to + 10 * sizeAlts alts + argSizeAlts alts ≤ length room
+  pub few : now .n + sizeAlts alts ≤ 1024
+  pub small : length room ≤ most
+
+module _ (s : Bytes) (depth : ℕ) (pen : Pen) (room : Bytes) (j : CommandJob s depth pen room) where
+  abbrev pub its-code : Coded s (j .n) depth 0 (pen .next) (j .place)
+  its-code = coded s (j .n) depth 0 (pen .next) (j .place)
+
+  abbrev pub command-head : Headed s (pen .next)
+  command-head = number-headed s (j .place .e) (pen .next) (its-code .code) (its-code .from) (j .place .fits) (its-code .reads)
+
+  abbrev pub command-here : CommandHere s depth (pen .next)
+  command-here = record { n = j .n; place = j .place; small = omega (arith, j .enough, j .small) }
+
+  module _ (v p : ℕ) (q : (v ≡ its-code .code) × (p ≡ its-code .from)) where
+    -- 30
+    module _ (z : v ≡ 30) where
+      abbrev pub sub-at : Sub s (j .n) depth 0 (pen .next) (j .place) p
+      sub-at = its-sequence s (j .n) depth 0 (pen .next) (j .place) its-code p (q .1) (sym (q .0) ∙ z)
+
+      abbrev pub sub-head : Headed s p
+      sub-head = item-headed s BYTES 0 (limits .number) (j .place .e) p (sub-at .inside .head) (j .place .fits) (omega arith) (sub-at .inside .item)
+
+      pub sub-fits : sub-at .inside .head .next + sub-at .inside .head .num ≤ length s
+      sub-fits = omega (arith, sub-at .inside .fits, j .place .fits)
+
+      pub sub-size : sizeCmd (j .place .cmd) ≡ size (sub-at .seq)
+      sub-size = ap sizeCmd (sub-at .is) ∙ size-sub (sub-at .seq)
+
+      pub sub-weight : argSizeCmd (j .place .cmd) ≡ argSize (sub-at .seq)
+      sub-weight = ap argSizeCmd (sub-at .is) ∙ arg-size-sub (sub-at .seq)
+
+      pub sub-few : (k : ℕ) → k ≡ size (sub-at .seq) → pen .n + k ≤ 1024
+      sub-few k e = omega (arith, e, sub-size, j .few)
+
+      module _ (w from : ℕ) (o : (w ≡ sub-at .inside .head .num) × (from ≡ sub-at .inside .head .next)) where
+        abbrev pub sub-place : SequenceAt s (j .n) depth 0 from
+        sub-place =
+            record {
+              section = j .place .section;
+              m = j .place .m + 1;
+              e = sub-at .inside .head .next + sub-at .inside .head .num;
+              fits = sub-fits;
+              seq = sub-at .seq;
+              to = sub-at .inside .head .next + sub-at .inside .head .num;
+              reads = rw (o .1) (sub-at .inside .reads);
+              few = omega (arith, j .place .few);
+            }
+
+        abbrev pub sub-here : SequenceHere s depth from
+        sub-here = record { n = j .n; place = sub-place; small = omega (arith, j .enough, j .small, sub-size, sub-weight) }
+
+        abbrev pub sub-job : SequenceJob s depth (entered pen from pen) room
+        sub-job =
+            record {
+              n = j .n;
+              place = sub-place;
+              inside = j .inside;
+              components = j .components;
+              enough = omega (arith, j .enough, sub-size, sub-weight);
+              few = omega (arith, j .few, sub-size);
+              small = j .small;
+            }
+
+        pub sub-wrote : (target k : ℕ) → k ≡ size (sub-at .seq) → (r : Pen) (room′ : Bytes) →
+            Wrote (flatSeq (sub-at .seq) true (pen .index) false target (pen .n + k) (pen .n)) (entered pen from pen) room r room′ →
+            CommandWrote (j .place .cmd) (j .place .to) (j .n) target pen room (entered pen (from + w) r) room′
+        sub-wrote target k e r room′ wrote =
+            let f : flatSeq (sub-at .seq) true (pen .index) false target (pen .n + k) (pen .n) ≡ flatCmd (j .place .cmd) (pen .index) target (pen .n) =
+            ap (λ (m : ℕ). flatSeq (sub-at .seq) true (pen .index) false target (pen .n + m) (pen .n)) e
+            ∙ sym (flat-sub (sub-at .seq) (pen .index) target (pen .n))
+            ∙ ap (λ (c : Cmd). flatCmd c (pen .index) target (pen .n)) (sym (sub-at .is)) in
+            holds-sequences (j .place .cmd) (j .place .to) (j .n) target pen room (from + w) r room′
+            (wrote-at _ (entered pen from pen) pen room r r room′ refl refl refl refl (rw f at wrote))
+            (omega (arith, o .0, o .1, sub-at .to)) (j .inside) (λ i. rw (sub-at .is)) (λ c. rw (sub-at .is))
+
+    -- any other but 15
+    module _ (z : v ≡ 30 → ⊥) (z′ : v ≡ 15 → ⊥) where
+      abbrev pub OneAt : Type 0
+      OneAt =
+          (x : One s v p) × (x .n ≡ j .n) × (j .place .cmd ≡ one (pen .next) (x .op) (x .coerce)) × (x .to ≡ j .place .to)
+          × (j .place .m < limits .commands)
+
+      pub one-at : OneAt
+      one-at = command-one s (j .n) (j .place .section) depth (j .place .m) (j .place .e) (pen .next) (j .place .cmd) (j .place .to) (j .place .fits) (j .place .reads) v p (rw (q .0, q .1) (its-code .reads)) z z′
+
+      abbrev pub leaf-job : LeafJob s v p pen room
+      leaf-job =
+          record {
+            argument = one-at .0;
+            inside = omega (arith, j .inside, one-at .1);
+            components = omega (arith, j .components, one-at .1);
+            enough = omega (arith, j .enough, ap sizeCmd (one-at .2), ap argSizeCmd (one-at .2), size-one (pen .next) (one-at .0 .op) (one-at .0 .coerce), arg-size-one (pen .next) (one-at .0 .op) (one-at .0 .coerce));
+            count = omega (arith, j .few, ap sizeCmd (one-at .2), size-one (pen .next) (one-at .0 .op) (one-at .0 .coerce));
+          }
+
+      pub leaf-wrote : (target : ℕ) (r : Pen) (room′ : Bytes) →
+          CommandWrote (one (pen .next) (one-at .0 .op) (one-at .0 .coerce)) (one-at .0 .to) (one-at .0 .n) target pen room r room′ →
+          CommandWrote (j .place .cmd) (j .place .to) (j .n) target pen room r room′
+      leaf-wrote target r room′ w = wrote-as _ _ _ _ _ _ target pen room r room′ (one-at .2) (one-at .3) (one-at .1) w
+
+    -- 15
+    module _ (y : v ≡ 15) where
+      abbrev pub tries-at : Tries s (j .n) depth 0 (pen .next) (j .place) p
+      tries-at = its-alternatives s (j .n) depth 0 (pen .next) (j .place) its-code p (q .1) (sym (q .0) ∙ y)
+
+      abbrev pub tries-head : Headed s p
+      tries-head = item-headed s ARRAY 1 (limits .alternatives) (j .place .e) p (tries-at .head) (j .place .fits) (omega arith) (tries-at .item)
+
+      pub tries-start : (target w from z : ℕ) → (w ≡ tries-at .head .num) × (from ≡ tries-at .head .next) → (k : ℕ) → k ≡ sizeCmd (j .place .cmd) → z ≡ pen .n + k →
+          AltsLoop s depth (j .n) (j .place .cmd) (j .place .to) target pen room z room w from pen
+      tries-start target w from z o k e e′ =
+          let (l, size) = alternatives-law s (sequenceAt s (j .n) (j .place .section) depth) (tries-at .head .num - 1) (j .place .m + 1) (j .place .e) (tries-at .head .next) (tries-at .alts) (j .place .to) (tries-at .reads) in
+          let sz : sizeCmd (j .place .cmd) ≡ sizeAlts (tries-at .alts) = ap sizeCmd (tries-at .is) ∙ size-try (tries-at .alts) in
+          let wt : argSizeCmd (j .place .cmd) ≡ argSizeAlts (tries-at .alts) = ap argSizeCmd (tries-at .is) ∙ arg-size-try (tries-at .alts) in
+          let zz : pen .n + sizeAlts (tries-at .alts) ≡ z = omega (arith, e, e′, sz) in
+          record {
+            whole = tries-at .alts;
+            is = tries-at .is;
+            inside = j .inside;
+            eight = j .components;
+            alts = tries-at .alts;
+            place =
+                record {
+                  section = j .place .section;
+                  m = j .place .m + 1;
+                  e = j .place .e;
+                  fits = j .place .fits;
+                  seqs = listOf (tries-at .alts);
+                  size = omega (arith, size, o .0, tries-at .some-of);
+                  reads = rw (o .1) l;
+                  few = omega (arith, j .place .few);
+                };
+            listed = refl;
+            some-left = omega (arith, o .0, tries-at .some-of);
+            done = [];
+            wrote = wrote-none pen pen room refl refl;
+            goes =
+                ap (λ (c : Cmd). flatCmd c (pen .index) target (pen .n)) (tries-at .is)
+                ∙ flat-try (tries-at .alts) (pen .index) target (pen .n)
+                ∙ ap (λ (m : ℕ). flatAlts (tries-at .alts) (pen .index) target m (pen .n)) zz;
+            enough = omega (arith, j .enough, sz, wt);
+            few = omega (arith, j .few, sz);
+            small = j .small;
+          }
+
+module _ (s : Bytes) (depth components : ℕ) (cmd : Cmd) (to target : ℕ) (pen : Pen) (room₀ : Bytes) (z : ℕ) (room : Bytes) (k p : ℕ) (now : Pen)
+    (l : AltsLoop s depth components cmd to target pen room₀ z room k p now) where
+  abbrev pub its-choice : Choice s components depth 0 k p to (l .place)
+  its-choice = choice s components depth 0 k p to (l .place) (l .some-left)
+
+  abbrev pub choice-head : Headed s p
+  choice-head = item-headed s BYTES 0 (limits .number) (l .place .e) p (its-choice .inside .head) (l .place .fits) (omega arith) (its-choice .inside .item)
+
+  pub choice-fits : its-choice .inside .head .next + its-choice .inside .head .num ≤ length s
+  choice-fits = omega (arith, its-choice .inside .fits, l .place .fits)
+
+  pub choice-size : (size (its-choice .first) ≤ sizeAlts (l .alts)) × (argSize (its-choice .first) ≤ argSizeAlts (l .alts))
+  choice-size = first-fits (l .alts) (its-choice .first) (its-choice .rest .seqs) (l .listed ∙ its-choice .seqs)
+
+  abbrev More : Type 0
+  More = (b : Alts) × (l .alts ≡ or (its-choice .first) b) × (its-choice .rest .seqs ≡ listOf b)
+
+  more : 1 < k → More
+  more h = more-alts (l .alts) (its-choice .first) (its-choice .rest .seqs) (l .listed ∙ its-choice .seqs) (omega (arith, its-choice .rest .size))
+
+  -- the record after an alternative but the last, and its jump
+  pub choice-few : 1 < k → (w : ℕ) → w ≡ size (its-choice .first) → now .n + w + 1 ≤ 1024
+  choice-few h w e = let (b, a, _) = more h in omega (arith, e, l .few, ap sizeAlts a, size-or (its-choice .first) b .0)
+
+  module _ (w from : ℕ) (o : (w ≡ its-choice .inside .head .num) × (from ≡ its-choice .inside .head .next)) where
+    abbrev pub choice-place : SequenceAt s components depth 0 from
+    choice-place =
+        record {
+          section = l .place .section;
+          m = l .place .m;
+          e = its-choice .inside .head .next + its-choice .inside .head .num;
+          fits = choice-fits;
+          seq = its-choice .first;
+          to = its-choice .inside .head .next + its-choice .inside .head .num;
+          reads = rw (o .1) (its-choice .inside .reads);
+          few = l .place .few;
+        }
+
+    abbrev pub choice-here : SequenceHere s depth from
+    choice-here = record { n = components; place = choice-place; small = omega (arith, l .enough, l .small, choice-size .0, choice-size .1) }
+
+    abbrev pub choice-job : SequenceJob s depth (entered pen from now) room
+    choice-job =
+        record {
+          n = components;
+          place = choice-place;
+          inside = l .inside;
+          components = l .eight;
+          enough = omega (arith, l .enough, choice-size .0, choice-size .1);
+          few = omega (arith, l .few, choice-size .0);
+          small = l .small;
+        }
+
+    -- an alternative but the last
+    module _ (h : 1 < k) (t : ℕ) (r : Pen) (room′ : Bytes)
+        (wrote : Wrote (flatSeq (its-choice .first) false (pen .index) false t z (now .n)) (entered pen from now) room r room′) where
+      pub jump-room : r .to + 10 ≤ length room′
+      jump-room =
+          let (b, a, _) = more h in
+          let f : List Rec = flatSeq (its-choice .first) false (pen .index) false t z (now .n) in
+          let (p₁, p₂) = size-or (its-choice .first) b in
+          omega (arith, l .enough, ap sizeAlts a, ap argSizeAlts a, p₁, p₂, wrote .to, bytes-seq (its-choice .first) false (pen .index) false t z (now .n), same-room f (entered pen from now) room r room′ wrote)
+
+      pub jump-few : r .n < 1024
+      jump-few =
+          let (b, a, _) = more h in
+          omega (arith, l .few, ap sizeAlts a, size-or (its-choice .first) b .0, wrote .n, length-seq (its-choice .first) false (pen .index) false t z (now .n))
+
+      pub tries-on : t ≡ now .n + size (its-choice .first) + 1 → (r′ : Pen) (room″ : Bytes) → JumpWrote z r room′ r′ room″ →
+          AltsLoop s depth components cmd to target pen room₀ z room″ (k - 1) (from + w) r′
+      tries-on e r′ room″ jumped =
+          let (b, a, rest) = more h in
+          let x : Seq = its-choice .first in
+          let f : List Rec = flatSeq x false (pen .index) false t z (now .n) in
+          let (p₁, p₂) = size-or x b in
+          let e₁ = ap sizeAlts a in
+          let e₂ = ap argSizeAlts a in
+          let n₁ = length-seq x false (pen .index) false t z (now .n) in
+          let b₁ = bytes-seq x false (pen .index) false t z (now .n) in
+          let g : Wrote (l .done ++ f) pen room₀ r room′ = wrote-then (l .done) f pen room₀ now room (entered pen from now) r room′ refl refl (l .wrote) wrote in
+          let nn : r′ .n ≡ now .n + size x + 1 = omega (arith, wrote .n, jumped .wrote .n, n₁) in
+          let tt′ : r′ .to ≡ now .to + (10 * size x + argSize x) + 10 = omega (arith, wrote .to, jumped .wrote .to, b₁, bytes-jump z) in
+          let ll : length room″ ≡ length room =
+          same-room (jump z ∷ []) r room′ r′ room″ (jumped .wrote) ∙ same-room f (entered pen from now) room r room′ wrote in
+          record {
+            whole = l .whole;
+            is = l .is;
+            inside = l .inside;
+            eight = l .eight;
+            alts = b;
+            place =
+                record {
+                  section = its-choice .rest .section;
+                  m = its-choice .rest .m;
+                  e = its-choice .rest .e;
+                  fits = its-choice .rest .fits;
+                  seqs = its-choice .rest .seqs;
+                  size = its-choice .rest .size;
+                  reads = rw (o .0, o .1) (its-choice .rest .reads);
+                  few = its-choice .rest .few;
+                };
+            listed = sym rest;
+            some-left = omega (arith, h);
+            done = l .done ++ f ++ (jump z ∷ []);
+            wrote = wrote-then (l .done ++ f) (jump z ∷ []) pen room₀ r room′ r r′ room″ refl refl g (jumped .wrote);
+            goes =
+                l .goes
+                ∙ ap (λ (v : Alts). l .done ++ flatAlts v (pen .index) target z (now .n)) a
+                ∙ ap (λ (v : List Rec). l .done ++ v) (flat-or x b (pen .index) target z (now .n))
+                ∙ rw (e, nn) (sym (append-assoc (l .done) (flatSeq x false (pen .index) false (now .n + size x + 1) z (now .n)) (jump z ∷ flatAlts b (pen .index) target z (now .n + size x + 1)))
+                ∙ sym (append-assoc (l .done ++ flatSeq x false (pen .index) false (now .n + size x + 1) z (now .n)) (jump z ∷ []) (flatAlts b (pen .index) target z (now .n + size x + 1))));
+            enough = omega (arith, l .enough, e₁, e₂, p₁, p₂, tt′, ll);
+            few = omega (arith, l .few, e₁, p₁, nn);
+            small = omega (arith, l .small, ll);
+          }
+
+    -- the last
+    pub tries-last : k ≡ 1 → (r : Pen) (room′ : Bytes) → Wrote (flatSeq (its-choice .first) false (pen .index) false target z (now .n)) (entered pen from now) room r room′ →
+        CommandWrote cmd to components target pen room₀ (entered pen (from + w) r) room′
+    tries-last h r room′ wrote =
+        let x : Seq = its-choice .first in
+        let f : List Rec = flatSeq x false (pen .index) false target z (now .n) in
+        let (a, none) = last-alts (l .alts) x (its-choice .rest .seqs) (l .listed ∙ its-choice .seqs) (omega (arith, h, its-choice .rest .size)) in
+        let ends : its-choice .inside .head .next + its-choice .inside .head .num ≡ to =
+        no-others (its-choice .rest .seqs) none (its-choice .rest .reads) in
+        let g : flatCmd cmd (pen .index) target (pen .n) ≡ l .done ++ f =
+        l .goes
+        ∙ ap (λ (v : Alts). l .done ++ flatAlts v (pen .index) target z (now .n)) a
+        ∙ ap (λ (v : List Rec). l .done ++ v) (flat-last x (pen .index) target z (now .n)) in
+        holds-sequences cmd to components target pen room₀ (from + w) r room′
+        (rw g (wrote-then (l .done) f pen room₀ now room (entered pen from now) r room′ refl refl (l .wrote) wrote))
+        (omega (arith, o .0, o .1, ends)) (l .inside) (λ i. rw (l .is)) (λ c. rw (l .is))
+      where
+        no-others : (list : List Seq) → list ≡ [] → Alternatives s (sequenceAt s components (its-choice .rest .section) depth) (its-choice .rest .e) list (its-choice .rest .m) (its-choice .inside .head .next + its-choice .inside .head .num) to →
+            its-choice .inside .head .next + its-choice .inside .head .num ≡ to
+        no-others [] e q = q
+        no-others (y ∷ ys) e q = absurd (omega (arith, ap length e))

@@ -1,0 +1,128 @@
+// The records of sequences and commands, written to lent room.
+ghost use mathlib.Core.Path.{_≡_};
+ghost use Prim.Native.Nat.{_+_, _≤_};
+ghost use Rattle.rules.specs.Program.{flatSeq};
+ghost use mathlib.Core.Bool.{false, _&&_, cond};
+ghost use Rattle.manifest_accessors.specs.Arguments.{isTrue};
+ghost use Rattle.translate_record.specs.Record.{Wrote, CommandWrote};
+ghost use Rattle.translate_sequence.specs.Write.{SequenceJob, CommandJob};
+use manifest_accessors::heads::open;
+use translate_record::record::Pen;
+use translate_record::record::put_command;
+use translate_record::record::put_jump;
+use translate_size::sizes::size_command;
+use translate_size::sizes::size_sequence;
+
+// The target of a failed condition: `beyond` in a sequence that code 30 runs, where coerce is true.
+fn caught(own: bool, coerce: usize, beyond: usize, target: usize) -> usize
+    ensures { λ r. ⌜ r ≡ cond (own && isTrue coerce) beyond target ⌝ }
+{
+    if own {
+        if coerce == 2 {
+            return beyond;
+        }
+    }
+    target
+}
+
+// The record after a sequence of that many, the first of which has number n: there a failure under the sequence's coerce goes on.
+fn record_after(n: usize, records: usize) -> usize
+    requires { ⌜ n + records ≤ 1024 ⌝ }
+    ensures { λ r. ⌜ r ≡ n + records ⌝ }
+{
+    n + records
+}
+
+// The pen at the start of the sequence at `at`, where `now` writes.
+fn enter(pen: Pen, at: usize, now: Pen) -> Pen
+    ensures { λ r. ⌜ r ≡ record { next = at; index = pen .index; coerce = pen .coerce; n = now .n; to = now .to } ⌝ }
+{
+    Pen {
+        next: at,
+        index: pen.index,
+        coerce: pen.coerce,
+        n: now.n,
+        to: now.to,
+    }
+}
+
+// The sequence at pen.next: a failed condition goes on at `target`, or at `beyond` where `own` holds and coerce is true.
+pub fn write_sequence(
+    s: &[u8],
+    depth: usize,
+    own: bool,
+    target: usize,
+    beyond: usize,
+    pen: Pen,
+    room: &mut [u8],
+) -> Pen
+    requires { ⌜ SequenceJob (now s) depth pen (now room) ⌝ }
+    ensures { λ r. ⌜ ((j : SequenceJob (now (s .entry)) depth pen (now (room .entry))) → Wrote (flatSeq (j .place .seq) own (pen .index) false target beyond (pen .n)) pen (now (room .entry)) r (now (room .exit))) ⌝ }
+{
+    let h = open(s, pen.next);
+    let mut now = Pen {
+        next: h.next,
+        index: pen.index,
+        coerce: 1,
+        n: pen.n,
+        to: pen.to,
+    };
+    let mut left = h.value / 2;
+    while 0 < left {
+        let t = caught(own, now.coerce, beyond, target);
+        now = write_command(s, depth - 1, t, now, room);
+        left -= 1;
+    }
+    now
+}
+
+// The command at pen.next: a failed condition goes on at `target`.
+pub fn write_command(s: &[u8], depth: usize, target: usize, pen: Pen, room: &mut [u8]) -> Pen
+    requires { ⌜ CommandJob (now s) depth pen (now room) ⌝ }
+    ensures { λ r. ⌜ ((j : CommandJob (now (s .entry)) depth pen (now (room .entry))) → CommandWrote (j .place .cmd) (j .place .to) (j .n) target pen (now (room .entry)) r (now (room .exit))) ⌝ }
+{
+    let c = open(s, pen.next);
+    let code = c.value;
+    if code == 30 {
+        let b = open(s, c.next);
+        let inner = size_sequence(s, depth, b.next);
+        let r = write_sequence(
+            s,
+            depth,
+            true,
+            target,
+            record_after(pen.n, inner.records),
+            enter(pen, b.next, pen),
+            room,
+        );
+        return enter(pen, b.next + b.value, r);
+    }
+    if code == 15 {
+        let whole = size_command(s, depth, pen.next);
+        let z = pen.n + whole.records;
+        let h = open(s, c.next);
+        let mut left = h.value;
+        let mut p = h.next;
+        let mut now = pen;
+        while 1 < left {
+            let b = open(s, p);
+            let alternative = size_sequence(s, depth, b.next);
+            now = write_sequence(
+                s,
+                depth,
+                false,
+                now.n + alternative.records + 1,
+                z,
+                enter(pen, b.next, now),
+                room,
+            );
+            now = put_jump(z, now, room);
+            p = b.next + b.value;
+            left -= 1;
+        }
+        let b = open(s, p);
+        let r = write_sequence(s, depth, false, target, z, enter(pen, b.next, now), room);
+        return enter(pen, b.next + b.value, r);
+    }
+    put_command(s, code, c.next, target, pen, room)
+}

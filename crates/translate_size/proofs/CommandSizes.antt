@@ -1,0 +1,241 @@
+-- A command, by its code, as it is counted.
+use Prim.Native.Nat.{ℕ, _+_, _-_, _≤_, _<_}
+use mathlib.Core.Path.{_≡_, sym, ap, _∙_}
+use native.Mathlib.Omega.{arith}
+use lib.ListN.{length}
+use Rattle.rules.specs.Bytes.{Bytes}
+use Rattle.rules.specs.Cbor.{BYTES, ARRAY}
+use Rattle.rules.specs.Limits.{limits}
+use Rattle.rules.specs.Manifest.{Cmd, one, Alts, last, or}
+use Rattle.rules.specs.Check.{sequenceAt}
+use Rattle.rules.specs.Program.{size, sizeCmd, sizeAlts}
+use Rattle.rules.specs.ProgramSize.{argSize, argSizeCmd, argSizeAlts, sizeAll, argSizeAll}
+use Rattle.manifest_accessors.specs.declared.arguments.Args.{Args}
+use Rattle.manifest_accessors.specs.Arguments.{One, ReadAs}
+use Rattle.manifest_accessors.specs.Heads.{Headed}
+use Rattle.manifest_accessors.proofs.HeadLaws.{item-headed, number-headed}
+use Rattle.manifest_accessors.proofs.ArgumentLaws.{command-one}
+use Rattle.manifest_accessors.proofs.CommandPlaces.{Coded, coded, Sub, its-sequence, Tries, its-alternatives, listOf, alternatives-law}
+use Rattle.manifest_accessors.proofs.TryPlaces.{AltsAt, Choice, choice, no-choice}
+use Rattle.translate_size.specs.declared.sizes.Size.{Size}
+use Rattle.translate_size.specs.Size.{argumentSize, most, SequenceHere, CommandHere, SequenceSized, CommandSized}
+use Rattle.translate_size.proofs.ArgumentSizes.{argument-is}
+
+size-alts : (a : Alts) → sizeAlts a + 1 ≡ sizeAll (listOf a) + length (listOf a)
+unfolding size sizeAll
+size-alts (last a) = omega arith
+size-alts (or a b) = omega (arith, size-alts b)
+
+arg-size-alts : (a : Alts) → argSizeAlts a ≡ argSizeAll (listOf a)
+unfolding argSize argSizeAll
+arg-size-alts (last a) = omega arith
+arg-size-alts (or a b) = omega (arith, arg-size-alts b)
+
+-- the loop over alternatives: what is counted and the alternatives that are left make the whole
+pub record Choices (s : Bytes) (depth : ℕ) (cmd : Cmd) (to k : ℕ) (now : Size) : Type 0 where
+  pub n : ℕ
+  pub place : AltsAt s n depth 0 k (now .next) to
+  pub records : now .records + sizeAll (place .seqs) ≡ sizeCmd cmd
+  pub arguments : now .arguments + argSizeAll (place .seqs) ≡ argSizeCmd cmd
+  pub small : sizeCmd cmd + argSizeCmd cmd ≤ most
+
+module _ (s : Bytes) (depth at : ℕ) (j : CommandHere s depth at) where
+  abbrev its-code : Coded s (j .n) depth 0 at (j .place)
+  its-code = coded s (j .n) depth 0 at (j .place)
+
+  abbrev pub command-head : Headed s at
+  command-head = number-headed s (j .place .e) at (its-code .code) (its-code .from) (j .place .fits) (its-code .reads)
+
+  module _ (v p : ℕ) (q : (v ≡ its-code .code) × (p ≡ its-code .from)) where
+    -- 30
+    module _ (z : v ≡ 30) where
+      abbrev sub-at : Sub s (j .n) depth 0 at (j .place) p
+      sub-at = its-sequence s (j .n) depth 0 at (j .place) its-code p (q .1) (sym (q .0) ∙ z)
+
+      abbrev pub sub-head : Headed s p
+      sub-head = item-headed s BYTES 0 (limits .number) (j .place .e) p (sub-at .inside .head) (j .place .fits) (omega arith) (sub-at .inside .item)
+
+      pub sub-fits : sub-at .inside .head .next + sub-at .inside .head .num ≤ length s
+      sub-fits = omega (arith, sub-at .inside .fits, j .place .fits)
+
+      sub-size : sizeCmd (j .place .cmd) ≡ size (sub-at .seq)
+      unfolding size
+      sub-size = ap sizeCmd (sub-at .is)
+
+      sub-weight : argSizeCmd (j .place .cmd) ≡ argSize (sub-at .seq)
+      unfolding argSize
+      sub-weight = ap argSizeCmd (sub-at .is)
+
+      pub sub-small : size (sub-at .seq) + argSize (sub-at .seq) ≤ most
+      sub-small = omega (arith, sub-size, sub-weight, j .small)
+
+      module _ (w from : ℕ) (o : (w ≡ sub-at .inside .head .num) × (from ≡ sub-at .inside .head .next)) where
+        abbrev pub sub-here : SequenceHere s depth from
+        sub-here =
+            record {
+              n = j .n;
+              place =
+                  record {
+                    section = j .place .section;
+                    m = j .place .m + 1;
+                    e = sub-at .inside .head .next + sub-at .inside .head .num;
+                    fits = sub-fits;
+                    seq = sub-at .seq;
+                    to = sub-at .inside .head .next + sub-at .inside .head .num;
+                    reads = rw (o .1) (sub-at .inside .reads);
+                    few = omega arith;
+                  };
+              small = sub-small;
+            }
+
+        pub sub-sized : (r : Size) → SequenceSized (sub-at .seq) r →
+            CommandSized (j .place .cmd) (j .place .to) (record { next = from + w; records = r .records; arguments = r .arguments })
+        sub-sized r sized =
+            record {
+              records = sized .records ∙ sym sub-size;
+              arguments = sized .arguments ∙ sym sub-weight;
+              next = omega (arith, o .0, o .1, sub-at .to);
+            }
+
+    -- any other but 15
+    module _ (z : v ≡ 30 → ⊥) (z′ : v ≡ 15 → ⊥) where
+      abbrev pub OneAt : Type 0
+      OneAt = (x : One s v p) × (x .n ≡ j .n) × (j .place .cmd ≡ one at (x .op) (x .coerce)) × (x .to ≡ j .place .to) × (j .place .m < limits .commands)
+
+      pub one-at : OneAt
+      one-at =
+          command-one s (j .n) (j .place .section) depth (j .place .m) (j .place .e) at (j .place .cmd) (j .place .to) (j .place .fits) (j .place .reads) v p (rw (q .0, q .1) (its-code .reads)) z z′
+
+      abbrev pub one-here : One s v p
+      one-here = one-at .0
+
+      module _ (a : Args) (r : ReadAs s v p one-here a) where
+        one-weight : argSizeCmd (j .place .cmd) ≡ argumentSize v a
+        unfolding argSize
+        one-weight = ap argSizeCmd (one-at .2) ∙ sym (argument-is s v p one-here a r)
+
+        pub one-small : argumentSize v a ≤ most
+        one-small = omega (arith, one-weight, j .small)
+
+        pub one-sized : (n : ℕ) → n ≡ argumentSize v a → CommandSized (j .place .cmd) (j .place .to) (record { next = a .next; records = 1; arguments = n })
+        unfolding size
+        one-sized n e =
+            record {
+              records = sym (ap sizeCmd (one-at .2));
+              arguments = e ∙ sym one-weight;
+              next = r .next ∙ one-at .3;
+            }
+
+    -- 15
+    module _ (z : v ≡ 15) where
+      abbrev tries-at : Tries s (j .n) depth 0 at (j .place) p
+      tries-at = its-alternatives s (j .n) depth 0 at (j .place) its-code p (q .1) (sym (q .0) ∙ z)
+
+      abbrev pub tries-head : Headed s p
+      tries-head = item-headed s ARRAY 1 (limits .alternatives) (j .place .e) p (tries-at .head) (j .place .fits) (omega arith) (tries-at .item)
+
+      tries-size : sizeCmd (j .place .cmd) ≡ sizeAlts (tries-at .alts)
+      unfolding size
+      tries-size = ap sizeCmd (tries-at .is)
+
+      tries-weight : argSizeCmd (j .place .cmd) ≡ argSizeAlts (tries-at .alts)
+      unfolding argSize
+      tries-weight = ap argSizeCmd (tries-at .is)
+
+      module _ (w from : ℕ) (o : (w ≡ tries-at .head .num) × (from ≡ tries-at .head .next)) where
+        pub tries-some : 1 ≤ w
+        tries-some = omega (arith, o .0, tries-at .some-of)
+
+        pub choices-start : Choices s depth (j .place .cmd) (j .place .to) w (record { next = from; records = w - 1; arguments = 0 })
+        choices-start =
+            let (l, many) = alternatives-law s (sequenceAt s (j .n) (j .place .section) depth) (tries-at .head .num - 1) (j .place .m + 1) (j .place .e) (tries-at .head .next) (tries-at .alts) (j .place .to) (tries-at .reads) in
+            record {
+              n = j .n;
+              place =
+                  record {
+                    section = j .place .section;
+                    m = j .place .m + 1;
+                    e = j .place .e;
+                    fits = j .place .fits;
+                    seqs = listOf (tries-at .alts);
+                    size = omega (arith, many, o .0, tries-at .some-of);
+                    reads = rw (o .1) l;
+                    few = omega arith;
+                  };
+              records = omega (arith, tries-size, size-alts (tries-at .alts), many, o .0, tries-at .some-of);
+              arguments = omega (arith, tries-weight, arg-size-alts (tries-at .alts));
+              small = j .small;
+            }
+
+module _ (s : Bytes) (depth : ℕ) (cmd : Cmd) (to k : ℕ) (now : Size) (l : Choices s depth cmd to k now) where
+  pub choices-done : k ≡ 0 → CommandSized cmd to now
+  unfolding sizeAll argSizeAll
+  choices-done z =
+      let (e, at) = no-choice s (l .n) depth 0 k (now .next) to (l .place) z in
+      record { records = omega (arith, l .records, ap sizeAll e); arguments = omega (arith, l .arguments, ap argSizeAll e); next = at }
+
+  module _ (h : 0 < k) where
+    abbrev its-choice : Choice s (l .n) depth 0 k (now .next) to (l .place)
+    its-choice = choice s (l .n) depth 0 k (now .next) to (l .place) h
+
+    abbrev pub choice-head : Headed s (now .next)
+    choice-head = item-headed s BYTES 0 (limits .number) (l .place .e) (now .next) (its-choice .inside .head) (l .place .fits) (omega arith) (its-choice .inside .item)
+
+    pub choice-fits : its-choice .inside .head .next + its-choice .inside .head .num ≤ length s
+    choice-fits = omega (arith, its-choice .inside .fits, l .place .fits)
+
+    sum : sizeAll (l .place .seqs) ≡ size (its-choice .first) + sizeAll (its-choice .rest .seqs)
+    unfolding sizeAll
+    sum = ap sizeAll (its-choice .seqs)
+
+    weight : argSizeAll (l .place .seqs) ≡ argSize (its-choice .first) + argSizeAll (its-choice .rest .seqs)
+    unfolding argSizeAll
+    weight = ap argSizeAll (its-choice .seqs)
+
+    pub choice-small : size (its-choice .first) + argSize (its-choice .first) ≤ most
+    choice-small = omega (arith, sum, weight, l .records, l .arguments, l .small)
+
+    module _ (w from : ℕ) (o : (w ≡ its-choice .inside .head .num) × (from ≡ its-choice .inside .head .next)) where
+      abbrev pub choice-here : SequenceHere s depth from
+      choice-here =
+          record {
+            n = l .n;
+            place =
+                record {
+                  section = l .place .section;
+                  m = l .place .m;
+                  e = its-choice .inside .head .next + its-choice .inside .head .num;
+                  fits = choice-fits;
+                  seq = its-choice .first;
+                  to = its-choice .inside .head .next + its-choice .inside .head .num;
+                  reads = rw (o .1) (its-choice .inside .reads);
+                  few = omega arith;
+                };
+            small = choice-small;
+          }
+
+      module _ (r : Size) (sized : SequenceSized (its-choice .first) r) where
+        pub choices-small : (now .records + r .records ≤ most) × (now .arguments + r .arguments ≤ most)
+        choices-small =
+            (omega (arith, sum, l .records, l .small, sized .records), omega (arith, weight, l .arguments, l .small, sized .arguments))
+
+        pub choices-on : Choices s depth cmd to (k - 1) (record { next = from + w; records = now .records + r .records; arguments = now .arguments + r .arguments })
+        choices-on =
+            let t = its-choice in
+            record {
+              n = l .n;
+              place =
+                  record {
+                    section = t .rest .section;
+                    m = t .rest .m;
+                    e = t .rest .e;
+                    fits = t .rest .fits;
+                    seqs = t .rest .seqs;
+                    size = t .rest .size;
+                    reads = rw (o .0, o .1) (t .rest .reads);
+                    few = omega arith;
+                  };
+              records = omega (arith, sum, l .records, sized .records);
+              arguments = omega (arith, weight, l .arguments, sized .arguments);
+              small = l .small;
+            }

@@ -1,0 +1,45 @@
+-- How many records a sequence has, and how many bytes their arguments have, read off an accepted envelope.
+use Prim.Native.Nat.{ℕ, _+_, _≤_}
+use mathlib.Core.Path.{_≡_}
+use mathlib.Core.Bool.{cond}
+use lib.Dec.{eqb}
+use Rattle.rules.specs.Bytes.{Bytes}
+use Rattle.rules.specs.Manifest.{Seq, Cmd}
+use Rattle.rules.specs.Program.{size, sizeCmd}
+use Rattle.rules.specs.ProgramSize.{argSize, argSizeCmd}
+use Rattle.manifest_accessors.specs.declared.arguments.Args.{Args}
+use Rattle.manifest_accessors.specs.Places.{CommandAt, SequenceAt}
+use Rattle.translate_size.specs.declared.sizes.Size.{Size}
+
+-- the bytes of the parameters that are set: key, length and value
+abbrev pub parametersSize : Args → ℕ
+parametersSize a =
+    cond (eqb (a .uri) 0) 0 (a .length) + cond (eqb (a .uri) 0) 0 2 + cond (eqb (a .source) 0) 0 3 + cond (eqb (a .digest) 0) 0 34 + cond (eqb (a .size) 0) 0 6
+
+-- the bytes of the argument of the command of that code
+abbrev pub argumentSize : ℕ → Args → ℕ
+argumentSize c a = cond (eqb c 1) 16 (cond (eqb c 2) 16 (cond (eqb c 19) (parametersSize a) (cond (eqb c 20) (parametersSize a) 0)))
+
+-- the largest number
+abbrev pub most : ℕ
+most = 0xffffffffffffffff
+
+-- the sequence or command at `at` as check read it, of a size that can be counted
+pub record SequenceHere (s : Bytes) (depth at : ℕ) : Type 0 where
+  pub n : ℕ
+  pub place : SequenceAt s n depth 0 at
+  pub small : size (place .seq) + argSize (place .seq) ≤ most
+
+pub record CommandHere (s : Bytes) (depth at : ℕ) : Type 0 where
+  pub n : ℕ
+  pub place : CommandAt s n depth 0 at
+  pub small : sizeCmd (place .cmd) + argSizeCmd (place .cmd) ≤ most
+
+pub record SequenceSized (seq : Seq) (r : Size) : Type 0 where
+  pub records : r .records ≡ size seq
+  pub arguments : r .arguments ≡ argSize seq
+
+pub record CommandSized (cmd : Cmd) (to : ℕ) (r : Size) : Type 0 where
+  pub records : r .records ≡ sizeCmd cmd
+  pub arguments : r .arguments ≡ argSizeCmd cmd
+  pub next : r .next ≡ to

@@ -1,0 +1,114 @@
+// How many records a sequence has, and how many bytes their arguments have.
+ghost use mathlib.Core.Path.{_≡_};
+ghost use Prim.Native.Nat.{_≤_};
+ghost use Rattle.translate_size.specs.Size.{parametersSize, argumentSize, most, SequenceHere, CommandHere, SequenceSized, CommandSized};
+use manifest_accessors::arguments::Args;
+use manifest_accessors::arguments::read_one;
+use manifest_accessors::heads::open;
+use rules::tables::Argument;
+use rules_tables::argument_of;
+use run_slots::params::either;
+
+// Records, the bytes of their arguments, and the place after what was read.
+pub struct Size {
+    pub next: usize,
+    pub records: usize,
+    pub arguments: usize,
+}
+
+// The bytes of the parameters that are set: key, length and value.
+fn parameters_size(a: Args) -> usize
+    requires { ⌜ parametersSize a ≤ most ⌝ }
+    ensures { λ r. ⌜ r ≡ parametersSize a ⌝ }
+{
+    let text = either(a.uri, a.length, 0);
+    let uri = either(a.uri, 2, 0);
+    let source = either(a.source, 3, 0);
+    let digest = either(a.digest, 34, 0);
+    let size = either(a.size, 6, 0);
+    text + uri + source + digest + size
+}
+
+// How many bytes the argument of a command has in its record, by its kind in the table.
+pub fn argument_size(code: usize, a: Args) -> usize
+    requires { ⌜ argumentSize code a ≤ most ⌝ }
+    ensures { λ r. ⌜ r ≡ argumentSize code a ⌝ }
+{
+    match argument_of(code) {
+        Argument::Sixteen => 16,
+        Argument::Parameters => parameters_size(a),
+        Argument::Nil => 0,
+        Argument::Index => 0,
+        Argument::Alternatives => 0,
+        Argument::Sequence => 0,
+    }
+}
+
+// The sequence at `at`; it and those in it may be `depth` deep.
+pub fn size_sequence(s: &[u8], depth: usize, at: usize) -> Size
+    requires { ⌜ SequenceHere (now s) depth at ⌝ }
+    ensures { λ r. ⌜ ((j : SequenceHere (now (s .entry)) depth at) → SequenceSized (j .place .seq) r) ⌝ }
+{
+    let h = open(s, at);
+    let mut now = Size {
+        next: h.next,
+        records: 0,
+        arguments: 0,
+    };
+    let mut left = h.value / 2;
+    while 0 < left {
+        let c = size_command(s, depth - 1, now.next);
+        now = Size {
+            next: c.next,
+            records: now.records + c.records,
+            arguments: now.arguments + c.arguments,
+        };
+        left -= 1;
+    }
+    now
+}
+
+// The command at `at`; the sequences that it holds may be `depth` deep.
+pub fn size_command(s: &[u8], depth: usize, at: usize) -> Size
+    requires { ⌜ CommandHere (now s) depth at ⌝ }
+    ensures { λ r. ⌜ ((j : CommandHere (now (s .entry)) depth at) → CommandSized (j .place .cmd) (j .place .to) r) ⌝ }
+{
+    let c = open(s, at);
+    let code = c.value;
+    if code == 30 {
+        let b = open(s, c.next);
+        let r = size_sequence(s, depth, b.next);
+        return Size {
+            next: b.next + b.value,
+            records: r.records,
+            arguments: r.arguments,
+        };
+    }
+    if code == 15 {
+        let h = open(s, c.next);
+        let mut left = h.value;
+        // each alternative but the last has a jump after it
+        let mut now = Size {
+            next: h.next,
+            records: left - 1,
+            arguments: 0,
+        };
+        while 0 < left {
+            let b = open(s, now.next);
+            let r = size_sequence(s, depth, b.next);
+            now = Size {
+                next: b.next + b.value,
+                records: now.records + r.records,
+                arguments: now.arguments + r.arguments,
+            };
+            left -= 1;
+        }
+        return now;
+    }
+    let a = read_one(s, code, c.next);
+    Size {
+        next: a.next,
+        records: 1,
+        arguments: argument_size(code, a),
+    }
+}
