@@ -38,9 +38,9 @@ module _ (d : Reader) where
       go (got h) _ = refl
 
   -- a head, or 65 with nothing moved
-  pub or-65 : (readOf (headHere d) .stop ≡ 0) ⊎ ((readOf (headHere d) .stop ≡ 65) × (readOf (headHere d) .next ≡ d .at) × (moved d (headHere d) ≡ d))
+  pub or-65 : (readOf (headHere d) .refusal ≡ 0) ⊎ ((readOf (headHere d) .refusal ≡ 65) × (readOf (headHere d) .next ≡ d .at) × (moved d (headHere d) ≡ d))
   or-65 = go (headHere d) (head-place _ _ _)
     where
-      go : (x : Got Head) → At (d .at) x → (readOf x .stop ≡ 0) ⊎ ((readOf x .stop ≡ 65) × (readOf x .next ≡ d .at) × (moved d x ≡ d))
+      go : (x : Got Head) → At (d .at) x → (readOf x .refusal ≡ 0) ⊎ ((readOf x .refusal ≡ 65) × (readOf x .next ≡ d .at) × (moved d x ≡ d))
       go (refused r p) (n, h) = inr (n, h, refl)
       go (got h) _ = inl refl

@@ -24,19 +24,19 @@ bind-assoc (got a) f g = refl
 
 module _ {A : Type 0} (p v : A → ℕ) (x : Got A) (r : Reading) (e : r ≡ view p v x) where
   -- what stopped stops all that would follow
-  pub stopped : {B : Type 0} (p′ v′ : B → ℕ) (f : A → Got B) → (r .stop ≡ 0 → ⊥) → r ≡ view p′ v′ (x >>= f)
-  stopped {B} p′ v′ f h = e ∙ go x (λ q. h (ap (λ (y : Reading). y .stop) e ∙ q))
+  pub stopped : {B : Type 0} (p′ v′ : B → ℕ) (f : A → Got B) → (r .refusal ≡ 0 → ⊥) → r ≡ view p′ v′ (x >>= f)
+  stopped {B} p′ v′ f h = e ∙ go x (λ q. h (ap (λ (y : Reading). y .refusal) e ∙ q))
     where
-      go : (y : Got A) → (view p v y .stop ≡ 0 → ⊥) → view p v y ≡ view p′ v′ (y >>= f)
+      go : (y : Got A) → (view p v y .refusal ≡ 0 → ⊥) → view p v y ≡ view p′ v′ (y >>= f)
       go (refused k q) n = refl
       go (got a) n = absurd (n refl)
 
-  -- what did not stop gave a value
-  pub went : r .stop ≡ 0 → (a : A) × (x ≡ got a) × (r .at ≡ p a) × (r .value ≡ v a)
+  -- what did not refusal gave a value
+  pub went : r .refusal ≡ 0 → (a : A) × (x ≡ got a) × (r .at ≡ p a) × (r .value ≡ v a)
   went h = go x e
     where
       go : (y : Got A) → r ≡ view p v y → (a : A) × (y ≡ got a) × (r .at ≡ p a) × (r .value ≡ v a)
-      go (refused k q) f = absurd (not-zero k (ap (λ (z : Reading). z .stop) (sym f) ∙ h))
+      go (refused k q) f = absurd (not-zero k (ap (λ (z : Reading). z .refusal) (sym f) ∙ h))
       go (got a) f = (a, refl, ap (λ (z : Reading). z .at) f, ap (λ (z : Reading). z .value) f)
 
 -- a reading that stopped is a refusal, and all that would follow is that refusal
@@ -46,41 +46,41 @@ pub record Stopped {A : Type 0} (x : Got A) (r : Reading) : Type 0 where
   pub was : x ≡ refused refusal place
   pub is : r ≡ fault refusal place
 
-pub stop-of : {A : Type 0} (p v : A → ℕ) (x : Got A) (r : Reading) → r ≡ view p v x → (r .stop ≡ 0 → ⊥) → Stopped x r
+pub stop-of : {A : Type 0} (p v : A → ℕ) (x : Got A) (r : Reading) → r ≡ view p v x → (r .refusal ≡ 0 → ⊥) → Stopped x r
 stop-of p v (refused k q) r e h = record { refusal = k; place = q; was = refl; is = e }
-stop-of p v (got a) r e h = absurd (h (ap (λ (z : Reading). z .stop) e))
+stop-of p v (got a) r e h = absurd (h (ap (λ (z : Reading). z .refusal) e))
 
 module _ (s : Bytes) (kind lo hi e at : ℕ) (r : Reading) (q : r ≡ headReading (item kind lo hi s e at)) where
-  pub item-stopped : (r .stop ≡ 0 → ⊥) → Stopped (item kind lo hi s e at) r
+  pub item-stopped : (r .refusal ≡ 0 → ⊥) → Stopped (item kind lo hi s e at) r
   item-stopped h = stop-of (λ h. h .next) (λ h. h .num) (item kind lo hi s e at) r q h
 
   -- one that went on is known by its place and its number
-  pub item-went : r .stop ≡ 0 → item kind lo hi s e at ≡ got (record { kind = kind; num = r .value; next = r .at })
+  pub item-went : r .refusal ≡ 0 → item kind lo hi s e at ≡ got (record { kind = kind; num = r .value; next = r .at })
   item-went h =
       let (a, x, p, v) = went (λ h. h .next) (λ h. h .num) (item kind lo hi s e at) r q h in
       let k : a .kind ≡ kind = item-law s kind lo hi e at a x .is in
       x ∙ (λ j. got (record { kind = k j; num = sym v j; next = sym p j }))
 
 module _ (s : Bytes) (e at : ℕ) (r : Reading) (q : r ≡ reading (λ k. k) (number s e at)) where
-  pub number-stopped : (r .stop ≡ 0 → ⊥) → Stopped (number s e at) r
+  pub number-stopped : (r .refusal ≡ 0 → ⊥) → Stopped (number s e at) r
   number-stopped h = stop-of (λ a. a .1) (λ a. a .0) (number s e at) r q h
 
-  pub number-went : r .stop ≡ 0 → number s e at ≡ got (r .value, r .at)
+  pub number-went : r .refusal ≡ 0 → number s e at ≡ got (r .value, r .at)
   number-went h = let (a, x, p, v) = went (λ a. a .1) (λ a. a .0) (number s e at) r q h in x ∙ (λ j. got (sym v j, sym p j))
 
 module _ (x : Got ℕ) (r : Reading) (q : r ≡ placeReading x) where
-  pub place-stopped : (r .stop ≡ 0 → ⊥) → Stopped x r
+  pub place-stopped : (r .refusal ≡ 0 → ⊥) → Stopped x r
   place-stopped h = stop-of (λ p. p) (λ p. 0) x r q h
 
-  pub place-went : r .stop ≡ 0 → x ≡ got (r .at)
+  pub place-went : r .refusal ≡ 0 → x ≡ got (r .at)
   place-went h = let (a, y, p, v) = went (λ p. p) (λ p. 0) x r q h in y ∙ ap got (sym p)
 
 -- of something and the place after it: one that stopped, and one that went on
 module _ {A : Type 0} (f : A → ℕ) (x : Got (A × ℕ)) (r : Reading) (q : r ≡ reading f x) where
-  pub reading-stopped : (r .stop ≡ 0 → ⊥) → Stopped x r
+  pub reading-stopped : (r .refusal ≡ 0 → ⊥) → Stopped x r
   reading-stopped h = stop-of (λ a. a .1) (λ a. f (a .0)) x r q h
 
-  pub reading-went : r .stop ≡ 0 → (a : A) × (x ≡ got (a, r .at)) × (r .value ≡ f a)
+  pub reading-went : r .refusal ≡ 0 → (a : A) × (x ≡ got (a, r .at)) × (r .value ≡ f a)
   reading-went h =
       let (a, y, p, v) = went (λ a. a .1) (λ a. f (a .0)) x r q h in
       (a .0, y ∙ (λ j. got (a .0, sym p j)), v)

@@ -8,8 +8,8 @@ use Rattle.cbor.specs.declared.reader.Read.{Read}
 use Rattle.cbor.specs.declared.reader.Reader.{Reader}
 
 abbrev pub readOf : Got Head → Read
-readOf (refused r p) = record { stop = refusalNumber r; kind = 0; number = 0; next = p }
-readOf (got h) = record { stop = 0; kind = h .kind; number = h .num; next = h .next }
+readOf (refused r p) = record { refusal = refusalNumber r; kind = 0; number = 0; next = p }
+readOf (got h) = record { refusal = 0; kind = h .kind; number = h .num; next = h .next }
 
 -- the head at the reader's place. The envelope is its container
 abbrev pub headHere : Reader → Got Head

@@ -7,10 +7,10 @@ use Rattle.rules.specs.Cbor.{Head}
 use Rattle.cbor.specs.declared.reading.Reading.{Reading}
 
 abbrev pub fault : Refusal → ℕ → Reading
-fault r p = record { stop = refusalNumber r; at = p; value = 0 }
+fault r p = record { refusal = refusalNumber r; at = p; value = 0 }
 
 abbrev pub ends : ℕ → ℕ → Reading
-ends p v = record { stop = 0; at = p; value = v }
+ends p v = record { refusal = 0; at = p; value = v }
 
 -- by the place after what was read, and a number of it
 abbrev pub view : {A : Type 0} → (A → ℕ) → (A → ℕ) → Got A → Reading
@@ -35,4 +35,4 @@ after = reading (λ a. 0)
 
 -- a reading without its number
 abbrev pub unnumbered : Reading → Reading
-unnumbered r = record { stop = r .stop; at = r .at; value = 0 }
+unnumbered r = record { refusal = r .refusal; at = r .at; value = 0 }

@@ -14,10 +14,10 @@ pub struct Reader<'a> {
     at: usize,
 }
 
-// stop is 0: the head's kind (one of cbor's), its number (0 for false, true and nil) and the place after it. Else stop is 65, next is the place where it
+// refusal is 0: the head's kind (one of cbor's), its number (0 for false, true and nil) and the place after it. Else refusal is 65, next is the place where it
 // was refused, and the rest is 0.
 pub struct Read {
-    pub stop: usize,
+    pub refusal: usize,
     pub kind: usize,
     pub number: usize,
     pub next: usize,
@@ -29,13 +29,13 @@ fn head_of(s: &[u8], at: usize) -> Read
 {
     match crate::read_head(s, s.len(), at) {
         HeadRead::Head(h) => Read {
-            stop: 0,
+            refusal: 0,
             kind: h.kind,
             number: h.num,
             next: h.next,
         },
         HeadRead::NotCbor(p) => Read {
-            stop: Refusal::NotCbor.number() as usize,
+            refusal: Refusal::NotCbor.number(),
             kind: 0,
             number: 0,
             next: p,

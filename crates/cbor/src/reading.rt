@@ -9,9 +9,9 @@ use crate::read_item;
 use crate::read_one_of;
 use rules::answers::Refusal;
 
-// stop is 0: what was read ends before `at`, and `value` is its number or count. Else stop is the refusal's number, and `at` its place.
+// refusal is 0: what was read ends before `at`, and `value` is its number or count. Else refusal is the refusal's number, and `at` its place.
 pub struct Reading {
-    pub stop: usize,
+    pub refusal: usize,
     pub at: usize,
     pub value: usize,
 }
@@ -20,7 +20,7 @@ pub fn refuse(r: Refusal, at: usize) -> Reading
     ensures { λ x. ⌜ x ≡ fault r at ⌝ }
 {
     Reading {
-        stop: r.number() as usize,
+        refusal: r.number(),
         at,
         value: 0,
     }
@@ -33,7 +33,7 @@ pub fn item(s: &[u8], e: usize, at: usize, kind: usize, lo: usize, hi: usize) ->
 {
     match read_item(s, e, at, kind, lo, hi) {
         ItemRead::Item(h) => Reading {
-            stop: 0,
+            refusal: 0,
             at: h.next,
             value: h.num,
         },
@@ -49,7 +49,7 @@ pub fn one_of(s: &[u8], e: usize, at: usize, kind: usize, other: usize) -> Readi
 {
     match read_one_of(s, e, at, kind, other) {
         ItemRead::Item(h) => Reading {
-            stop: 0,
+            refusal: 0,
             at: h.next,
             value: h.num,
         },

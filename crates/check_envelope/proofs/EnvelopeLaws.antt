@@ -37,7 +37,7 @@ use Rattle.check_manifest.proofs.ManifestLaws.{BodyPromise, manifest-part}
 check-law : (s : Bytes) →
     check s
     ≡ (need (leb (length s) (limits .envelope)) EnvelopeTooLong 0 >>= λ _. item MAP 2 2 s (length s) 0 >>= λ h. key s 1 (length s) (h .next) >>= λ p.
-    unread s (length s) p >>= λ q. key s 3 (length s) q >>= λ r. item BYTES 0 (limits .number) s (length s) r >>= λ b.
+    unread s (length s) p >>= λ q. key s 3 (length s) q >>= λ r. item BYTES 0 (limits .largest) s (length s) r >>= λ b.
     manifestAt s (after b) (b .next) >>= λ m. need (eqb (m .1) (after b)) NotCbor (m .1) >>= λ _.
     need (eqb (m .1) (length s)) NotCbor (m .1) >>= λ _. got (m .0))
 unfolding check inBytes
@@ -47,7 +47,7 @@ check-law s =
     alike (key s 1 (length s) (h .next)) _ _ λ p q₂.
     alike (unread s (length s) p) _ _ λ n q₃.
     alike (key s 3 (length s) n) _ _ λ r q₄.
-    bind-assoc (item BYTES 0 (limits .number) s (length s) r) _ _ ∙ alike (item BYTES 0 (limits .number) s (length s) r) _ _ λ b q₅.
+    bind-assoc (item BYTES 0 (limits .largest) s (length s) r) _ _ ∙ alike (item BYTES 0 (limits .largest) s (length s) r) _ _ λ b q₅.
     bind-assoc (manifestAt s (after b) (b .next)) _ _ ∙ alike (manifestAt s (after b) (b .next)) _ _ λ m q₆.
     bind-assoc (need (eqb (m .1) (after b)) NotCbor (m .1)) _ _
 
@@ -67,8 +67,8 @@ module _ (s : Bytes) where
       bind-assoc (key s 1 (length s) (h .next)) _ _ ∙ alike (key s 1 (length s) (h .next)) _ _ λ p q₂.
       bind-assoc (unread s (length s) p) _ _ ∙ alike (unread s (length s) p) _ _ λ n q₃.
       bind-assoc (key s 3 (length s) n) _ _ ∙ alike (key s 3 (length s) n) _ _ λ r q₄.
-      bind-assoc (item BYTES 0 (limits .number) s (length s) r) _ _ ∙ alike (item BYTES 0 (limits .number) s (length s) r) _ _ λ b q₅.
-      rw (bytes-after b (item-law s BYTES 0 (limits .number) (length s) r b q₅ .is)))
+      bind-assoc (item BYTES 0 (limits .largest) s (length s) r) _ _ ∙ alike (item BYTES 0 (limits .largest) s (length s) r) _ _ λ b q₅.
+      rw (bytes-after b (item-law s BYTES 0 (limits .largest) (length s) r b q₅ .is)))
 
   -- the report of a refusal
   pub report-refused : (k : Refusal) (p : ℕ) (r : Report) → check s ≡ refused k p → r ≡ refusedReport k p → r ≡ reportOf (check s)
@@ -79,18 +79,18 @@ module _ (s : Bytes) where
 
   module _ (fits : length s ≤ limits .envelope) where
     -- a refusal of the envelope's own items
-    pub check-no-outer : (o : Reading) → o ≡ reading (λ n. n) (outerAt s (length s)) → (o .stop ≡ 0 → ⊥) → (k : Refusal) → k ≡ refusalOf (o .stop) → (r : Report) →
+    pub check-no-outer : (o : Reading) → o ≡ reading (λ n. n) (outerAt s (length s)) → (o .refusal ≡ 0 → ⊥) → (k : Refusal) → k ≡ refusalOf (o .refusal) → (r : Report) →
         r ≡ refusedReport k (o .at) → r ≡ reportOf (check s)
     check-no-outer o q h k e r y =
         let x = reading-stopped (λ n. n) (outerAt s (length s)) o q h in
-        go x (e ∙ ap (λ (z : Reading). refusalOf (z .stop)) (x .is) ∙ of-number (x .refusal)) (ap (λ (z : Reading). z .at) (x .is))
+        go x (e ∙ ap (λ (z : Reading). refusalOf (z .refusal)) (x .is) ∙ of-number (x .refusal)) (ap (λ (z : Reading). z .at) (x .is))
       where
         go : (x : Stopped (outerAt s (length s)) o) → k ≡ x .refusal → o .at ≡ x .place → r ≡ reportOf (check s)
         go x u v =
             let c : check s ≡ refused (x .refusal) (x .place) = parts ∙ rw (le-leb _ _ fits, x .was) in
             rw c (y ∙ λ j. refusedReport (u j) (v j))
 
-    module _ (o : Reading) (q : o ≡ reading (λ n. n) (outerAt s (length s))) (z : o .stop ≡ 0) where
+    module _ (o : Reading) (q : o ≡ reading (λ n. n) (outerAt s (length s))) (z : o .refusal ≡ 0) where
       opened : outerAt s (length s) ≡ got (o .value, o .at)
       opened = let (a, g, v) = reading-went (λ n. n) (outerAt s (length s)) o q z in g ∙ (λ j. got (sym v j, o .at))
 
@@ -102,16 +102,16 @@ module _ (s : Bytes) where
           split _ (key s 1 (length s) (h .next)) _ (o .value, o .at) x₁ λ p q₂ x₂.
           split _ (unread s (length s) p) _ (o .value, o .at) x₂ λ n q₃ x₃.
           split _ (key s 3 (length s) n) _ (o .value, o .at) x₃ λ r q₄ x₄.
-          split _ (item BYTES 0 (limits .number) s (length s) r) _ (o .value, o .at) x₄ λ b q₅ x₅.
+          split _ (item BYTES 0 (limits .largest) s (length s) r) _ (o .value, o .at) x₄ λ b q₅ x₅.
           let (u, v) = both x₅ in
-          let i = item-law s BYTES 0 (limits .number) (length s) r b q₅ in
+          let i = item-law s BYTES 0 (limits .largest) (length s) r b q₅ in
           omega (arith, i .fits, bytes-after b (i .is))
 
       at-manifest : check s ≡ inner (o .value, o .at)
       at-manifest = parts ∙ rw (le-leb _ _ fits, opened)
 
       -- a refusal of the manifest
-      pub check-bad : (b : Body) (i i′ p p′ : List ℕ) → BodyPromise (manifestAt s (o .at + o .value) (o .at)) b i i′ p p′ → (b .stop ≡ 0 → ⊥) → (k : Refusal) → k ≡ refusalOf (b .stop) →
+      pub check-bad : (b : Body) (i i′ p p′ : List ℕ) → BodyPromise (manifestAt s (o .at + o .value) (o .at)) b i i′ p p′ → (b .refusal ≡ 0 → ⊥) → (k : Refusal) → k ≡ refusalOf (b .refusal) →
           (r : Report) → r ≡ refusedReport k (b .at) → r ≡ reportOf (check s)
       unfolding inner
       check-bad b i i′ p p′ w h k e r y = rw at-manifest (go (manifestAt s (o .at + o .value) (o .at)) (w .0))
@@ -119,10 +119,10 @@ module _ (s : Bytes) where
           go : (x : Got (Manifest × ℕ)) → b ≡ bodyOf x →
               r ≡ reportOf (x >>= λ m. need (eqb (m .1) (o .at + o .value)) NotCbor (m .1) >>= λ _. need (eqb (m .1) (length s)) NotCbor (m .1) >>= λ _. got (m .0))
           go (refused c d) u =
-              y ∙ λ j. refusedReport ((e ∙ ap (λ (z : Body). refusalOf (z .stop)) u ∙ of-number c) j) (ap (λ (z : Body). z .at) u j)
-          go (got m) u = absurd (h (ap (λ (z : Body). z .stop) u))
+              y ∙ λ j. refusedReport ((e ∙ ap (λ (z : Body). refusalOf (z .refusal)) u ∙ of-number c) j) (ap (λ (z : Body). z .at) u j)
+          go (got m) u = absurd (h (ap (λ (z : Body). z .refusal) u))
 
-      module _ (b : Body) (i i′ p p′ : List ℕ) (w : BodyPromise (manifestAt s (o .at + o .value) (o .at)) b i i′ p p′) (h : b .stop ≡ 0) where
+      module _ (b : Body) (i i′ p p′ : List ℕ) (w : BodyPromise (manifestAt s (o .at + o .value) (o .at)) b i i′ p p′) (h : b .refusal ≡ 0) where
         -- left-over bytes, in the manifest's byte string or after it
         pub check-left-over : (b .at ≡ o .at + o .value → ⊥) ⊎ ((b .at ≡ o .at + o .value) × (b .at ≡ length s → ⊥)) → (r : Report) → r ≡ refusedReport NotCbor (b .at) → r ≡ reportOf (check s)
         unfolding inner
@@ -138,7 +138,7 @@ module _ (s : Bytes) where
 
             go : (x : Got (Manifest × ℕ)) → b ≡ bodyOf x →
                 r ≡ reportOf (x >>= λ m. need (eqb (m .1) (o .at + o .value)) NotCbor (m .1) >>= λ _. need (eqb (m .1) (length s)) NotCbor (m .1) >>= λ _. got (m .0))
-            go (refused c d) u = absurd (not-zero c (ap (λ (z : Body). z .stop) (sym u) ∙ h))
+            go (refused c d) u = absurd (not-zero c (ap (λ (z : Body). z .refusal) (sym u) ∙ h))
             go (got m) u = over m (ap (λ (z : Body). z .at) u)
 
         -- all is accepted
@@ -195,7 +195,7 @@ module _ (s : Bytes) where
                   sections = p′;
                 })
                 (reportOf (x >>= λ m. need (eqb (m .1) (o .at + o .value)) NotCbor (m .1) >>= λ _. need (eqb (m .1) (length s)) NotCbor (m .1) >>= λ _. got (m .0)))
-            go (refused c d) t (u, k) = absurd (not-zero c (ap (λ (z : Body). z .stop) (sym u) ∙ h))
+            go (refused c d) t (u, k) = absurd (not-zero c (ap (λ (z : Body). z .refusal) (sym u) ∙ h))
             go (got m) t (u, k) = over m u (manifest-part s (o .at + o .value) (o .at) (m .0) (m .1) t) (k .0) (k .1)
 
 -- a refused report is not an accepted one

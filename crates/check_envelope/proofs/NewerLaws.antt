@@ -46,10 +46,10 @@ module _ (s : Bytes) (r : Report) (e : r ≡ reportOf (check s)) where
       go (got m) u = absurd (differ k p (sym h ∙ ap (λ (z : Report). z .answer) u))
 
   -- an accepted number is small
-  pub number-small : r .answer ≡ Accepted → r .number ≤ limits .number
+  pub number-small : r .answer ≡ Accepted → r .number ≤ limits .largest
   number-small h = go (check s) refl e
     where
-      go : (x : Got Manifest) → check s ≡ x → r ≡ reportOf x → r .number ≤ limits .number
+      go : (x : Got Manifest) → check s ≡ x → r ≡ reportOf x → r .number ≤ limits .largest
       go (refused k p) q u = absurd (differ k p (ap (λ (z : Report). z .answer) (sym u) ∙ h))
       go (got m) q u = let n = sound s m q .number in let v : r .number ≡ m .number = ap (λ (z : Report). z .number) u in omega arith
 

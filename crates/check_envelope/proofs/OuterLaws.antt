@@ -59,9 +59,9 @@ module _ (s : Bytes) (e : ℕ) where
         outer-no-manifest r x = rw (q, q₁, q₂, x .was) (x .is)
 
         pub outer-bytes : (v₃ p₃ : ℕ) → item NUMBER 3 3 s e p₂ ≡ got (record { kind = NUMBER; num = v₃; next = p₃ }) → (r : Reading) →
-            r ≡ headReading (item BYTES 0 (limits .number) s e p₃) → r ≡ reading (λ n. n) (outerAt s e)
+            r ≡ headReading (item BYTES 0 (limits .largest) s e p₃) → r ≡ reading (λ n. n) (outerAt s e)
         unfolding outerAt key
-        outer-bytes v₃ p₃ q₃ r x = rw (q, q₁, q₂, q₃) (x ∙ go (item BYTES 0 (limits .number) s e p₃))
+        outer-bytes v₃ p₃ q₃ r x = rw (q, q₁, q₂, q₃) (x ∙ go (item BYTES 0 (limits .largest) s e p₃))
           where
             go : (t : Got Head) → headReading t ≡ reading (λ n. n) (t >>= λ b. got (b .num, b .next))
             go (refused k w) = refl

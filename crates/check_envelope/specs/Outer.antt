@@ -13,5 +13,5 @@ outerAt s e = do
   p ← key s 1 e (h .next)
   q ← unread s e p
   r ← key s 3 e q
-  b ← item BYTES 0 (limits .number) s e r
+  b ← item BYTES 0 (limits .largest) s e r
   got (b .num, b .next)

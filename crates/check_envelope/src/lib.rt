@@ -14,6 +14,8 @@ use report::Report;
 use report::refused;
 use rules::answers::Refusal;
 use rules::controller::Controller;
+use rules::controller::PLACES;
+use rules::controller::SECTION_PLACES;
 use rules_tables::tables;
 
 pub mod newest;
@@ -29,17 +31,17 @@ pub fn check(s: &[u8]) -> Report
         return refused(Refusal::EnvelopeTooLong, 0);
     }
     let o = read_outer(s, e);
-    let a = o.stop;
+    let a = o.refusal;
     if a != 0 {
         return refused(Refusal::of(a), o.at);
     }
     let from = o.at;
     let to = from + o.value;
     let table = tables();
-    let mut ids = [0usize; 16];
-    let mut places = [0usize; 12];
+    let mut ids = [0usize; PLACES];
+    let mut places = [0usize; SECTION_PLACES];
     let b = read_body(s, &table, to, from, &mut ids, &mut places);
-    let c = b.stop;
+    let c = b.refusal;
     if c != 0 {
         return refused(Refusal::of(c), b.at);
     }

@@ -22,13 +22,13 @@ pub fn unread(s: &[u8], e: usize, at: usize) -> Reading
             let kind = h.kind;
             if kind == cbor::BYTES {
                 return Reading {
-                    stop: 0,
+                    refusal: 0,
                     at: h.next + h.num,
                     value: 0,
                 };
             }
             Reading {
-                stop: 0,
+                refusal: 0,
                 at: h.next,
                 value: 0,
             }
@@ -44,22 +44,22 @@ pub fn read_outer(s: &[u8], e: usize) -> Reading
     ensures { λ r. ⌜ r ≡ reading (λ n. n) (outerAt (now (s .entry)) e) ⌝ }
 {
     let h = item(s, e, 0, cbor::MAP, 2, 2);
-    let a = h.stop;
+    let a = h.refusal;
     if a != 0 {
         return h;
     }
     let k = item(s, e, h.at, cbor::NUMBER, 1, 1);
-    let b = k.stop;
+    let b = k.refusal;
     if b != 0 {
         return k;
     }
     let u = unread(s, e, k.at);
-    let c = u.stop;
+    let c = u.refusal;
     if c != 0 {
         return u;
     }
     let m = item(s, e, u.at, cbor::NUMBER, 3, 3);
-    let d = m.stop;
+    let d = m.refusal;
     if d != 0 {
         return m;
     }

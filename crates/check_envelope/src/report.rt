@@ -2,6 +2,10 @@
 ghost use mathlib.Core.Path.{_≡_};
 ghost use Rattle.check_envelope.specs.Report.{refusedReport};
 use rules::answers::Refusal;
+use rules::controller::PLACES;
+use rules::controller::Places;
+use rules::controller::SECTION_PLACES;
+use rules::controller::SectionPlaces;
 
 pub struct Place {
     pub from: usize,
@@ -19,11 +23,11 @@ pub struct Report {
     pub number: usize,
     pub components: usize,
     // identifier k from ids[2k] to ids[2k + 1]
-    pub ids: [usize; 16],
+    pub ids: Places,
     pub manifest: Place,
     pub common: Place,
     // common's sequence and sections 8 to 12, in that order, as ids; 0 and 0 for one that is not there
-    pub sections: [usize; 12],
+    pub sections: SectionPlaces,
 }
 
 // The report of a refusal.
@@ -34,9 +38,9 @@ pub fn refused(refusal: Refusal, at: usize) -> Report
         answer: Checked::Refused(refusal, at),
         number: 0,
         components: 0,
-        ids: [0usize; 16],
+        ids: [0usize; PLACES],
         manifest: Place { from: 0, to: 0 },
         common: Place { from: 0, to: 0 },
-        sections: [0usize; 12],
+        sections: [0usize; SECTION_PLACES],
     }
 }

@@ -30,7 +30,7 @@ told p v x {r} e q = record { is = e ∙ ap (λ (a : ℕ). view p v (x a)) q }
 
 module _ {A : Type 0} {p v : A → ℕ} {x : Got A} {r : Reading} (t : Told p v x r) where
   -- it went on: what is to show, is to show of what follows
-  pub onward : {B C : Type 0} (out : Got B → C) (f : A → Got B) (z : C) → r .stop ≡ 0 →
+  pub onward : {B C : Type 0} (out : Got B → C) (f : A → Got B) (z : C) → r .refusal ≡ 0 →
       ((a : A) → r .at ≡ p a → r .value ≡ v a → z ≡ out (f a)) → z ≡ out (x >>= f)
   onward out f z h k =
       let (a, q, at, value) = went p v x r (t .is) h in
@@ -38,14 +38,14 @@ module _ {A : Type 0} {p v : A → ℕ} {x : Got A} {r : Reading} (t : Told p v 
 
   -- it stopped: its refusal and place are all that is left, in this struct or another
   pub halted : {B C : Type 0} (out : Got B → C) (made : ℕ → ℕ → C) → ((k : Refusal) (q : ℕ) → out (refused k q) ≡ made (refusalNumber k) q) →
-      (f : A → Got B) → (r .stop ≡ 0 → ⊥) → made (r .stop) (r .at) ≡ out (x >>= f)
+      (f : A → Got B) → (r .refusal ≡ 0 → ⊥) → made (r .refusal) (r .at) ≡ out (x >>= f)
   halted out made same f h = go x (t .is)
     where
-      go : (y : Got A) → r ≡ view p v y → made (r .stop) (r .at) ≡ out (y >>= f)
-      go (refused k q) g = ap (λ (z : Reading). made (z .stop) (z .at)) g ∙ sym (same k q)
-      go (got a) g = absurd (h (ap (λ (z : Reading). z .stop) g))
+      go : (y : Got A) → r ≡ view p v y → made (r .refusal) (r .at) ≡ out (y >>= f)
+      go (refused k q) g = ap (λ (z : Reading). made (z .refusal) (z .at)) g ∙ sym (same k q)
+      go (got a) g = absurd (h (ap (λ (z : Reading). z .refusal) g))
 
-  pub halts : {B : Type 0} (p′ v′ : B → ℕ) (f : A → Got B) → (r .stop ≡ 0 → ⊥) → r ≡ view p′ v′ (x >>= f)
+  pub halts : {B : Type 0} (p′ v′ : B → ℕ) (f : A → Got B) → (r .refusal ≡ 0 → ⊥) → r ≡ view p′ v′ (x >>= f)
   halts p′ v′ f h = stopped p v x r (t .is) p′ v′ f h
 
 module _ (s : Bytes) where
@@ -80,12 +80,12 @@ module _ (s : Bytes) where
   -- common in its byte string
   pub common-law : (e at : ℕ) →
       commonIn s e at
-      ≡ (item BYTES 0 (limits .number) s e at >>= λ b. item MAP 1 2 s (after b) (b .next) >>= λ h. key s 2 (after b) (h .next) >>= λ p.
+      ≡ (item BYTES 0 (limits .largest) s e at >>= λ b. item MAP 1 2 s (after b) (b .next) >>= λ h. key s 2 (after b) (h .next) >>= λ p.
       inBytes s (components s) (after b) p >>= λ l. commonSeq s (length (l .0)) (h .num - 1) (after b) (l .1 .to) >>= λ x.
       need (eqb (x .1) (after b)) NotCbor (x .1) >>= λ _. got ((l .0, x .0), span (b .next) (x .1)))
   unfolding commonIn inBytes commonAt
   common-law e at =
-      alike (item BYTES 0 (limits .number) s e at) _ _ λ b q.
+      alike (item BYTES 0 (limits .largest) s e at) _ _ λ b q.
       bind-assoc (item MAP 1 2 s (after b) (b .next)) _ _ ∙ alike (item MAP 1 2 s (after b) (b .next)) _ _ λ h q₁.
       bind-assoc (key s 2 (after b) (h .next)) _ _ ∙ alike (key s 2 (after b) (h .next)) _ _ λ p q₂.
       bind-assoc (inBytes s (components s) (after b) p) _ _ ∙ alike (inBytes s (components s) (after b) p) _ _ λ l q₃.

@@ -24,15 +24,15 @@ abbrev pub CommonPromise : Got ((List Span × List Section) × Span) → Common 
 CommonPromise x c ids ids′ places places′ = (c ≡ commonOf x) × Kept (λ y. y .0) (λ y. y .1) x ids ids′ places places′
 
 pub none-common : (x : Got ((List Span × List Section) × Span)) (r : Reading) (c : Common) (i i′ p p′ : List ℕ) → Stopped x r →
-    c ≡ record { stop = r .stop; at = r .at; components = 0; commands = 0; from = 0 } → CommonPromise x c i i′ p p′
+    c ≡ record { refusal = r .refusal; at = r .at; components = 0; commands = 0; from = 0 } → CommonPromise x c i i′ p p′
 none-common x r c i i′ p p′ y e =
-    (rw (y .was) (e ∙ ap (λ (z : Reading). record { stop = z .stop; at = z .at; components = 0; commands = 0; from = 0 }) (y .is)), rw (y .was) tt)
+    (rw (y .was) (e ∙ ap (λ (z : Reading). record { refusal = z .refusal; at = z .at; components = 0; commands = 0; from = 0 }) (y .is)), rw (y .was) tt)
 
 module _ (s : Bytes) (e at : ℕ) where
-  pub common-no-bytes : (r : Reading) → Stopped (item BYTES 0 (limits .number) s e at) r → Stopped (commonIn s e at) r
+  pub common-no-bytes : (r : Reading) → Stopped (item BYTES 0 (limits .largest) s e at) r → Stopped (commonIn s e at) r
   common-no-bytes r x = record { refusal = x .refusal; place = x .place; was = common-law s e at ∙ rw (x .was); is = x .is }
 
-  module _ (v p : ℕ) (q : item BYTES 0 (limits .number) s e at ≡ got (record { kind = BYTES; num = v; next = p })) where
+  module _ (v p : ℕ) (q : item BYTES 0 (limits .largest) s e at ≡ got (record { kind = BYTES; num = v; next = p })) where
     pub common-no-map : (r : Reading) → Stopped (item MAP 1 2 s (p + v) p) r → Stopped (commonIn s e at) r
     common-no-map r x = record { refusal = x .refusal; place = x .place; was = common-law s e at ∙ rw (q, x .was); is = x .is }
 
@@ -66,21 +66,21 @@ module _ (s : Bytes) (e at : ℕ) where
 
             pub common-good : next ≡ p + v → (c : ℕ) → c ≡ countAll xs → (i i′ b b′ : List ℕ) → Ids (λ l. l) (inBytes s (components s) (p + v) p₃) i i′ →
                 Placed (λ ys. ys) (commonSeq s n (k - 1) (p + v) a) b b′ →
-                CommonPromise (commonIn s e at) (record { stop = 0; at = p + v; components = n; commands = c; from = p }) i i′ b b′
+                CommonPromise (commonIn s e at) (record { refusal = 0; at = p + v; components = n; commands = c; from = p }) i i′ b b′
             common-good o c ec i i′ b b′ x y =
                 rw (common-got o)
-                ((λ j. record { stop = 0; at = p + v; components = en j; commands = ec j; from = p }), (rw q₄ at x, rw q₅ at y))
+                ((λ j. record { refusal = 0; at = p + v; components = en j; commands = ec j; from = p }), (rw q₄ at x, rw q₅ at y))
 
 -- what the list of components gave where it went on
-pub list-went : (s : Bytes) (e at : ℕ) (r : Reading) → r ≡ listReading (inBytes s (components s) e at) → r .stop ≡ 0 →
+pub list-went : (s : Bytes) (e at : ℕ) (r : Reading) → r ≡ listReading (inBytes s (components s) e at) → r .refusal ≡ 0 →
     (ids : List Span) × (u : Span) × (inBytes s (components s) e at ≡ got (ids, u)) × (r .at ≡ u .to) × (r .value ≡ length ids)
 list-went s e at r q h =
     let (a, g, x, y) = went (λ a. a .1 .to) (λ a. length (a .0)) (inBytes s (components s) e at) r q h in
     (a .0, a .1, g, x, y)
 
-pub list-stopped : (s : Bytes) (e at : ℕ) (r : Reading) → r ≡ listReading (inBytes s (components s) e at) → (r .stop ≡ 0 → ⊥) → Stopped (inBytes s (components s) e at) r
+pub list-stopped : (s : Bytes) (e at : ℕ) (r : Reading) → r ≡ listReading (inBytes s (components s) e at) → (r .refusal ≡ 0 → ⊥) → Stopped (inBytes s (components s) e at) r
 list-stopped s e at r q h = stop-of (λ a. a .1 .to) (λ a. length (a .0)) (inBytes s (components s) e at) r q h
 
-pub common-sequence-went : (s : Bytes) (n k e at : ℕ) (r : Reading) → r ≡ reading countAll (commonSeq s n k e at) → r .stop ≡ 0 →
+pub common-sequence-went : (s : Bytes) (n k e at : ℕ) (r : Reading) → r ≡ reading countAll (commonSeq s n k e at) → r .refusal ≡ 0 →
     (xs : List Section) × (commonSeq s n k e at ≡ got (xs, r .at)) × (r .value ≡ countAll xs)
 common-sequence-went s n k e at r q h = reading-went countAll (commonSeq s n k e at) r q h

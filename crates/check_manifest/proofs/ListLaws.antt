@@ -25,7 +25,7 @@ ids-if (refused r p) a b f = tt
 ids-if (got v) a b f = f v refl
 
 -- the component list in its byte string, by the string's head as the code read it
-module _ (s : Bytes) (e at : ℕ) (h : Reading) (q : h ≡ headReading (item BYTES 0 (limits .number) s e at)) where
+module _ (s : Bytes) (e at : ℕ) (h : Reading) (q : h ≡ headReading (item BYTES 0 (limits .largest) s e at)) where
   abbrev Result : Reading → List ℕ → List ℕ → Type 0
   Result r a b = (r ≡ listReading (inBytes s (components s) e at)) × Ids (λ l. l) (inBytes s (components s) e at) a b
 
@@ -33,25 +33,25 @@ module _ (s : Bytes) (e at : ℕ) (h : Reading) (q : h ≡ headReading (item BYT
   abbrev closed : ℕ → ℕ → List Span × ℕ → Got (List Span × Span)
   closed from to x = need (eqb (x .1) to) NotCbor (x .1) >>= λ _. got (x .0, span from (x .1))
 
-  pub list-stop : (a b : List ℕ) → (h .stop ≡ 0 → ⊥) → Result h a b
+  pub list-stop : (a b : List ℕ) → (h .refusal ≡ 0 → ⊥) → Result h a b
   unfolding inBytes
   list-stop a b t = (
-    stopped (λ x. x .next) (λ x. x .num) (item BYTES 0 (limits .number) s e at) h q (λ x. x .1 .to) (λ x. length (x .0))
+    stopped (λ x. x .next) (λ x. x .num) (item BYTES 0 (limits .largest) s e at) h q (λ x. x .1 .to) (λ x. length (x .0))
         (λ x. components s (after x) (x .next) >>= closed (x .next) (after x)) t,
     ids-if (inBytes s (components s) e at) a b λ v g.
-        split _ (item BYTES 0 (limits .number) s e at) _ v g λ x gx g′. absurd (t (ap (λ (y : Reading). y .stop) (q ∙ ap headReading gx))),
+        split _ (item BYTES 0 (limits .largest) s e at) _ v g λ x gx g′. absurd (t (ap (λ (y : Reading). y .refusal) (q ∙ ap headReading gx))),
   )
 
-  module _ (z : h .stop ≡ 0) (r : Reading) (a b : List ℕ) (l : (r ≡ reading length (components s (h .at + h .value) (h .at))) × Components s (h .at + h .value) (h .at) a b) where
-    list-as : (x : Head) → item BYTES 0 (limits .number) s e at ≡ got x → h .at ≡ x .next → after x ≡ h .at + h .value →
+  module _ (z : h .refusal ≡ 0) (r : Reading) (a b : List ℕ) (l : (r ≡ reading length (components s (h .at + h .value) (h .at))) × Components s (h .at + h .value) (h .at) a b) where
+    list-as : (x : Head) → item BYTES 0 (limits .largest) s e at ≡ got x → h .at ≡ x .next → after x ≡ h .at + h .value →
         inBytes s (components s) e at ≡ (components s (h .at + h .value) (h .at) >>= closed (h .at) (h .at + h .value))
     unfolding inBytes
     list-as x g u v = rw (g, v, ← u)
 
     list-is : inBytes s (components s) e at ≡ (components s (h .at + h .value) (h .at) >>= closed (h .at) (h .at + h .value))
     list-is =
-        let (x, g, u, v) = went {A = Head} (λ x. x .next) (λ x. x .num) (item BYTES 0 (limits .number) s e at) h q z in
-        list-as x g u (omega (arith, bytes-after x (item-law s BYTES 0 (limits .number) e at x g .is)))
+        let (x, g, u, v) = went {A = Head} (λ x. x .next) (λ x. x .num) (item BYTES 0 (limits .largest) s e at) h q z in
+        list-as x g u (omega (arith, bytes-after x (item-law s BYTES 0 (limits .largest) e at x g .is)))
 
     list-ids : Ids (λ l. l) (inBytes s (components s) e at) a b
     list-ids =
@@ -61,14 +61,14 @@ module _ (s : Bytes) (e at : ℕ) (h : Reading) (q : h ≡ headReading (item BYT
         let k : ids ≡ v .0 = both g″ .0 in
         rw (← k) (l .1 ids p gc)
 
-    pub list-refused : (r .stop ≡ 0 → ⊥) → Result r a b
+    pub list-refused : (r .refusal ≡ 0 → ⊥) → Result r a b
     list-refused t = (
       stopped (λ x. x .1) (λ x. length (x .0)) (components s (h .at + h .value) (h .at)) r (l .0) (λ x. x .1 .to) (λ x. length (x .0)) (closed (h .at) (h .at + h .value)) t
           ∙ ap listReading (sym list-is),
       list-ids,
     )
 
-    module _ (z′ : r .stop ≡ 0) where
+    module _ (z′ : r .refusal ≡ 0) where
       over-as : (x : List Span × ℕ) → components s (h .at + h .value) (h .at) ≡ got x → r .at ≡ x .1 → (r .at ≡ h .at + h .value → ⊥) →
           inBytes s (components s) e at ≡ refused NotCbor (r .at)
       over-as x g u d = list-is ∙ rw (g, u, ne-eqb (x .1) (h .at + h .value) (λ k. d (u ∙ k)))

@@ -25,7 +25,7 @@ use Rattle.check_manifest.proofs.BodyLaws.{manifest-law}
 use Rattle.check_manifest.proofs.CommonLaws.{CommonPromise}
 
 abbrev none : ℕ → ℕ → Body
-none n p = record { stop = n; at = p; number = 0; components = 0; from = 0; to = 0 }
+none n p = record { refusal = n; at = p; number = 0; components = 0; from = 0; to = 0 }
 
 -- what is promised of the manifest
 abbrev pub BodyPromise : Got (Manifest × ℕ) → Body → List ℕ → List ℕ → List ℕ → List ℕ → Type 0
@@ -36,13 +36,13 @@ placed-append [] ys a = refl
 placed-append (x ∷ xs) ys a = placed-append xs ys _
 
 -- the start and common: each stopped, or is known by its numbers
-front-is : (x : Got ((ℕ × ℕ) × ℕ)) (f : Front) → f ≡ frontOf x → f .stop ≡ 0 → x ≡ got ((f .entries, f .number), f .at)
-front-is (refused k p) f e h = absurd (not-zero k (ap (λ (z : Front). z .stop) (sym e) ∙ h))
+front-is : (x : Got ((ℕ × ℕ) × ℕ)) (f : Front) → f ≡ frontOf x → f .refusal ≡ 0 → x ≡ got ((f .entries, f .number), f .at)
+front-is (refused k p) f e h = absurd (not-zero k (ap (λ (z : Front). z .refusal) (sym e) ∙ h))
 front-is (got a) f e h = λ j. got ((sym (ap (λ (z : Front). z .entries) e) j, sym (ap (λ (z : Front). z .number) e) j), sym (ap (λ (z : Front). z .at) e) j)
 
-common-is : (x : Got ((List Span × List Section) × Span)) (c : Common) → c ≡ commonOf x → c .stop ≡ 0 →
+common-is : (x : Got ((List Span × List Section) × Span)) (c : Common) → c ≡ commonOf x → c .refusal ≡ 0 →
     (ids : List Span) × (xs : List Section) × (x ≡ got ((ids, xs), span (c .from) (c .at))) × (c .components ≡ length ids) × (c .commands ≡ countAll xs)
-common-is (refused k p) c e h = absurd (not-zero k (ap (λ (z : Common). z .stop) (sym e) ∙ h))
+common-is (refused k p) c e h = absurd (not-zero k (ap (λ (z : Common). z .refusal) (sym e) ∙ h))
 common-is (got a) c e h = (
   a .0 .0,
   a .0 .1,
@@ -52,37 +52,37 @@ common-is (got a) c e h = (
 )
 
 -- the start stopped
-pub manifest-no-front : (s : Bytes) (e at : ℕ) (f : Front) (i i₂ b b₂ : List ℕ) → f ≡ frontOf (frontAt s e at) → (f .stop ≡ 0 → ⊥) →
-    BodyPromise (manifestAt s e at) (none (f .stop) (f .at)) i i₂ b b₂
+pub manifest-no-front : (s : Bytes) (e at : ℕ) (f : Front) (i i₂ b b₂ : List ℕ) → f ≡ frontOf (frontAt s e at) → (f .refusal ≡ 0 → ⊥) →
+    BodyPromise (manifestAt s e at) (none (f .refusal) (f .at)) i i₂ b b₂
 manifest-no-front s e at f i i₂ b b₂ q h = rw (manifest-law s e at) (go (frontAt s e at) _ q)
   where
-    go : (x : Got ((ℕ × ℕ) × ℕ)) (g : (ℕ × ℕ) × ℕ → Got (Manifest × ℕ)) → f ≡ frontOf x → BodyPromise (x >>= g) (none (f .stop) (f .at)) i i₂ b b₂
-    go (refused k p) g u = (ap (λ (z : Front). none (z .stop) (z .at)) u, tt)
-    go (got a) g u = absurd (h (ap (λ (z : Front). z .stop) u))
+    go : (x : Got ((ℕ × ℕ) × ℕ)) (g : (ℕ × ℕ) × ℕ → Got (Manifest × ℕ)) → f ≡ frontOf x → BodyPromise (x >>= g) (none (f .refusal) (f .at)) i i₂ b b₂
+    go (refused k p) g u = (ap (λ (z : Front). none (z .refusal) (z .at)) u, tt)
+    go (got a) g u = absurd (h (ap (λ (z : Front). z .refusal) u))
 
 module _ (s : Bytes) (e at : ℕ) (f : Front) (i i′ b : List ℕ) where
-  module _ (q : f ≡ frontOf (frontAt s e at)) (h : f .stop ≡ 0) (c : Common) (b₂ : List ℕ) (y : CommonPromise (commonIn s e (f .at)) c i i′ b b₂) where
+  module _ (q : f ≡ frontOf (frontAt s e at)) (h : f .refusal ≡ 0) (c : Common) (b₂ : List ℕ) (y : CommonPromise (commonIn s e (f .at)) c i i′ b b₂) where
     -- common stopped
-    pub manifest-no-common : (c .stop ≡ 0 → ⊥) → BodyPromise (manifestAt s e at) (none (c .stop) (c .at)) i i′ b b₂
+    pub manifest-no-common : (c .refusal ≡ 0 → ⊥) → BodyPromise (manifestAt s e at) (none (c .refusal) (c .at)) i i′ b b₂
     manifest-no-common n = rw (manifest-law s e at, front-is (frontAt s e at) f q h) (go (commonIn s e (f .at)) _ (y .0))
       where
         go : (x : Got ((List Span × List Section) × Span)) (g : (List Span × List Section) × Span → Got (Manifest × ℕ)) → c ≡ commonOf x →
-            BodyPromise (x >>= g) (none (c .stop) (c .at)) i i′ b b₂
-        go (refused k p) g u = (ap (λ (z : Common). none (z .stop) (z .at)) u, tt)
-        go (got a) g u = absurd (n (ap (λ (z : Common). z .stop) u))
+            BodyPromise (x >>= g) (none (c .refusal) (c .at)) i i′ b b₂
+        go (refused k p) g u = (ap (λ (z : Common). none (z .refusal) (z .at)) u, tt)
+        go (got a) g u = absurd (n (ap (λ (z : Common). z .refusal) u))
 
-    module _ (z : c .stop ≡ 0) (r : Reading) (b₃ : List ℕ)
+    module _ (z : c .refusal ≡ 0) (r : Reading) (b₃ : List ℕ)
         (w : Promise (λ xs. c .commands + countAll xs) (λ xs. xs) (sectionsAt s (c .components) (f .entries - 3) 8 (c .commands) e (c .at)) r b₂ b₃) where
       -- the sections stopped
-      pub manifest-bad : (r .stop ≡ 0 → ⊥) → BodyPromise (manifestAt s e at) (none (r .stop) (r .at)) i i′ b b₃
+      pub manifest-bad : (r .refusal ≡ 0 → ⊥) → BodyPromise (manifestAt s e at) (none (r .refusal) (r .at)) i i′ b b₃
       manifest-bad n =
           let (ids, xs, g, u, v) = common-is (commonIn s e (f .at)) c (y .0) z in
           let x = reading-stopped (λ xs. c .commands + countAll xs) (sectionsAt s (c .components) (f .entries - 3) 8 (c .commands) e (c .at)) r (w .0) n in
-          rw (manifest-law s e at, front-is (frontAt s e at) f q h, g, ← u, ← v, x .was) (ap (λ (t : Reading). none (t .stop) (t .at)) (x .is), tt)
+          rw (manifest-law s e at, front-is (frontAt s e at) f q h, g, ← u, ← v, x .was) (ap (λ (t : Reading). none (t .refusal) (t .at)) (x .is), tt)
 
       -- all is accepted
-      pub manifest-good : r .stop ≡ 0 →
-          BodyPromise (manifestAt s e at) (record { stop = 0; at = r .at; number = f .number; components = c .components; from = c .from; to = c .at }) i i′ b b₃
+      pub manifest-good : r .refusal ≡ 0 →
+          BodyPromise (manifestAt s e at) (record { refusal = 0; at = r .at; number = f .number; components = c .components; from = c .from; to = c .at }) i i′ b b₃
       manifest-good n =
           let (ids, xs, g, u, v) = common-is (commonIn s e (f .at)) c (y .0) z in
           let (ys, t, _) = reading-went (λ xs. c .commands + countAll xs) (sectionsAt s (c .components) (f .entries - 3) 8 (c .commands) e (c .at)) r (w .0) n in
@@ -90,15 +90,15 @@ module _ (s : Bytes) (e at : ℕ) (f : Front) (i i′ b : List ℕ) where
         where
           go : (ids : List Span) (xs ys : List Section) → commonIn s e (f .at) ≡ got ((ids, xs), span (c .from) (c .at)) → c .components ≡ length ids → c .commands ≡ countAll xs →
               sectionsAt s (c .components) (f .entries - 3) 8 (c .commands) e (c .at) ≡ got (ys, r .at) → (i′ ≡ laid ids i) × (b₂ ≡ placed xs b) → b₃ ≡ placed ys b₂ →
-              BodyPromise (manifestAt s e at) (record { stop = 0; at = r .at; number = f .number; components = c .components; from = c .from; to = c .at }) i i′ b b₃
+              BodyPromise (manifestAt s e at) (record { refusal = 0; at = r .at; number = f .number; components = c .components; from = c .from; to = c .at }) i i′ b b₃
           go ids xs ys g u v t (k, l) o =
               let all : manifestAt s e at ≡ got (record { part = span at (r .at); number = f .number; ids = ids; common = span (c .from) (c .at); sections = xs ++ ys }, r .at) =
               manifest-law s e at ∙ rw (front-is (frontAt s e at) f q h, g, ← u, ← v, t) in
               rw all
-              ((λ j. record { stop = 0; at = r .at; number = f .number; components = u j; from = c .from; to = c .at }), (k, o ∙ ap (placed ys) l ∙ sym (placed-append xs ys b)))
+              ((λ j. record { refusal = 0; at = r .at; number = f .number; components = u j; from = c .from; to = c .at }), (k, o ∙ ap (placed ys) l ∙ sym (placed-append xs ys b)))
 
 -- a manifest has at least three entries
-pub front-entries : (s : Bytes) (e at : ℕ) (f : Front) → f ≡ frontOf (frontAt s e at) → f .stop ≡ 0 → 3 ≤ f .entries
+pub front-entries : (s : Bytes) (e at : ℕ) (f : Front) → f ≡ frontOf (frontAt s e at) → f .refusal ≡ 0 → 3 ≤ f .entries
 unfolding frontAt
 front-entries s e at f q h =
     let x : frontAt s e at ≡ got ((f .entries, f .number), f .at) = front-is (frontAt s e at) f q h in

@@ -38,18 +38,18 @@ stopped-with x y r e z = record { refusal = z .refusal; place = z .place; was = 
 module _ (s : Bytes) (n k m e at : ℕ) where
   flat :
       sectionAt s n k m e at
-      ≡ (item BYTES 0 (limits .number) s e at >>= λ h. sequenceAt s n k (limits .depth) m (after h) (h .next) >>= λ r.
+      ≡ (item BYTES 0 (limits .largest) s e at >>= λ h. sequenceAt s n k (limits .depth) m (after h) (h .next) >>= λ r.
       need (eqb (r .1) (after h)) NotCbor (r .1) >>= λ _. got (record { key = k; place = span (h .next) (r .1); seq = r .0 }, r .1))
   unfolding sectionAt inBytes
   flat =
-      bind-assoc (item BYTES 0 (limits .number) s e at) _ _ ∙ alike (item BYTES 0 (limits .number) s e at) _ _ λ h q.
+      bind-assoc (item BYTES 0 (limits .largest) s e at) _ _ ∙ alike (item BYTES 0 (limits .largest) s e at) _ _ λ h q.
       bind-assoc (sequenceAt s n k (limits .depth) m (after h) (h .next)) _ _ ∙ alike (sequenceAt s n k (limits .depth) m (after h) (h .next)) _ _ λ r q′.
       bind-assoc (need (eqb (r .1) (after h)) NotCbor (r .1)) _ _
 
-  pub section-stop : (r : Reading) → Stopped (item BYTES 0 (limits .number) s e at) r → Stopped (sectionAt s n k m e at) r
-  section-stop r x = stopped-with _ _ r flat (stopped-bind (item BYTES 0 (limits .number) s e at) _ r x)
+  pub section-stop : (r : Reading) → Stopped (item BYTES 0 (limits .largest) s e at) r → Stopped (sectionAt s n k m e at) r
+  section-stop r x = stopped-with _ _ r flat (stopped-bind (item BYTES 0 (limits .largest) s e at) _ r x)
 
-  module _ (v p : ℕ) (q : item BYTES 0 (limits .number) s e at ≡ got (record { kind = BYTES; num = v; next = p })) where
+  module _ (v p : ℕ) (q : item BYTES 0 (limits .largest) s e at ≡ got (record { kind = BYTES; num = v; next = p })) where
     pub section-bad : (r : Reading) → Stopped (sequenceAt s n k (limits .depth) m (p + v) p) r → Stopped (sectionAt s n k m e at) r
     section-bad r x = record { refusal = x .refusal; place = x .place; was = flat ∙ rw (q, x .was); is = x .is }
 
@@ -61,13 +61,13 @@ module _ (s : Bytes) (n k m e at : ℕ) where
       section-got o = flat ∙ rw (q, w, eq-eqb _ _ o, o)
 
     -- accepted: the reading of its sequence, and its place in the array
-    pub section-promise : (r : Reading) → r ≡ reading (λ a. m + count a) (sequenceAt s n k (limits .depth) m (p + v) p) → r .stop ≡ 0 → r .at ≡ p + v →
+    pub section-promise : (r : Reading) → r ≡ reading (λ a. m + count a) (sequenceAt s n k (limits .depth) m (p + v) p) → r .refusal ≡ 0 → r .at ≡ p + v →
         (b : List ℕ) (i : ℕ) → i ≡ sectionNo k →
         Promise (λ x. m + count (x .seq)) (λ x. x ∷ []) (sectionAt s n k m e at) r b (set (set b (2 * i) p) (2 * i + 1) (p + v))
     section-promise r y z o b i u =
         let (a, w, c) = read s n k (limits .depth) m (p + v) p r y z in
         let g = section-got a (r .at) w o in
-        rw (g, u) ((λ j. record { stop = z j; at = o j; value = c j }), refl)
+        rw (g, u) ((λ j. record { refusal = z j; at = o j; value = c j }), refl)
 
 -- keys from 8 to 12 are those of sections
 pub key-section : (k low : ℕ) → 8 ≤ low → low ≤ k → k ≤ 12 → Q.Section k
@@ -112,7 +112,7 @@ module _ (s : Bytes) (n k low m e at : ℕ) where
       sections-bad r x = record { refusal = x .refusal; place = x .place; was = rw (h, q, x .was); is = x .is }
 
       -- one more
-      pub sections-more : (r : Reading) (b a : List ℕ) → Promise (λ x. m + count (x .seq)) (λ x. x ∷ []) (sectionAt s n name m e p) r b a → r .stop ≡ 0 →
+      pub sections-more : (r : Reading) (b a : List ℕ) → Promise (λ x. m + count (x .seq)) (λ x. x ∷ []) (sectionAt s n name m e p) r b a → r .refusal ≡ 0 →
           (m₀ : ℕ) (all : Got (List Section × ℕ)) (b₀ : List ℕ) → Left m₀ m all (sectionsAt s n k low m e at) b₀ b →
           Left m₀ (r .value) all (sectionsAt s n j (name + 1) (r .value) e (r .at)) b₀ a
       unfolding sectionsAt

@@ -48,8 +48,8 @@ module _ (s : Bytes) where
   commonIn e at = inBytes s (commonAt s) e at
 
 abbrev pub frontOf : Got ((ℕ × ℕ) × ℕ) → Front
-frontOf (refused r p) = record { stop = refusalNumber r; at = p; entries = 0; number = 0 }
-frontOf (got a) = record { stop = 0; at = a .1; entries = a .0 .0; number = a .0 .1 }
+frontOf (refused r p) = record { refusal = refusalNumber r; at = p; entries = 0; number = 0 }
+frontOf (got a) = record { refusal = 0; at = a .1; entries = a .0 .0; number = a .0 .1 }
 
 -- of a list in a byte string: the place after it, and how many
 abbrev pub listReading : Got (List Span × Span) → Reading
@@ -61,13 +61,13 @@ Ids f (refused r p) ids ids′ = Unit {0}
 Ids f (got a) ids ids′ = ids′ ≡ laid (f (a .0)) ids
 
 abbrev pub commonOf : Got ((List Span × List Section) × Span) → Common
-commonOf (refused r p) = record { stop = refusalNumber r; at = p; components = 0; commands = 0; from = 0 }
-commonOf (got a) = record { stop = 0; at = a .1 .to; components = length (a .0 .0); commands = countAll (a .0 .1); from = a .1 .from }
+commonOf (refused r p) = record { refusal = refusalNumber r; at = p; components = 0; commands = 0; from = 0 }
+commonOf (got a) = record { refusal = 0; at = a .1 .to; components = length (a .0 .0); commands = countAll (a .0 .1); from = a .1 .from }
 
 abbrev pub bodyOf : Got (Manifest × ℕ) → Body
-bodyOf (refused r p) = record { stop = refusalNumber r; at = p; number = 0; components = 0; from = 0; to = 0 }
+bodyOf (refused r p) = record { refusal = refusalNumber r; at = p; number = 0; components = 0; from = 0; to = 0 }
 bodyOf (got a) =
-    record { stop = 0; at = a .1; number = a .0 .number; components = length (a .0 .ids); from = a .0 .common .from; to = a .0 .common .to }
+    record { refusal = 0; at = a .1; number = a .0 .number; components = length (a .0 .ids); from = a .0 .common .from; to = a .0 .common .to }
 
 -- where a reading is accepted, the places of its identifiers and sections stand in the arrays
 abbrev pub Kept : {A P : Type 0} → (A → List Span) → (A → List Section) → Got (A × P) → List ℕ → List ℕ → List ℕ → List ℕ → Type 0

@@ -13,13 +13,16 @@ use check_sequence::argument::number;
 use component_ids::components;
 use rules::answers::Refusal;
 use rules::controller::Controller;
+use rules::controller::Places;
+use rules::controller::SectionPlaces;
+use rules_tables::Table;
 use sections::common_sequence;
 use sections::sections;
 
 pub mod sections;
 
 pub struct Front {
-    pub stop: usize,
+    pub refusal: usize,
     pub at: usize,
     pub entries: usize,
     pub number: usize,
@@ -31,13 +34,13 @@ pub fn version(s: &[u8], e: usize, at: usize) -> Reading
     ensures { λ r. ⌜ r ≡ placeReading (versionAt (now (s .entry)) e at) ⌝ }
 {
     let k = item(s, e, at, cbor::NUMBER, 1, 1);
-    let a = k.stop;
+    let a = k.refusal;
     if a != 0 {
         return k;
     }
     let p = k.at;
     let v = number(s, e, p);
-    let b = v.stop;
+    let b = v.refusal;
     if b != 0 {
         return v;
     }
@@ -46,7 +49,7 @@ pub fn version(s: &[u8], e: usize, at: usize) -> Reading
         return refuse(Refusal::WrongVersion, p);
     }
     Reading {
-        stop: 0,
+        refusal: 0,
         at: v.at,
         value: 0,
     }
@@ -58,22 +61,22 @@ pub fn numbered(s: &[u8], e: usize, at: usize) -> Reading
     ensures { λ r. ⌜ r ≡ reading (λ n. n) (numberedAt (now (s .entry)) e at) ⌝ }
 {
     let k = item(s, e, at, cbor::NUMBER, 2, 2);
-    let a = k.stop;
+    let a = k.refusal;
     if a != 0 {
         return k;
     }
     let n = number(s, e, k.at);
-    let b = n.stop;
+    let b = n.refusal;
     if b != 0 {
         return n;
     }
     let c = item(s, e, n.at, cbor::NUMBER, 3, 3);
-    let d = c.stop;
+    let d = c.refusal;
     if d != 0 {
         return c;
     }
     Reading {
-        stop: 0,
+        refusal: 0,
         at: c.at,
         value: n.value,
     }
@@ -85,37 +88,37 @@ pub fn read_front(s: &[u8], e: usize, at: usize) -> Front
     ensures { λ r. ⌜ r ≡ frontOf (frontAt (now (s .entry)) e at) ⌝ }
 {
     let h = item(s, e, at, cbor::MAP, 3, 8);
-    let a = h.stop;
+    let a = h.refusal;
     if a != 0 {
         return Front {
-            stop: a,
+            refusal: a,
             at: h.at,
             entries: 0,
             number: 0,
         };
     }
     let v = version(s, e, h.at);
-    let b = v.stop;
+    let b = v.refusal;
     if b != 0 {
         return Front {
-            stop: b,
+            refusal: b,
             at: v.at,
             entries: 0,
             number: 0,
         };
     }
     let n = numbered(s, e, v.at);
-    let c = n.stop;
+    let c = n.refusal;
     if c != 0 {
         return Front {
-            stop: c,
+            refusal: c,
             at: n.at,
             entries: 0,
             number: 0,
         };
     }
     Front {
-        stop: 0,
+        refusal: 0,
         at: n.at,
         entries: h.value,
         number: n.value,
@@ -123,19 +126,19 @@ pub fn read_front(s: &[u8], e: usize, at: usize) -> Front
 }
 
 // The component list in its byte string.
-pub fn component_list(s: &[u8], e: usize, at: usize, ids: &mut [usize; 16]) -> Reading
+pub fn component_list(s: &[u8], e: usize, at: usize, ids: &mut Places) -> Reading
     requires { ⌜ e ≤ length (now s) ⌝ }
     ensures { λ r. ⌜ (r ≡ listReading (Check.inBytes (now (s .entry)) (Check.components (now (s .entry))) e at)) × Ids (λ l. l) (Check.inBytes (now (s .entry)) (Check.components (now (s .entry))) e at) (now (ids .entry)) (now (ids .exit)) ⌝ }
 {
     let b = item(s, e, at, cbor::BYTES, 0, Controller::LARGEST_NUMBER);
-    let stop = b.stop;
-    if stop != 0 {
+    let refusal = b.refusal;
+    if refusal != 0 {
         return b;
     }
     let from = b.at;
     let to = from + b.value;
     let r = components(s, to, from, ids);
-    let wrong = r.stop;
+    let wrong = r.refusal;
     if wrong != 0 {
         return r;
     }
@@ -147,7 +150,7 @@ pub fn component_list(s: &[u8], e: usize, at: usize, ids: &mut [usize; 16]) -> R
 }
 
 pub struct Common {
-    pub stop: usize,
+    pub refusal: usize,
     pub at: usize,
     pub components: usize,
     pub commands: usize,
@@ -155,10 +158,10 @@ pub struct Common {
 }
 
 pub fn no_common(r: Reading) -> Common
-    ensures { λ c. ⌜ c ≡ record { stop = r .stop; at = r .at; components = 0; commands = 0; from = 0 } ⌝ }
+    ensures { λ c. ⌜ c ≡ record { refusal = r .refusal; at = r .at; components = 0; commands = 0; from = 0 } ⌝ }
 {
     Common {
-        stop: r.stop,
+        refusal: r.refusal,
         at: r.at,
         components: 0,
         commands: 0,
@@ -169,40 +172,40 @@ pub fn no_common(r: Reading) -> Common
 // Common in its byte string.
 pub fn read_common(
     s: &[u8],
-    table: &[u16; 46],
+    table: &Table,
     e: usize,
     at: usize,
-    ids: &mut [usize; 16],
-    places: &mut [usize; 12],
+    ids: &mut Places,
+    places: &mut SectionPlaces,
 ) -> Common
     requires { ⌜ (e ≤ length (now s)) × (now table ≡ byNumber) ⌝ }
     ensures { λ r. ⌜ (r ≡ commonOf (commonIn (now (s .entry)) e at)) × Kept (λ c. c .0) (λ c. c .1) (commonIn (now (s .entry)) e at) (now (ids .entry)) (now (ids .exit)) (now (places .entry)) (now (places .exit)) ⌝ }
 {
     let b = item(s, e, at, cbor::BYTES, 0, Controller::LARGEST_NUMBER);
-    let x = b.stop;
+    let x = b.refusal;
     if x != 0 {
         return no_common(b);
     }
     let from = b.at;
     let to = from + b.value;
     let h = item(s, to, from, cbor::MAP, 1, 2);
-    let y = h.stop;
+    let y = h.refusal;
     if y != 0 {
         return no_common(h);
     }
     let k = item(s, to, h.at, cbor::NUMBER, 2, 2);
-    let z = k.stop;
+    let z = k.refusal;
     if z != 0 {
         return no_common(k);
     }
     let l = component_list(s, to, k.at, ids);
-    let u = l.stop;
+    let u = l.refusal;
     if u != 0 {
         return no_common(l);
     }
     let n = l.value;
     let q = common_sequence(s, table, n, h.value - 1, to, l.at, places);
-    let v = q.stop;
+    let v = q.refusal;
     if v != 0 {
         return no_common(q);
     }
@@ -211,7 +214,7 @@ pub fn read_common(
         return no_common(refuse(Refusal::NotCbor, end));
     }
     Common {
-        stop: 0,
+        refusal: 0,
         at: to,
         components: n,
         commands: q.value,
@@ -220,7 +223,7 @@ pub fn read_common(
 }
 
 pub struct Body {
-    pub stop: usize,
+    pub refusal: usize,
     pub at: usize,
     pub number: usize,
     pub components: usize,
@@ -231,20 +234,20 @@ pub struct Body {
 // The manifest: its number, how many components it has, and where common stands.
 pub fn read_body(
     s: &[u8],
-    table: &[u16; 46],
+    table: &Table,
     e: usize,
     at: usize,
-    ids: &mut [usize; 16],
-    places: &mut [usize; 12],
+    ids: &mut Places,
+    places: &mut SectionPlaces,
 ) -> Body
     requires { ⌜ (e ≤ length (now s)) × (now table ≡ byNumber) ⌝ }
     ensures { λ r. ⌜ (r ≡ bodyOf (Check.manifestAt (now (s .entry)) e at)) × Kept (λ m. m .ids) (λ m. m .sections) (Check.manifestAt (now (s .entry)) e at) (now (ids .entry)) (now (ids .exit)) (now (places .entry)) (now (places .exit)) ⌝ }
 {
     let f = read_front(s, e, at);
-    let x = f.stop;
+    let x = f.refusal;
     if x != 0 {
         return Body {
-            stop: x,
+            refusal: x,
             at: f.at,
             number: 0,
             components: 0,
@@ -253,10 +256,10 @@ pub fn read_body(
         };
     }
     let c = read_common(s, table, e, f.at, ids, places);
-    let y = c.stop;
+    let y = c.refusal;
     if y != 0 {
         return Body {
-            stop: y,
+            refusal: y,
             at: c.at,
             number: 0,
             components: 0,
@@ -274,10 +277,10 @@ pub fn read_body(
         c.at,
         places,
     );
-    let z = r.stop;
+    let z = r.refusal;
     if z != 0 {
         return Body {
-            stop: z,
+            refusal: z,
             at: r.at,
             number: 0,
             components: 0,
@@ -286,7 +289,7 @@ pub fn read_body(
         };
     }
     Body {
-        stop: 0,
+        refusal: 0,
         at: r.at,
         number: f.number,
         components: c.components,

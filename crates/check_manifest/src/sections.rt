@@ -15,6 +15,8 @@ use cbor::reading::refuse;
 use check_sequence::check_sequence;
 use rules::answers::Refusal;
 use rules::controller::Controller;
+use rules::controller::SectionPlaces;
+use rules_tables::Table;
 
 // The number of a section in the array of places.
 pub fn section_number(key: usize) -> usize
@@ -27,26 +29,26 @@ pub fn section_number(key: usize) -> usize
 // The section under `key`, after m commands.
 pub fn section(
     s: &[u8],
-    table: &[u16; 46],
+    table: &Table,
     n: usize,
     key: usize,
     m: usize,
     e: usize,
     at: usize,
-    places: &mut [usize; 12],
+    places: &mut SectionPlaces,
 ) -> Reading
     requires { ⌜ (e ≤ length (now s)) × (now table ≡ byNumber) × Section key ⌝ }
     ensures { λ r. ⌜ (r ≡ reading (λ x. m + count (x .seq)) (Check.sectionAt (now (s .entry)) n key m e at)) × Placed (λ x. x ∷ []) (Check.sectionAt (now (s .entry)) n key m e at) (now (places .entry)) (now (places .exit)) ⌝ }
 {
     let b = item(s, e, at, cbor::BYTES, 0, Controller::LARGEST_NUMBER);
-    let stop = b.stop;
-    if stop != 0 {
+    let refusal = b.refusal;
+    if refusal != 0 {
         return b;
     }
     let from = b.at;
     let to = from + b.value;
     let r = check_sequence(s, table, n, key, Controller::DEPTH, m, to, from);
-    let wrong = r.stop;
+    let wrong = r.refusal;
     if wrong != 0 {
         return r;
     }
@@ -63,13 +65,13 @@ pub fn section(
 // k sections, after m commands, whose keys ascend from 8 on.
 pub fn sections(
     s: &[u8],
-    table: &[u16; 46],
+    table: &Table,
     n: usize,
     k: usize,
     m: usize,
     e: usize,
     at: usize,
-    places: &mut [usize; 12],
+    places: &mut SectionPlaces,
 ) -> Reading
     requires { ⌜ (e ≤ length (now s)) × (now table ≡ byNumber) ⌝ }
     ensures { λ r. ⌜ (r ≡ reading (λ xs. m + countAll xs) (Check.sectionsAt (now (s .entry)) n k 8 m e at)) × Placed (λ xs. xs) (Check.sectionsAt (now (s .entry)) n k 8 m e at) (now (places .entry)) (now (places .exit)) ⌝ }
@@ -80,13 +82,13 @@ pub fn sections(
     let mut left = k;
     while 0 < left {
         let h = item(s, e, p, cbor::NUMBER, low, 12);
-        let stop = h.stop;
-        if stop != 0 {
+        let refusal = h.refusal;
+        if refusal != 0 {
             return h;
         }
         let key = h.value;
         let r = section(s, table, n, key, so_far, e, h.at, places);
-        let wrong = r.stop;
+        let wrong = r.refusal;
         if wrong != 0 {
             return r;
         }
@@ -96,7 +98,7 @@ pub fn sections(
         left -= 1;
     }
     Reading {
-        stop: 0,
+        refusal: 0,
         at: p,
         value: so_far,
     }
@@ -105,26 +107,26 @@ pub fn sections(
 // Common's own sequence, of which k entries, one or none, are left.
 pub fn common_sequence(
     s: &[u8],
-    table: &[u16; 46],
+    table: &Table,
     n: usize,
     k: usize,
     e: usize,
     at: usize,
-    places: &mut [usize; 12],
+    places: &mut SectionPlaces,
 ) -> Reading
     requires { ⌜ (e ≤ length (now s)) × (now table ≡ byNumber) × (k ≤ 1) ⌝ }
     ensures { λ r. ⌜ (r ≡ reading countAll (Check.commonSeq (now (s .entry)) n k e at)) × Placed (λ xs. xs) (Check.commonSeq (now (s .entry)) n k e at) (now (places .entry)) (now (places .exit)) ⌝ }
 {
     if k == 0 {
         return Reading {
-            stop: 0,
+            refusal: 0,
             at,
             value: 0,
         };
     }
     let h = item(s, e, at, cbor::NUMBER, 4, 4);
-    let stop = h.stop;
-    if stop != 0 {
+    let refusal = h.refusal;
+    if refusal != 0 {
         return h;
     }
     section(s, table, n, 3, 0, e, h.at, places)

@@ -34,9 +34,9 @@ forget-bind (got a) f = refl
 
 module _ (s : Bytes) where
   -- a number is its item's
-  pub number-reading : (e at : ℕ) → headReading (item NUMBER 0 (limits .number) s e at) ≡ reading (λ k. k) (number s e at)
+  pub number-reading : (e at : ℕ) → headReading (item NUMBER 0 (limits .largest) s e at) ≡ reading (λ k. k) (number s e at)
   unfolding number
-  number-reading e at = go (item NUMBER 0 (limits .number) s e at)
+  number-reading e at = go (item NUMBER 0 (limits .largest) s e at)
     where
       go : (x : Got Head) → headReading x ≡ reading (λ k. k) (x >>= λ h. got (h .num, h .next))
       go (refused r p) = refl

@@ -54,10 +54,10 @@ module _ (s : Bytes) (deeper : ℕ → Read Seq) where
   -- one sequence in a byte string, and what follows it
   in-bytes : {B : Type 0} (m e at : ℕ) (k : Seq × Span → Got B) (g : Seq × ℕ → Got B) → ((a : Seq) (p : Span) → k (a, p) ≡ g (a, p .to)) →
       (inBytes s (deeper m) e at >>= k)
-      ≡ (item BYTES 0 (limits .number) s e at >>= λ h. deeper m (after h) (h .next) >>= λ r. need (eqb (r .1) (after h)) NotCbor (r .1) >>= λ _. g r)
+      ≡ (item BYTES 0 (limits .largest) s e at >>= λ h. deeper m (after h) (h .next) >>= λ r. need (eqb (r .1) (after h)) NotCbor (r .1) >>= λ _. g r)
   unfolding inBytes
   in-bytes m e at k g same =
-      bind-assoc (item BYTES 0 (limits .number) s e at) _ k ∙ alike (item BYTES 0 (limits .number) s e at) _ _ λ h q.
+      bind-assoc (item BYTES 0 (limits .largest) s e at) _ k ∙ alike (item BYTES 0 (limits .largest) s e at) _ _ λ h q.
       bind-assoc (deeper m (after h) (h .next)) _ k ∙ alike (deeper m (after h) (h .next)) _ _ λ r q′.
       bind-assoc (need (eqb (r .1) (after h)) NotCbor (r .1)) _ k ∙ alike (need (eqb (r .1) (after h)) NotCbor (r .1)) _ _ λ u q″.
       same (r .0) (span (h .next) (r .1))
@@ -159,11 +159,11 @@ module _ (s : Bytes) (deeper : ℕ → Read Seq) (k m e at : ℕ) where
   nested-none z = rw z
 
   module _ (j : ℕ) (h : k ≡ suc j) where
-    pub nested-stop : (r : Reading) → Stopped (item BYTES 0 (limits .number) s e at) r → r ≡ reading (λ c. c) (nested s deeper k m e at)
+    pub nested-stop : (r : Reading) → Stopped (item BYTES 0 (limits .largest) s e at) r → r ≡ reading (λ c. c) (nested s deeper k m e at)
     unfolding nested
     nested-stop r x = rw (h, x .was) (x .is)
 
-    module _ (v p : ℕ) (q : item BYTES 0 (limits .number) s e at ≡ got (record { kind = BYTES; num = v; next = p })) where
+    module _ (v p : ℕ) (q : item BYTES 0 (limits .largest) s e at ≡ got (record { kind = BYTES; num = v; next = p })) where
       pub nested-bad : (r : Reading) → Stopped (deeper m (p + v) p) r → r ≡ reading (λ c. c) (nested s deeper k m e at)
       unfolding nested
       nested-bad r x = rw (h, q, x .was) (x .is)
@@ -219,7 +219,7 @@ module _ (s : Bytes) (deeper : ℕ → Read Seq) (n section k m e at : ℕ) wher
 
 -- a sequence is its head and its commands
 module _ (s : Bytes) (n section d m e at : ℕ) where
-  pub sequence-stop : (r : Reading) → Stopped (item ARRAY 0 (limits .pairs + limits .pairs) s e at) r → r ≡ reading (λ a. m + count a) (sequenceAt s n section d m e at)
+  pub sequence-stop : (r : Reading) → Stopped (item ARRAY 0 (limits .sequence + limits .sequence) s e at) r → r ≡ reading (λ a. m + count a) (sequenceAt s n section d m e at)
   unfolding sequenceAt
   sequence-stop r x = go d
     where
@@ -227,7 +227,7 @@ module _ (s : Bytes) (n section d m e at : ℕ) where
       go zero = rw (x .was) (x .is)
       go (suc d) = rw (x .was) (x .is)
 
-  module _ (v p : ℕ) (q : item ARRAY 0 (limits .pairs + limits .pairs) s e at ≡ got (record { kind = ARRAY; num = v; next = p })) where
+  module _ (v p : ℕ) (q : item ARRAY 0 (limits .sequence + limits .sequence) s e at ≡ got (record { kind = ARRAY; num = v; next = p })) where
     pub sequence-odd : (v % 2 ≡ 0 → ⊥) → fault Malformed at ≡ reading (λ a. m + count a) (sequenceAt s n section d m e at)
     unfolding sequenceAt
     sequence-odd o = go d
@@ -246,14 +246,14 @@ module _ (s : Bytes) (n section d m e at : ℕ) where
     sequence-body o j h = rw (h, q, eq-eqb _ _ o)
 
 -- what the start of a command, a sequence and a command gave where they went on
-pub opened : (s : Bytes) (n section m e at : ℕ) (r : Reading) → r ≡ reading (λ k. k) (opening s n section m e at) → r .stop ≡ 0 →
+pub opened : (s : Bytes) (n section m e at : ℕ) (r : Reading) → r ≡ reading (λ k. k) (opening s n section m e at) → r .refusal ≡ 0 →
     opening s n section m e at ≡ got (r .value, r .at)
 opened s n section m e at r q h = let (a, y, v) = reading-went (λ k. k) (opening s n section m e at) r q h in y ∙ (λ j. got (sym v j, r .at))
 
-pub read : (s : Bytes) (n section d m e at : ℕ) (r : Reading) → r ≡ reading (λ a. m + count a) (sequenceAt s n section d m e at) → r .stop ≡ 0 →
+pub read : (s : Bytes) (n section d m e at : ℕ) (r : Reading) → r ≡ reading (λ a. m + count a) (sequenceAt s n section d m e at) → r .refusal ≡ 0 →
     (a : Seq) × (sequenceAt s n section d m e at ≡ got (a, r .at)) × (r .value ≡ m + count a)
 read s n section d m e at r q h = reading-went (λ a. m + count a) (sequenceAt s n section d m e at) r q h
 
-pub done : (s : Bytes) (deeper : ℕ → Read Seq) (n section m e at : ℕ) (r : Reading) → r ≡ reading (λ c. m + countCmd c) (command s deeper n section m e at) → r .stop ≡ 0 →
+pub done : (s : Bytes) (deeper : ℕ → Read Seq) (n section m e at : ℕ) (r : Reading) → r ≡ reading (λ c. m + countCmd c) (command s deeper n section m e at) → r .refusal ≡ 0 →
     (c : Cmd) × (command s deeper n section m e at ≡ got (c, r .at)) × (r .value ≡ m + countCmd c)
 done s deeper n section m e at r q h = reading-went (λ c. m + countCmd c) (command s deeper n section m e at) r q h

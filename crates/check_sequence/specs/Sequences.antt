@@ -14,7 +14,7 @@ module _ (s : Bytes) where
   unfoldable pub nested : (ℕ → Read Seq) → ℕ → ℕ → ℕ → ℕ → Got (ℕ × ℕ)
   nested deeper zero m e at = got (m, at)
   nested deeper (suc k) m e at = do
-    h ← item BYTES 0 (limits .number) s e at
+    h ← item BYTES 0 (limits .largest) s e at
     (a, next) ← deeper m (after h) (h .next)
     _ ← need (eqb next (after h)) NotCbor next
     nested deeper k (m + count a) e next

@@ -16,6 +16,7 @@ use rules::controller::Controller;
 use rules::tables::Argument;
 use rules::tables::Known;
 use rules::tables::Parameter;
+use rules_tables::Table;
 use rules_tables::look_up_parameter;
 
 // A number: the place after it, and its value.
@@ -31,7 +32,7 @@ pub fn place(r: Reading) -> Reading
     ensures { λ x. ⌜ x ≡ unnumbered r ⌝ }
 {
     Reading {
-        stop: r.stop,
+        refusal: r.refusal,
         at: r.at,
         value: 0,
     }
@@ -43,12 +44,12 @@ pub fn string(s: &[u8], kind: usize, lo: usize, hi: usize, e: usize, at: usize) 
     ensures { λ r. ⌜ r ≡ placeReading (stringAt (now (s .entry)) kind lo hi e at) ⌝ }
 {
     let h = item(s, e, at, kind, lo, hi);
-    let stop = h.stop;
-    if stop != 0 {
+    let refusal = h.refusal;
+    if refusal != 0 {
         return h;
     }
     Reading {
-        stop: 0,
+        refusal: 0,
         at: h.at + h.value,
         value: 0,
     }
@@ -60,8 +61,8 @@ pub fn component(s: &[u8], n: usize, e: usize, at: usize) -> Reading
     ensures { λ r. ⌜ r ≡ placeReading (componentAt (now (s .entry)) n e at) ⌝ }
 {
     let k = number(s, e, at);
-    let stop = k.stop;
-    if stop != 0 {
+    let refusal = k.refusal;
+    if refusal != 0 {
         return k;
     }
     let v = k.value;
@@ -86,7 +87,7 @@ pub fn parameter(s: &[u8], n: usize, what: Parameter, e: usize, at: usize) -> Re
 }
 
 // k entries of a set or override.
-pub fn entries(s: &[u8], table: &[u16; 46], n: usize, k: usize, e: usize, at: usize) -> Reading
+pub fn entries(s: &[u8], table: &Table, n: usize, k: usize, e: usize, at: usize) -> Reading
     requires { ⌜ (e ≤ length (now s)) × (now table ≡ byNumber) ⌝ }
     ensures { λ r. ⌜ r ≡ placeReading (entriesAt (now (s .entry)) n k 0 e at) ⌝ }
 {
@@ -95,8 +96,8 @@ pub fn entries(s: &[u8], table: &[u16; 46], n: usize, k: usize, e: usize, at: us
     let mut left = k;
     while 0 < left {
         let key = number(s, e, p);
-        let stop = key.stop;
-        if stop != 0 {
+        let refusal = key.refusal;
+        if refusal != 0 {
             return key;
         }
         let name = key.value;
@@ -107,7 +108,7 @@ pub fn entries(s: &[u8], table: &[u16; 46], n: usize, k: usize, e: usize, at: us
             return refuse(Refusal::UnknownParameter, p);
         };
         let v = parameter(s, n, what, e, key.at);
-        let bad = v.stop;
+        let bad = v.refusal;
         if bad != 0 {
             return v;
         }
@@ -116,7 +117,7 @@ pub fn entries(s: &[u8], table: &[u16; 46], n: usize, k: usize, e: usize, at: us
         left -= 1;
     }
     Reading {
-        stop: 0,
+        refusal: 0,
         at: p,
         value: 0,
     }
@@ -125,7 +126,7 @@ pub fn entries(s: &[u8], table: &[u16; 46], n: usize, k: usize, e: usize, at: us
 // An argument: how many sequences it holds, and where the first is; of one that holds none, the place after it.
 pub fn read_argument(
     s: &[u8],
-    table: &[u16; 46],
+    table: &Table,
     n: usize,
     argument: Argument,
     e: usize,
@@ -141,14 +142,14 @@ pub fn read_argument(
         Argument::Alternatives => item(s, e, at, cbor::ARRAY, 1, Controller::ALTERNATIVES),
         Argument::Parameters => {
             let h = item(s, e, at, cbor::MAP, 1, Controller::PARAMETERS);
-            let stop = h.stop;
-            if stop != 0 {
+            let refusal = h.refusal;
+            if refusal != 0 {
                 return h;
             }
             entries(s, table, n, h.value, e, h.at)
         }
         Argument::Sequence => Reading {
-            stop: 0,
+            refusal: 0,
             at,
             value: 1,
         },

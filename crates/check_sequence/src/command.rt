@@ -13,6 +13,7 @@ use cbor::reading::refuse;
 use rules::answers::Refusal;
 use rules::controller::Controller;
 use rules::tables::Listed;
+use rules_tables::Table;
 use rules_tables::look_up;
 
 // Whether a set of sections has the one with that key, 3 for common's sequence.
@@ -33,7 +34,7 @@ pub fn has_section(sections: u8, section: usize) -> bool
 // A command's code, and what stands before the sequences that it holds: how many they are, and where the first is.
 pub fn open_command(
     s: &[u8],
-    table: &[u16; 46],
+    table: &Table,
     n: usize,
     section: usize,
     m: usize,
@@ -44,8 +45,8 @@ pub fn open_command(
     ensures { λ r. ⌜ r ≡ reading (λ k. k) (opening (now (s .entry)) n section m e at) ⌝ }
 {
     let c = number(s, e, at);
-    let stop = c.stop;
-    if stop != 0 {
+    let refusal = c.refusal;
+    if refusal != 0 {
         return c;
     }
     let Listed::Command(row) = look_up(table, c.value) else {

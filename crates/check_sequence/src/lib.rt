@@ -13,6 +13,7 @@ use cbor::reading::refuse;
 use command::open_command;
 use rules::answers::Refusal;
 use rules::controller::Controller;
+use rules_tables::Table;
 
 pub mod argument;
 pub mod command;
@@ -20,7 +21,7 @@ pub mod command;
 // The sequence at `at`, after m commands; it and those in it may be `depth` deep.
 pub fn check_sequence(
     s: &[u8],
-    table: &[u16; 46],
+    table: &Table,
     n: usize,
     section: usize,
     depth: usize,
@@ -32,8 +33,8 @@ pub fn check_sequence(
     ensures { λ r. ⌜ r ≡ reading (λ a. m + count a) (Check.sequenceAt (now (s .entry)) n section depth m e at) ⌝ }
 {
     let h = item(s, e, at, cbor::ARRAY, 0, 2 * Controller::SEQUENCE_COMMANDS);
-    let stop = h.stop;
-    if stop != 0 {
+    let refusal = h.refusal;
+    if refusal != 0 {
         return h;
     }
     let v = h.value;
@@ -48,7 +49,7 @@ pub fn check_sequence(
     let mut left = v / 2;
     while 0 < left {
         let c = check_command(s, table, n, section, depth - 1, so_far, e, p);
-        let bad = c.stop;
+        let bad = c.refusal;
         if bad != 0 {
             return c;
         }
@@ -57,7 +58,7 @@ pub fn check_sequence(
         left -= 1;
     }
     Reading {
-        stop: 0,
+        refusal: 0,
         at: p,
         value: so_far,
     }
@@ -66,7 +67,7 @@ pub fn check_sequence(
 // The command at `at`, after m commands; the sequences that it holds may be `depth` deep.
 pub fn check_command(
     s: &[u8],
-    table: &[u16; 46],
+    table: &Table,
     n: usize,
     section: usize,
     depth: usize,
@@ -78,8 +79,8 @@ pub fn check_command(
     ensures { λ r. ⌜ r ≡ reading (λ c. m + countCmd c) (Check.command (now (s .entry)) (Check.sequenceAt (now (s .entry)) n section depth) n section m e at) ⌝ }
 {
     let o = open_command(s, table, n, section, m, e, at);
-    let stop = o.stop;
-    if stop != 0 {
+    let refusal = o.refusal;
+    if refusal != 0 {
         return o;
     }
     let mut p = o.at;
@@ -87,14 +88,14 @@ pub fn check_command(
     let mut left = o.value;
     while 0 < left {
         let b = item(s, e, p, cbor::BYTES, 0, Controller::LARGEST_NUMBER);
-        let bad = b.stop;
+        let bad = b.refusal;
         if bad != 0 {
             return b;
         }
         let from = b.at;
         let to = from + b.value;
         let r = check_sequence(s, table, n, section, depth, so_far, to, from);
-        let wrong = r.stop;
+        let wrong = r.refusal;
         if wrong != 0 {
             return r;
         }
@@ -107,7 +108,7 @@ pub fn check_command(
         left -= 1;
     }
     Reading {
-        stop: 0,
+        refusal: 0,
         at: p,
         value: so_far,
     }

@@ -139,21 +139,21 @@ module _ (s : Bytes) (e p : ℕ) where
   unfolding strings
   strings-end n z = rw z
 
-  strings-turn : (n : ℕ) → 0 < n → strings s n e p ≡ (item BYTES 0 (limits .number) s e p >>= λ h. strings s (n - 1) e (after h))
+  strings-turn : (n : ℕ) → 0 < n → strings s n e p ≡ (item BYTES 0 (limits .largest) s e p >>= λ h. strings s (n - 1) e (after h))
   unfolding strings
   strings-turn zero l = absurd (omega arith)
   strings-turn (suc n) l = let k : suc n - 1 ≡ n = omega arith in rw k
 
   -- the first of n strings, as the code read it
-  module _ (n : ℕ) (h : Reading) (q : h ≡ headReading (item BYTES 0 (limits .number) s e p)) where
-    pub strings-stop : 0 < n → (h .stop ≡ 0 → ⊥) → h ≡ placeReading (strings s n e p)
+  module _ (n : ℕ) (h : Reading) (q : h ≡ headReading (item BYTES 0 (limits .largest) s e p)) where
+    pub strings-stop : 0 < n → (h .refusal ≡ 0 → ⊥) → h ≡ placeReading (strings s n e p)
     strings-stop l t =
-        stopped (λ x. x .next) (λ x. x .num) (item BYTES 0 (limits .number) s e p) h q (λ x. x) (λ x. 0) (λ x. strings s (n - 1) e (after x)) t ∙ ap placeReading (sym (strings-turn n l))
+        stopped (λ x. x .next) (λ x. x .num) (item BYTES 0 (limits .largest) s e p) h q (λ x. x) (λ x. 0) (λ x. strings s (n - 1) e (after x)) t ∙ ap placeReading (sym (strings-turn n l))
 
-    pub strings-next : 0 < n → h .stop ≡ 0 → strings s n e p ≡ strings s (n - 1) e (h .at + h .value)
+    pub strings-next : 0 < n → h .refusal ≡ 0 → strings s n e p ≡ strings s (n - 1) e (h .at + h .value)
     strings-next l z =
-        let (a, g, u, v) = went {A = Head} (λ x. x .next) (λ x. x .num) (item BYTES 0 (limits .number) s e p) h q z in
-        let k : after a ≡ h .at + h .value = omega (arith, bytes-after a (item-law s BYTES 0 (limits .number) e p a g .is)) in
+        let (a, g, u, v) = went {A = Head} (λ x. x .next) (λ x. x .num) (item BYTES 0 (limits .largest) s e p) h q z in
+        let k : after a ≡ h .at + h .value = omega (arith, bytes-after a (item-law s BYTES 0 (limits .largest) e p a g .is)) in
         strings-turn n l ∙ rw (g, k)
 
 module _ (s : Bytes) (a n b m : ℕ) where
@@ -184,12 +184,12 @@ module _ (s : Bytes) (e at : ℕ) where
     abbrev rest : ℕ → Got ℕ
     rest next = need (leb (next - at) (limits .identifier)) Malformed at >>= λ _. got next
 
-    pub plain-stop : (h .stop ≡ 0 → ⊥) → h ≡ placeReading (plain s e at)
+    pub plain-stop : (h .refusal ≡ 0 → ⊥) → h ≡ placeReading (plain s e at)
     unfolding plain
     plain-stop t =
         stopped (λ x. x .next) (λ x. x .num) (item ARRAY 1 (limits .parts) s e at) h q (λ x. x) (λ x. 0) (λ x. strings s (x .num) e (x .next) >>= rest) t
 
-    module _ (z : h .stop ≡ 0) (r : Reading) (q′ : r ≡ placeReading (strings s (h .value) e (h .at))) where
+    module _ (z : h .refusal ≡ 0) (r : Reading) (q′ : r ≡ placeReading (strings s (h .value) e (h .at))) where
       plain-as : (a : Head) → item ARRAY 1 (limits .parts) s e at ≡ got a → h .at ≡ a .next → h .value ≡ a .num → plain s e at ≡ (strings s (h .value) e (h .at) >>= rest)
       unfolding plain
       plain-as a g u v = rw (g, u, v)
@@ -197,11 +197,11 @@ module _ (s : Bytes) (e at : ℕ) where
       plain-rest : plain s e at ≡ (strings s (h .value) e (h .at) >>= rest)
       plain-rest = let (a, g, u, v) = went {A = Head} (λ x. x .next) (λ x. x .num) (item ARRAY 1 (limits .parts) s e at) h q z in plain-as a g u v
 
-      pub strings-stopped : (r .stop ≡ 0 → ⊥) → r ≡ placeReading (plain s e at)
+      pub strings-stopped : (r .refusal ≡ 0 → ⊥) → r ≡ placeReading (plain s e at)
       strings-stopped t =
           stopped (λ x. x) (λ x. 0) (strings s (h .value) e (h .at)) r q′ (λ x. x) (λ x. 0) rest t ∙ ap placeReading (sym plain-rest)
 
-      module _ (z′ : r .stop ≡ 0) where
+      module _ (z′ : r .refusal ≡ 0) where
         ended : strings s (h .value) e (h .at) ≡ got (r .at)
         ended = let (next, g, u, v) = went {A = ℕ} (λ x. x) (λ x. 0) (strings s (h .value) e (h .at)) r q′ z′ in rw u g
 
@@ -218,9 +218,9 @@ module _ (s : Bytes) (e at : ℕ) where
         plain-good l = q′ ∙ ap placeReading (ended ∙ sym (plain-rest ∙ rw (ended, le-leb _ _ l)))
 
 -- what stopped was refused
-halted : {A : Type 0} (p v : A → ℕ) (x : Got A) (r : Reading) → r ≡ view p v x → (r .stop ≡ 0 → ⊥) → (k : Refusal) × (q : ℕ) × (x ≡ refused k q) × (r ≡ fault k q)
+halted : {A : Type 0} (p v : A → ℕ) (x : Got A) (r : Reading) → r ≡ view p v x → (r .refusal ≡ 0 → ⊥) → (k : Refusal) × (q : ℕ) × (x ≡ refused k q) × (r ≡ fault k q)
 halted p v (refused k q) r e t = (k, q, refl, e)
-halted p v (got a) r e t = absurd (t (ap (λ (y : Reading). y .stop) e))
+halted p v (got a) r e t = absurd (t (ap (λ (y : Reading). y .refusal) e))
 
 -- two numbers stored after the places ps
 stored : (ps : List Span) (u v : ℕ) (t : List ℕ) (x y : ℕ) →
@@ -272,16 +272,16 @@ module _ (s : Bytes) (n e at : ℕ) where
         rw g (rw (f .count, q), f .lie)
 
     module _ (l : k < n) (r : Reading) (q : r ≡ placeReading (plain s e p)) where
-      stop-as : (x : Refusal) (y : ℕ) → plain s e p ≡ refused x y → r ≡ fault x y → Answers (record { stop = r .stop; at = r .at; value = k }) a₀ a
+      stop-as : (x : Refusal) (y : ℕ) → plain s e p ≡ refused x y → r ≡ fault x y → Answers (record { refusal = r .refusal; at = r .at; value = k }) a₀ a
       stop-as x y u v =
           let d : listing s (n - k) e p ≡ record { ids = []; end = refused x y } = listing-turn p (n - k) (omega arith) ∙ rw u in
           let g : listing s n e at ≡ record { ids = f .ids; end = refused x y } = f .all ∙ ap (more (f .ids)) d ∙ rw append-nil in
           rw (g, v) (rw (f .count), f .lie)
 
-      pub listing-stop : (r .stop ≡ 0 → ⊥) → Answers (record { stop = r .stop; at = r .at; value = k }) a₀ a
+      pub listing-stop : (r .refusal ≡ 0 → ⊥) → Answers (record { refusal = r .refusal; at = r .at; value = k }) a₀ a
       listing-stop t = let (x, y, u, v) = halted {A = ℕ} (λ x. x) (λ x. 0) (plain s e p) r q t in stop-as x y u v
 
-      pub listing-next : length a₀ ≡ 16 → n ≤ 8 → r .stop ≡ 0 → Sofar s n e at (k + 1) (r .at) a₀ (set (set a (2 * k) p) (2 * k + 1) (r .at))
+      pub listing-next : length a₀ ≡ 16 → n ≤ 8 → r .refusal ≡ 0 → Sofar s n e at (k + 1) (r .at) a₀ (set (set a (2 * k) p) (2 * k + 1) (r .at))
       listing-next w b z =
           let (next, g, u, v) = went {A = ℕ} (λ x. x) (λ x. 0) (plain s e p) r q z in
           let g′ : plain s e p ≡ got (r .at) = rw u g in
@@ -385,13 +385,13 @@ value-as n (refused k p) = refl
 value-as n (got q) = refl
 
 module _ (ids : List Span) (r : Reading) where
-  listed-stop : (x : Got ℕ) → r ≡ listedAs (length ids) x → (r .stop ≡ 0 → ⊥) →
-      record { stop = r .stop; at = r .at; value = 0 } ≡ reading length (x >>= λ q. got (ids, q))
+  listed-stop : (x : Got ℕ) → r ≡ listedAs (length ids) x → (r .refusal ≡ 0 → ⊥) →
+      record { refusal = r .refusal; at = r .at; value = 0 } ≡ reading length (x >>= λ q. got (ids, q))
   listed-stop (refused k p) e t = rw e
-  listed-stop (got q) e t = absurd (t (ap (λ (y : Reading). y .stop) e))
+  listed-stop (got q) e t = absurd (t (ap (λ (y : Reading). y .refusal) e))
 
-  listed-went : (x : Got ℕ) → r ≡ listedAs (length ids) x → r .stop ≡ 0 → r ≡ reading length (x >>= λ q. got (ids, q))
-  listed-went (refused k p) e z = absurd (not-zero k (ap (λ (y : Reading). y .stop) (sym e) ∙ z))
+  listed-went : (x : Got ℕ) → r ≡ listedAs (length ids) x → r .refusal ≡ 0 → r ≡ reading length (x >>= λ q. got (ids, q))
+  listed-went (refused k p) e z = absurd (not-zero k (ap (λ (y : Reading). y .refusal) (sym e) ∙ z))
   listed-went (got q) e z = e
 
 outcome-ids : (s : Bytes) (a : List ℕ) (w : Repeat) (ids : List Span) (end : Got ℕ) (ids′ : List Span) (p : ℕ) → outcome s a w ids end ≡ got (ids′, p) → ids′ ≡ ids
@@ -403,14 +403,14 @@ module _ (s : Bytes) (e at : ℕ) (h : Reading) (q : h ≡ headReading (item ARR
   abbrev Outcome : Reading → List ℕ → List ℕ → Type 0
   Outcome r a b = (r ≡ reading length (components s e at)) × Components s e at a b
 
-  pub components-stop : (a b : List ℕ) → (h .stop ≡ 0 → ⊥) → Outcome h a b
+  pub components-stop : (a b : List ℕ) → (h .refusal ≡ 0 → ⊥) → Outcome h a b
   unfolding components
   components-stop a b t = (
     stopped (λ x. x .next) (λ x. x .num) (item ARRAY 1 (limits .components) s e at) h q (λ x. x .1) (λ x. length (x .0)) (λ x. identifiers s (x .num) [] e (x .next)) t,
-    λ ids p g. split _ (item ARRAY 1 (limits .components) s e at) _ (ids, p) g λ x gx g′. absurd (t (ap (λ (y : Reading). y .stop) (q ∙ ap headReading gx))),
+    λ ids p g. split _ (item ARRAY 1 (limits .components) s e at) _ (ids, p) g λ x gx g′. absurd (t (ap (λ (y : Reading). y .refusal) (q ∙ ap headReading gx))),
   )
 
-  module _ (z : h .stop ≡ 0) where
+  module _ (z : h .refusal ≡ 0) where
     pub components-head : (h .value ≤ 8) × (h .at ≤ e)
     components-head =
         let (x, g, u, v) = went {A = Head} (λ x. x .next) (λ x. x .num) (item ARRAY 1 (limits .components) s e at) h q z in
@@ -458,13 +458,13 @@ module _ (s : Bytes) (e at : ℕ) (h : Reading) (q : h ≡ headReading (item ARR
           components-new : components s e at ≡ (listing s (h .value) e (h .at) .end >>= λ p. got (listing s (h .value) e (h .at) .ids, p))
           components-new = components-is ∙ rw g
 
-          pub components-refused : (r .stop ≡ 0 → ⊥) → Outcome (record { stop = r .stop; at = r .at; value = 0 }) a b
+          pub components-refused : (r .refusal ≡ 0 → ⊥) → Outcome (record { refusal = r .refusal; at = r .at; value = 0 }) a b
           components-refused t = (
             listed-stop (listing s (h .value) e (h .at) .ids) r (listing s (h .value) e (h .at) .end) (l .0) t ∙ ap (reading length) (sym components-new),
             components-kept,
           )
 
-          pub components-good : r .stop ≡ 0 → Outcome r a b
+          pub components-good : r .refusal ≡ 0 → Outcome r a b
           components-good z = (
             listed-went (listing s (h .value) e (h .at) .ids) r (listing s (h .value) e (h .at) .end) (l .0) z ∙ ap (reading length) (sym components-new),
             components-kept,

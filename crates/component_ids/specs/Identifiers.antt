@@ -68,7 +68,7 @@ module _ (s : Bytes) where
 
 -- how the reading ended, and how many were read, on a refusal too
 abbrev pub listedAs : ℕ → Got ℕ → Reading
-listedAs n (refused r p) = record { stop = refusalNumber r; at = p; value = n }
+listedAs n (refused r p) = record { refusal = refusalNumber r; at = p; value = n }
 listedAs n (got q) = ends q n
 
 abbrev pub listed : Listing → Reading

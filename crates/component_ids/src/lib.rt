@@ -11,6 +11,7 @@ use cbor::reading::item;
 use cbor::reading::refuse;
 use rules::answers::Refusal;
 use rules::controller::Controller;
+use rules::controller::Places;
 
 // n byte strings: the place after them.
 pub fn strings(s: &[u8], e: usize, at: usize, n: usize) -> Reading
@@ -21,14 +22,14 @@ pub fn strings(s: &[u8], e: usize, at: usize, n: usize) -> Reading
     let mut left = n;
     while 0 < left {
         let h = item(s, e, p, cbor::BYTES, 0, Controller::LARGEST_NUMBER);
-        if h.stop != 0 {
+        if h.refusal != 0 {
             return h;
         }
         p = h.at + h.value;
         left -= 1;
     }
     Reading {
-        stop: 0,
+        refusal: 0,
         at: p,
         value: 0,
     }
@@ -40,11 +41,11 @@ pub fn identifier(s: &[u8], e: usize, at: usize) -> Reading
     ensures { λ r. ⌜ r ≡ placeReading (plain (now (s .entry)) e at) ⌝ }
 {
     let h = item(s, e, at, cbor::ARRAY, 1, Controller::IDENTIFIER_PARTS);
-    if h.stop != 0 {
+    if h.refusal != 0 {
         return h;
     }
     let r = strings(s, e, h.at, h.value);
-    if r.stop != 0 {
+    if r.refusal != 0 {
         return r;
     }
     let next = r.at;
@@ -55,7 +56,7 @@ pub fn identifier(s: &[u8], e: usize, at: usize) -> Reading
 }
 
 // n identifiers, until one is refused: how many were read, and their places.
-pub fn identifiers(s: &[u8], e: usize, at: usize, n: usize, ids: &mut [usize; 16]) -> Reading
+pub fn identifiers(s: &[u8], e: usize, at: usize, n: usize, ids: &mut Places) -> Reading
     requires { ⌜ (e ≤ length (now s)) × (n ≤ 8) ⌝ }
     ensures { λ r. ⌜ (r ≡ listed (listing (now (s .entry)) n e at)) × (now (ids .exit) ≡ laid (listing (now (s .entry)) n e at .ids) (now (ids .entry))) ⌝ }
 {
@@ -64,11 +65,11 @@ pub fn identifiers(s: &[u8], e: usize, at: usize, n: usize, ids: &mut [usize; 16
     let mut k = 0;
     while k < n {
         let r = identifier(s, e, p);
-        let stop = r.stop;
+        let refusal = r.refusal;
         let next = r.at;
-        if stop != 0 {
+        if refusal != 0 {
             return Reading {
-                stop,
+                refusal,
                 at: next,
                 value: k,
             };
@@ -79,7 +80,7 @@ pub fn identifiers(s: &[u8], e: usize, at: usize, n: usize, ids: &mut [usize; 16
         k += 1;
     }
     Reading {
-        stop: 0,
+        refusal: 0,
         at: p,
         value: n,
     }
@@ -109,7 +110,7 @@ pub enum Repeat {
 }
 
 // The first equal pair of the first n identifiers, the later one outside: the number of the later one.
-pub fn repeated_one(s: &[u8], ids: &[usize; 16], n: usize) -> Repeat
+pub fn repeated_one(s: &[u8], ids: &Places, n: usize) -> Repeat
     requires { ⌜ (n ≤ 8) × InBytes (now ids) n (length (now s)) ⌝ }
     ensures { λ r. ⌜ r ≡ repeated (now (s .entry)) (now (ids .entry)) n ⌝ }
 {
@@ -135,12 +136,12 @@ pub fn repeated_one(s: &[u8], ids: &[usize; 16], n: usize) -> Repeat
 }
 
 // The component list: how many identifiers, and their places.
-pub fn components(s: &[u8], e: usize, at: usize, ids: &mut [usize; 16]) -> Reading
+pub fn components(s: &[u8], e: usize, at: usize, ids: &mut Places) -> Reading
     requires { ⌜ e ≤ length (now s) ⌝ }
     ensures { λ r. ⌜ (r ≡ reading length (Check.components (now (s .entry)) e at)) × Components (now (s .entry)) e at (now (ids .entry)) (now (ids .exit)) ⌝ }
 {
     let h = item(s, e, at, cbor::ARRAY, 1, Controller::COMPONENTS);
-    if h.stop != 0 {
+    if h.refusal != 0 {
         return h;
     }
     let r = identifiers(s, e, h.at, h.value, ids);
@@ -148,10 +149,10 @@ pub fn components(s: &[u8], e: usize, at: usize, ids: &mut [usize; 16]) -> Readi
     match repeated_one(s, ids, n) {
         Repeat::At(j) => refuse(Refusal::RepeatedIdentifier, ids[2 * j]),
         Repeat::Nothing => {
-            let stop = r.stop;
-            if stop != 0 {
+            let refusal = r.refusal;
+            if refusal != 0 {
                 return Reading {
-                    stop,
+                    refusal,
                     at: r.at,
                     value: 0,
                 };

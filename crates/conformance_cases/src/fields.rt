@@ -7,6 +7,7 @@ ghost use Rattle.conformance_cases.specs.Fields.{StringAt, deviceOf};
 use byte_buffer::four;
 use byte_buffer::two;
 use pitvorgas::Device;
+use rules::controller::Sixteen;
 
 // The end of the string at the start of b, or 0.
 pub fn string_end(b: &[u8]) -> usize
@@ -22,7 +23,7 @@ pub fn string_end(b: &[u8]) -> usize
     2 + n
 }
 
-fn sixteen(b: &[u8], at: usize) -> [u8; 16]
+fn sixteen(b: &[u8], at: usize) -> Sixteen
     requires { ⌜ at + 16 ≤ length (now b) ⌝ }
     ensures { λ r. ⌜ r ≡ part (now (b .entry)) at 16 ⌝ }
 {

@@ -13,9 +13,10 @@ use pitvorgas::CheckAnswer;
 use pitvorgas::NewerAnswer;
 use pitvorgas::RunAnswer;
 use pitvorgas::TranslateAnswer;
-use run_slots::slot::DIGEST;
-use run_slots::slot::IMAGE;
-use run_slots::slot::SLOT_BYTES;
+use rules::controller::SectionPlaces;
+use rules::slot_format::IMAGE;
+use rules::slot_format::SLOT_BYTES;
+use rules::slot_format::SLOT_DIGEST;
 use run_slots::slot::capacity;
 use run_slots::slot::size;
 use text::put;
@@ -108,7 +109,7 @@ fn put_places(room: &mut [u8], at: usize, ids: &[usize], components: usize) -> u
     put_format(room, at, &places[..end], ids)
 }
 
-fn put_sections(room: &mut [u8], at: usize, s: &[usize; 12]) -> usize
+fn put_sections(room: &mut [u8], at: usize, s: &SectionPlaces) -> usize
     ensures { λ r. ⌜ Wrote (sectionsText (now (s .entry))) at (now (room .entry)) r (now (room .exit)) ⌝ }
 {
     let there = [
@@ -127,7 +128,7 @@ fn put_accepted(
     number: usize,
     components: usize,
     ids: &[usize],
-    sections: &[usize; 12],
+    sections: &SectionPlaces,
 ) -> usize
     ensures { λ r. ⌜ Wrote (acceptedText number components (now (ids .entry)) (now (sections .entry))) at (now (room .entry)) r (now (room .exit)) ⌝ }
 {
@@ -195,7 +196,7 @@ fn put_image(room: &mut [u8], at: usize, slots: &[u8], k: usize) -> usize
         wide(slots[SLOT_BYTES * k + IMAGE]),
         size(slots, k),
     ];
-    let from = SLOT_BYTES * k + DIGEST;
+    let from = SLOT_BYTES * k + SLOT_DIGEST;
     let to = from + 32;
     let a = put_format(room, at, b":%:%:%:", &numbers);
     put_hex(room, a, &slots[from..to])

@@ -12,6 +12,7 @@ use pitvorgas::pitvorgas_check;
 use pitvorgas::pitvorgas_newer;
 use program_test::test::test_program;
 use rules::answers::Refusal;
+use rules::controller::PLACES;
 
 const FILE: usize = 2;
 
@@ -99,12 +100,12 @@ fn put_newest(room: &mut [u8], first: &[u8], second: &[u8]) -> usize
 fn put_listed(room: &mut [u8], program: &[u8]) -> usize
     ensures { λ r. ⌜ Counts r (now (room .exit)) ⌝ }
 {
-    let mut ids = [0usize; 16];
+    let mut ids = [0usize; PLACES];
     let tested = test_program(program, &mut ids);
     if tested.good {
         return put_program(room, 0, program);
     }
-    put_refused(room, 0, Refusal::BadProgram.number() as usize, 0, program)
+    put_refused(room, 0, Refusal::BadProgram.number(), 0, program)
 }
 
 pub(crate) fn list_file() {

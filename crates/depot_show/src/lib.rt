@@ -7,6 +7,8 @@ use check_envelope::report::Report;
 use depot_items::line::NEWLINE;
 use depot_items::line::put_string;
 use rules::controller::Controller;
+use rules::controller::Places;
+use rules::controller::SectionPlaces;
 use text::pieces::put_code;
 use text::pieces::put_labelled;
 use text::put;
@@ -27,7 +29,7 @@ fn put_component(room: &mut [u8], at: usize, s: &[u8], k: usize, from: usize, en
 }
 
 // The first `n` components.
-fn put_components(room: &mut [u8], at: usize, s: &[u8], n: usize, ids: &[usize; 16]) -> usize
+fn put_components(room: &mut [u8], at: usize, s: &[u8], n: usize, ids: &Places) -> usize
     requires { ⌜ n ≤ 8 ⌝ }
     ensures { λ r. ⌜ Wrote (componentsText (now (s .entry)) (now (ids .entry)) n) at (now (room .entry)) r (now (room .exit)) ⌝ }
 {
@@ -64,7 +66,7 @@ fn put_section(room: &mut [u8], at: usize, s: &[u8], key: usize, from: usize, en
     r.to
 }
 
-fn put_sections(room: &mut [u8], at: usize, s: &[u8], sections: &[usize; 12]) -> usize
+fn put_sections(room: &mut [u8], at: usize, s: &[u8], sections: &SectionPlaces) -> usize
     ensures { λ r. ⌜ Wrote (sectionsText (now (s .entry)) (now (sections .entry))) at (now (room .entry)) r (now (room .exit)) ⌝ }
 {
     let a = put_section(room, at, s, 3, sections[0], sections[1]);
@@ -82,8 +84,8 @@ pub fn put_parts(
     s: &[u8],
     number: usize,
     components: usize,
-    ids: &[usize; 16],
-    sections: &[usize; 12],
+    ids: &Places,
+    sections: &SectionPlaces,
 ) -> usize
     ensures { λ r. ⌜ Wrote (partsText (now (s .entry)) number components (now (ids .entry)) (now (sections .entry))) at (now (room .entry)) r (now (room .exit)) ⌝ }
 {

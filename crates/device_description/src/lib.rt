@@ -18,8 +18,9 @@ use device_text::rest;
 use device_text::shape::is_answer;
 use device_text::shape::is_slot;
 use device_text::word;
-use run_slots::image::IMAGE_BYTES;
-use run_slots::slot::SLOT_BYTES;
+use rules::controller::Sixteen;
+use rules::slot_format::IMAGE_BYTES;
+use rules::slot_format::SLOT_BYTES;
 
 // '#'.
 const COMMENT: u8 = 35;
@@ -27,8 +28,8 @@ const COMMENT: u8 = 35;
 // What a description says. The slots and the answers stand in the lent rooms; here is how many bytes they have.
 pub struct Scenario {
     pub verdict: bool,
-    pub vendor: [u8; 16],
-    pub class: [u8; 16],
+    pub vendor: Sixteen,
+    pub class: Sixteen,
     pub number: u32,
     pub event: bool,
     pub slots: usize,

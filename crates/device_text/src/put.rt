@@ -13,6 +13,7 @@ use crate::read::digit;
 use crate::rest;
 use crate::shape::status;
 use crate::word;
+use rules::controller::Sixteen;
 use text::put_byte;
 
 fn low(n: usize) -> u8
@@ -65,7 +66,7 @@ fn put_bytes(room: &mut [u8], at: usize, w: &[u8]) -> usize
 }
 
 // 16 bytes.
-pub fn sixteen(w: &[u8]) -> [u8; 16]
+pub fn sixteen(w: &[u8]) -> Sixteen
     ensures { λ r. ⌜ r ≡ Bytes·put (replicate 16 0) 0 (Words.bytes (now (w .entry))) ⌝ }
 {
     let mut b = [0u8; 16];

@@ -40,7 +40,7 @@ module _ (s : Bytes) (number n : ℕ) (ids sections : List ℕ) (a : Accepted s 
   pub few : n ≤ 8
   few = omega (arith, counted, known .some-ids)
 
-  pub number-small : number ≤ limits .number
+  pub number-small : number ≤ limits .largest
   number-small = omega (arith, a .numbered, known .number)
 
   spans : (k : ℕ) → k < length (a .manifest .ids) → spanAt ids k ≡ getD (a .manifest .ids) k (span 0 0)

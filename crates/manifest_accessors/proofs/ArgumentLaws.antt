@@ -16,7 +16,7 @@ use Rattle.rules.specs.Manifest.{Seq, Cmd, one}
 use Rattle.rules.specs.Check.{Read, nothing, number, entries, argument, command, sequenceAt}
 use Rattle.rules.proofs.TableLaws.{each-row, _&_}
 use Rattle.rules.proofs.GotLaws.{passed, both, split, split₂, found-is}
-use Rattle.manifest_accessors.specs.Arguments.{One}
+use Rattle.manifest_accessors.specs.Arguments.{ArgumentAt}
 
 pub form-of : (c : ℕ) (r x : Row) → rowOf c commands ≡ some r → rowOf c commands ≡ some x → r .form ≡ x .form
 form-of c r x p q = let same : r ≡ x = cc in rw same
@@ -78,7 +78,7 @@ module _ (s : Bytes) where
   module _ (n section depth m e at : ℕ) (cmd : Cmd) (to : ℕ) (f : e ≤ length s)
       (q₀ : command s (sequenceAt s n section depth) n section m e at ≡ got (cmd, to)) where
     pub command-one : (c p : ℕ) → number s e at ≡ got (c, p) → (c ≡ 30 → ⊥) → (c ≡ 15 → ⊥) →
-        (x : One s c p) × (x .n ≡ n) × (cmd ≡ one at (x .op) (x .coerce)) × (x .to ≡ to) × (m < limits .commands)
+        (x : ArgumentAt s c p) × (x .n ≡ n) × (cmd ≡ one at (x .op) (x .coerce)) × (x .to ≡ to) × (m < limits .commands)
     command-one c p qn a b =
         let x = command-coded (sequenceAt s n section depth) n section m e at cmd to q₀ c p qn in
         let (op, coerce, is) = one-row (sequenceAt s n section depth) n (m + 1) at e p cmd to c (x .row) (x .listed) a b (x .reads) in (

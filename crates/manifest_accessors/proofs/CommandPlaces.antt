@@ -40,7 +40,7 @@ coded s n depth events at x =
 -- a sequence in a byte string
 pub record InString (s : Bytes) (deeper : ℕ → Read Seq) (m e at : ℕ) (a : Seq) : Type 0 where
   pub head : Head
-  pub item : item BYTES 0 (limits .number) s e at ≡ got head
+  pub item : item BYTES 0 (limits .largest) s e at ≡ got head
   pub reads : deeper m (head .next + head .num) (head .next) ≡ got (a, head .next + head .num)
   pub fits : head .next + head .num ≤ e
 
@@ -48,9 +48,9 @@ pub in-string : (s : Bytes) (deeper : ℕ → Read Seq) (m e at : ℕ) (a : Seq)
     (i : InString s deeper m e at a) × (p .to ≡ i .head .next + i .head .num)
 unfolding inBytes
 in-string s deeper m e at a p q₀ =
-    split _ (item BYTES 0 (limits .number) s e at) _ (a, p) q₀ λ h qh q₁.
+    split _ (item BYTES 0 (limits .largest) s e at) _ (a, p) q₀ λ h qh q₁.
     split₂ _ (deeper m (after h) (h .next)) _ (a, p) q₁ λ b q qr q₂.
-    let i : Item s BYTES 0 (limits .number) e at h = item-law s BYTES 0 (limits .number) e at h qh in
+    let i : Item s BYTES 0 (limits .largest) e at h = item-law s BYTES 0 (limits .largest) e at h qh in
     let (t, q₃) = passed (eqb q (after h)) NotCbor q _ (a, p) q₂ in
     let (ea, ep) = both q₃ in
     let l : q ≡ after h = eqb-true _ _ t in

@@ -23,7 +23,7 @@ use Rattle.rules.proofs.TableLaws.{_&_}
 use Rattle.rules.proofs.CheckLaws.{item-law, number-law, one-of-kind, bytes-after, text-after}
 use Rattle.manifest_accessors.specs.declared.arguments.Args.{Args}
 use Rattle.run_slots.specs.Params.{meaning, Fit}
-use Rattle.manifest_accessors.specs.Heads.{Headed}
+use Rattle.manifest_accessors.specs.Heads.{HeadAt}
 use Rattle.manifest_accessors.specs.Arguments.{paramsOf, coerceOf, givenOf, Within, bareAt, overGiven, EntryAt, EntryPut}
 use Rattle.manifest_accessors.proofs.HeadLaws.{one-of-whole, item-headed, number-headed, flag-at}
 
@@ -59,7 +59,7 @@ module _ (s : Bytes) (n e at : ℕ) (f : e ≤ length s) (v : Given) (q : ℕ) w
       go h (inr i) = (omega arith, rw i)
 
   pub record UriAt : Type 0 where
-    pub headed : Headed s at
+    pub headed : HeadAt s at
     pub given : v ≡ give none (some (part s (headed .head .next) (headed .head .num))) none none none
     pub to : q ≡ headed .head .next + headed .head .num
     pub fits : q ≤ length s
@@ -82,10 +82,10 @@ module _ (s : Bytes) (n e at : ℕ) (f : e ≤ length s) (v : Given) (q : ℕ) w
       }
 
   pub record SourceAt : Type 0 where
-    pub headed : Headed s at
+    pub headed : HeadAt s at
     pub given : v ≡ give none none (some (headed .head .num)) none none
     pub to : q ≡ headed .head .next
-    pub small : headed .head .num ≤ limits .number
+    pub small : headed .head .num ≤ limits .largest
     pub inside : headed .head .num < n
 
   source-read : parameter s n Source e at ≡ got (v, q) → SourceAt
@@ -98,7 +98,7 @@ module _ (s : Bytes) (n e at : ℕ) (f : e ≤ length s) (v : Given) (q : ℕ) w
       record { headed = number-headed s e at k next f qk; given = sym ev; to = sym eq; small = l; inside = ltb-true _ _ t }
 
   pub record DigestAt : Type 0 where
-    pub headed : Headed s at
+    pub headed : HeadAt s at
     pub given : v ≡ give none none none (some (part s (headed .head .next) 32)) none
     pub to : q ≡ headed .head .next + 32
     pub fits : q ≤ length s
@@ -119,10 +119,10 @@ module _ (s : Bytes) (n e at : ℕ) (f : e ≤ length s) (v : Given) (q : ℕ) w
       }
 
   pub record SizeAt : Type 0 where
-    pub headed : Headed s at
+    pub headed : HeadAt s at
     pub given : v ≡ give none none none none (some (headed .head .num))
     pub to : q ≡ headed .head .next
-    pub small : headed .head .num ≤ limits .number
+    pub small : headed .head .num ≤ limits .largest
 
   size-read : parameter s n Size e at ≡ got (v, q) → SizeAt
   unfolding parameter
@@ -132,9 +132,9 @@ module _ (s : Bytes) (n e at : ℕ) (f : e ≤ length s) (v : Given) (q : ℕ) w
       let (u, m, l) = number-law s e at k next qk in
       record { headed = number-headed s e at k next f qk; given = sym ev; to = sym eq; small = l }
 
-  headed-read : (key : ℕ) (what : Parameter) → paramOf key params ≡ some what → (key ≡ 2 → ⊥) → parameter s n what e at ≡ got (v, q) → Headed s at
+  headed-read : (key : ℕ) (what : Parameter) → paramOf key params ≡ some what → (key ≡ 2 → ⊥) → parameter s n what e at ≡ got (v, q) → HeadAt s at
   headed-read key what =
-      param-of (λ k x. (k ≡ 2 → ⊥) → parameter s n x e at ≡ got (v, q) → Headed s at) params key what
+      param-of (λ k x. (k ≡ 2 → ⊥) → parameter s n x e at ≡ got (v, q) → HeadAt s at) params key what
       ((λ n q. absurd (n refl)) & (λ n q. uri-read q .headed) & (λ n q. source-read q .headed) & (λ n q. digest-read q .headed) & (λ n q. size-read q .headed) & tt)
 
 is-size : (key : ℕ) (what : Parameter) → paramOf key params ≡ some what → (key ≡ 2 → ⊥) → (key ≡ 6 → ⊥) → (key ≡ 10 → ⊥) → (key ≡ 11 → ⊥) → what ≡ Size
@@ -164,12 +164,12 @@ module _ (s : Bytes) (key at : ℕ) (x : EntryAt s key at) where
   pub entry-size : (key ≡ 2 → ⊥) → (key ≡ 6 → ⊥) → (key ≡ 10 → ⊥) → (key ≡ 11 → ⊥) → SizeAt s (x .n) (x .e) at (x .fits) (x .given) (x .to)
   entry-size a b c d = size-read s (x .n) (x .e) at (x .fits) (x .given) (x .to) (reads-as Size (is-size key (x .what) (x .known) a b c d))
 
-  pub entry-headed : (key ≡ 2 → ⊥) → Headed s at
+  pub entry-headed : (key ≡ 2 → ⊥) → HeadAt s at
   entry-headed n = headed-read s (x .n) (x .e) at (x .fits) (x .given) (x .to) key (x .what) (x .known) n (x .reads)
 
 -- the head at `at` has that number and that next place
 abbrev pub Opens : Bytes → ℕ → ℕ → ℕ → Type 0
-Opens s at value next = (y : Headed s at) → (value ≡ y .head .num) × (next ≡ y .head .next)
+Opens s at value next = (y : HeadAt s at) → (value ≡ y .head .num) × (next ≡ y .head .next)
 
 coerce-is : (t : Bool) → coerceOf (cond t 2 1) ≡ some t
 coerce-is true = refl
@@ -283,7 +283,7 @@ unfolding entries
 entries-none s n k low g e at given to z q = both (rw z at q)
 
 module _ (s : Bytes) (n k : ℕ) (g : Given) (e at : ℕ) (given : Given) (to : ℕ) (f : e ≤ length s) (t : Step s n k g e at given to) where
-  abbrev pub step-headed : Headed s at
+  abbrev pub step-headed : HeadAt s at
   step-headed = number-headed s e at (t .name) (t .next) f (t .named)
 
   abbrev pub step-entry : (key p : ℕ) → key ≡ t .name → p ≡ t .next → EntryAt s key p

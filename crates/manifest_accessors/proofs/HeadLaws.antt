@@ -15,10 +15,10 @@ use Rattle.rules.specs.Check.{number, strings}
 use Rattle.rules.proofs.GotLaws.{passed, both, split}
 use Rattle.rules.proofs.BytesLaws.{num-1, num-2, num-4}
 use Rattle.rules.proofs.CheckLaws.{item-law, bytes-after}
-use Rattle.manifest_accessors.specs.Heads.{Headed}
+use Rattle.manifest_accessors.specs.Heads.{HeadAt}
 
 module _ (s : Bytes) (e at : ℕ) (h : Head) where
-  pub record HeadAt : Type 0 where
+  pub record HeadStands : Type 0 where
     pub first : at < e
     pub stands : known (getD s at 0) ≡ true
     pub fits : at + 1 + more (getD s at 0) ≤ e
@@ -26,7 +26,7 @@ module _ (s : Bytes) (e at : ℕ) (h : Head) where
     pub num : h .num ≡ value s at
     pub next : h .next ≡ at + 1 + more (getD s at 0)
 
-  pub head-at : head s e at ≡ got h → HeadAt
+  pub head-at : head s e at ≡ got h → HeadStands
   unfolding head
   head-at q₀ =
       let (a, q₁) = passed (ltb at e) NotCbor at _ h q₀ in
@@ -92,26 +92,26 @@ item-plain s kind lo hi e at h k q =
     let i = item-law s kind lo hi e at h q in
     first-plain (getD s at 0) (h .kind) (a .stands) (a .kind) (omega (arith, i .is))
 
-abbrev pub item-headed : (s : Bytes) (kind lo hi e at : ℕ) (h : Head) → e ≤ length s → kind ≤ 5 → item kind lo hi s e at ≡ got h → Headed s at
+abbrev pub item-headed : (s : Bytes) (kind lo hi e at : ℕ) (h : Head) → e ≤ length s → kind ≤ 5 → item kind lo hi s e at ≡ got h → HeadAt s at
 item-headed s kind lo hi e at h f k q =
     record { e = e; fits = f; head = h; reads = whole-head s e at h (item-whole s e at h kind lo hi q); plain = item-plain s kind lo hi e at h k q }
 
 pub number-item : (s : Bytes) (e at k to : ℕ) → number s e at ≡ got (k, to) →
-    item NUMBER 0 (limits .number) s e at ≡ got (record { kind = NUMBER; num = k; next = to })
+    item NUMBER 0 (limits .largest) s e at ≡ got (record { kind = NUMBER; num = k; next = to })
 unfolding number
 number-item s e at k to q₀ =
-    split _ (item NUMBER 0 (limits .number) s e at) _ (k, to) q₀ λ h qh q₁.
-    let i = item-law s NUMBER 0 (limits .number) e at h qh in
+    split _ (item NUMBER 0 (limits .largest) s e at) _ (k, to) q₀ λ h qh q₁.
+    let i = item-law s NUMBER 0 (limits .largest) e at h qh in
     let (ek, eq) = both q₁ in
     let same : h ≡ record { kind = NUMBER; num = k; next = to } = rw (← ek, ← eq, ← i .is) in
     qh ∙ (rw same)
 
-abbrev pub number-headed : (s : Bytes) (e at k to : ℕ) → e ≤ length s → number s e at ≡ got (k, to) → Headed s at
-number-headed s e at k to f q = item-headed s NUMBER 0 (limits .number) e at (record { kind = NUMBER; num = k; next = to }) f (omega arith) (number-item s e at k to q)
+abbrev pub number-headed : (s : Bytes) (e at k to : ℕ) → e ≤ length s → number s e at ≡ got (k, to) → HeadAt s at
+number-headed s e at k to f q = item-headed s NUMBER 0 (limits .largest) e at (record { kind = NUMBER; num = k; next = to }) f (omega arith) (number-item s e at k to q)
 
 -- a head by the count of the bytes after its first
-module _ (s : Bytes) (at : ℕ) (x : Headed s at) where
-  pub headed-at : HeadAt s (x .e) at (x .head)
+module _ (s : Bytes) (at : ℕ) (x : HeadAt s at) where
+  pub headed-at : HeadStands s (x .e) at (x .head)
   headed-at = head-at s (x .e) at (x .head) (x .reads)
 
   pub headed-first : at < length s
@@ -151,22 +151,22 @@ module _ (s : Bytes) (at : ℕ) (x : Headed s at) where
 
 -- byte strings, one after the other
 module _ (s : Bytes) (k e at to : ℕ) (f : e ≤ length s) (l : 0 < k) (q : strings s k e at ≡ got to) where
-  pub strings-item : (h : Head) × (item BYTES 0 (limits .number) s e at ≡ got h) × (strings s (k - 1) e (h .next + h .num) ≡ got to)
+  pub strings-item : (h : Head) × (item BYTES 0 (limits .largest) s e at ≡ got h) × (strings s (k - 1) e (h .next + h .num) ≡ got to)
   unfolding strings
   strings-item = go k (omega arith) q
     where
-      go : (j : ℕ) → 0 < j → strings s j e at ≡ got to → (h : Head) × (item BYTES 0 (limits .number) s e at ≡ got h) × (strings s (j - 1) e (h .next + h .num) ≡ got to)
+      go : (j : ℕ) → 0 < j → strings s j e at ≡ got to → (h : Head) × (item BYTES 0 (limits .largest) s e at ≡ got h) × (strings s (j - 1) e (h .next + h .num) ≡ got to)
       go zero l q = absurd (omega arith)
-      go (suc j) l q = split _ (item BYTES 0 (limits .number) s e at) _ to q λ h qh q₁.
+      go (suc j) l q = split _ (item BYTES 0 (limits .largest) s e at) _ to q λ h qh q₁.
           let z : suc j - 1 ≡ j = omega arith in
-          (h, qh, rw (z, ← bytes-after h (item-law s BYTES 0 (limits .number) e at h qh .is)) q₁)
+          (h, qh, rw (z, ← bytes-after h (item-law s BYTES 0 (limits .largest) e at h qh .is)) q₁)
 
-  abbrev pub strings-first : Headed s at
-  strings-first = item-headed s BYTES 0 (limits .number) e at (strings-item .0) f (omega arith) (strings-item .1)
+  abbrev pub strings-first : HeadAt s at
+  strings-first = item-headed s BYTES 0 (limits .largest) e at (strings-item .0) f (omega arith) (strings-item .1)
 
   pub strings-fit : strings-first .head .next + strings-first .head .num ≤ length s
   strings-fit =
-      let i = item-law s BYTES 0 (limits .number) e at (strings-item .0) (strings-item .1) in
+      let i = item-law s BYTES 0 (limits .largest) e at (strings-item .0) (strings-item .1) in
       omega (arith, i .fits, bytes-after (strings-item .0) (i .is))
 
   pub strings-more : strings s (k - 1) e (strings-first .head .next + strings-first .head .num) ≡ got to

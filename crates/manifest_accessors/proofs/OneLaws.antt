@@ -22,8 +22,8 @@ use Rattle.manifest_accessors.specs.declared.arguments.Args.{Args}
 use Rattle.run_slots.specs.declared.params.Params as Words
 use Rattle.run_slots.specs.Params.{meaning, Fit}
 use Rattle.run_commands.specs.Op.{opOf}
-use Rattle.manifest_accessors.specs.Heads.{Headed}
-use Rattle.manifest_accessors.specs.Arguments.{paramsOf, isTrue, coerceOf, givenOf, Within, bareAt, Entries, One, ReadAs}
+use Rattle.manifest_accessors.specs.Heads.{HeadAt}
+use Rattle.manifest_accessors.specs.Arguments.{paramsOf, isTrue, coerceOf, givenOf, Within, bareAt, Entries, ArgumentAt, ArgumentRead}
 use Rattle.rules.proofs.TableLaws.{each-row, _&_}
 use Rattle.manifest_accessors.proofs.ArgumentLaws.{form-of}
 use Rattle.manifest_accessors.proofs.EntryLaws.{Opens, fit-bare, within-bare}
@@ -48,7 +48,7 @@ module _ (s : Bytes) (deeper : ℕ → Read Seq) (n m place e at : ℕ) (op : Op
   Reads form = argument s deeper n m place form e at ≡ got (one place op coerce, to)
 
   pub record SixteenAt (make : Bytes → Op) : Type 0 where
-    pub headed : Headed s at
+    pub headed : HeadAt s at
     pub op-is : op ≡ make (part s (headed .head .next) 16)
     pub coerce-is : coerce ≡ none
     pub to-is : to ≡ headed .head .next + 16
@@ -69,7 +69,7 @@ module _ (s : Bytes) (deeper : ℕ → Read Seq) (n m place e at : ℕ) (op : Op
       }
 
   pub record IndexAt (make : ℕ → Op) : Type 0 where
-    pub headed : Headed s at
+    pub headed : HeadAt s at
     pub op-is : op ≡ make (headed .head .num)
     pub coerce-is : coerce ≡ none
     pub to-is : to ≡ headed .head .next
@@ -84,7 +84,7 @@ module _ (s : Bytes) (deeper : ℕ → Read Seq) (n m place e at : ℕ) (op : Op
       record { headed = number-headed s e at k next f qk; op-is = cc; coerce-is = cc; to-is = sym et; inside = ltb-true _ _ t }
 
   pub record ParamsAt (make : Params → Op) : Type 0 where
-    pub headed : Headed s at
+    pub headed : HeadAt s at
     pub given : Given
     pub reads : entries s n (headed .head .num) 0 nothing e (headed .head .next) ≡ got (given, to)
     pub op-is : op ≡ make (given .params)
@@ -209,7 +209,7 @@ module _ (s : Bytes) (c v : ℕ) (p : Words.Params) where
   op-20 k = rw k
 
 -- the commands by their codes
-module _ (s : Bytes) (c at : ℕ) (x : One s c at) where
+module _ (s : Bytes) (c at : ℕ) (x : ArgumentAt s c at) where
   abbrev AsForm : Form → Type 0
   AsForm form = argument s (x .deeper) (x .n) (x .m) (x .place) form (x .e) at ≡ got (one (x .place) (x .op) (x .coerce), x .to)
 
@@ -225,7 +225,7 @@ module _ (s : Bytes) (c at : ℕ) (x : One s c at) where
       rest s (x .deeper) (x .n) (x .m) (x .place) (x .e) at (x .op) (x .coerce) (x .to) (x .fits) c (x .row) (x .listed) i j k (x .reads)
 
   pub record Sixteen : Type 0 where
-    pub headed : Headed s at
+    pub headed : HeadAt s at
     pub op-is : (p : Words.Params) → opOf s c (headed .head .next) p ≡ x .op
     pub coerce-is : x .coerce ≡ none
     pub to-is : x .to ≡ headed .head .next + 16
@@ -240,7 +240,7 @@ module _ (s : Bytes) (c at : ℕ) (x : One s c at) where
       record { headed = y .headed; op-is = λ p. op-2 s c _ p k ∙ sym (y .op-is); coerce-is = y .coerce-is; to-is = y .to-is; fits = y .fits }
 
   pub record Index : Type 0 where
-    pub headed : Headed s at
+    pub headed : HeadAt s at
     pub op-is : x .op ≡ setIndex (headed .head .num)
     pub coerce-is : x .coerce ≡ none
     pub to-is : x .to ≡ headed .head .next
@@ -252,7 +252,7 @@ module _ (s : Bytes) (c at : ℕ) (x : One s c at) where
       record { headed = y .headed; op-is = y .op-is; coerce-is = y .coerce-is; to-is = y .to-is; inside = y .inside }
 
   pub record Map : Type 0 where
-    pub headed : Headed s at
+    pub headed : HeadAt s at
     pub given : Given
     pub reads : entries s (x .n) (headed .head .num) 0 nothing (x .e) (headed .head .next) ≡ got (given, x .to)
     pub op-is : (v : ℕ) (p : Words.Params) → meaning s p ≡ given .params → opOf s c v p ≡ x .op
@@ -297,7 +297,7 @@ module _ (s : Bytes) (c at : ℕ) (x : One s c at) where
       go false e = omega (arith, one-plain .1 (eqb-false _ _ e) i)
 
   module _ (value next : ℕ) (o : Opens s at value next) where
-    pub read-sixteen : (c ≡ 1) ⊎ (c ≡ 2) → ReadAs s c at x (bareAt next (next + 16))
+    pub read-sixteen : (c ≡ 1) ⊎ (c ≡ 2) → ArgumentRead s c at x (bareAt next (next + 16))
     read-sixteen k =
         let y = one-sixteen k in
         let (ev, en) = o (y .headed) in
@@ -313,7 +313,7 @@ module _ (s : Bytes) (c at : ℕ) (x : One s c at) where
           component = component-at _ new;
         }
 
-    pub read-index : c ≡ 12 → ReadAs s c at x (bareAt value next)
+    pub read-index : c ≡ 12 → ArgumentRead s c at x (bareAt value next)
     read-index k =
         let y = one-index k in
         let (ev, en) = o (y .headed) in
@@ -342,7 +342,7 @@ module _ (s : Bytes) (c at : ℕ) (x : One s c at) where
         }
 
     pub read-map : (k : (c ≡ 19) ⊎ (c ≡ 20)) (a : Args) →
-        (givenOf s a ≡ map-entries k .given) × (a .next ≡ x .to) × Fit s (x .n) (paramsOf a) × Within s (paramsOf a) → ReadAs s c at x a
+        (givenOf s a ≡ map-entries k .given) × (a .next ≡ x .to) × Fit s (x .n) (paramsOf a) × Within s (paramsOf a) → ArgumentRead s c at x a
     read-map k a (g, n, f, w) =
         let y = one-map k in
         let new : New (a .value) = λ j. absurd (⊎-elim (λ i. omega arith) (λ i. omega arith) k) in
@@ -357,7 +357,7 @@ module _ (s : Bytes) (c at : ℕ) (x : One s c at) where
           component = component-at _ new;
         }
 
-  pub read-rest : (1 ≤ c → 3 ≤ c) → (c ≡ 12 → ⊥) → (19 ≤ c → 21 ≤ c) → ReadAs s c at x (bareAt 0 (at + 1))
+  pub read-rest : (1 ≤ c → 3 ≤ c) → (c ≡ 12 → ⊥) → (19 ≤ c → 21 ≤ c) → ArgumentRead s c at x (bareAt 0 (at + 1))
   read-rest i j k =
       let (op-is, coerce-is, to-is, fits) = one-rest i j k in
       let new : New 0 = λ q. absurd (j q) in

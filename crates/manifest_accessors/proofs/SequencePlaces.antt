@@ -28,19 +28,19 @@ pub record CommandsAt (s : Bytes) (n depth events k at : ℕ) : Type 0 where
 -- the head of a sequence
 pub record Start (s : Bytes) (n depth events at : ℕ) (x : SequenceAt s n depth events at) : Type 0 where
   pub head : Head
-  pub item : item ARRAY 0 (limits .pairs + limits .pairs) s (x .e) at ≡ got head
+  pub item : item ARRAY 0 (limits .sequence + limits .sequence) s (x .e) at ≡ got head
   pub deep : 0 < depth
   pub reads : commandsAt s (sequenceAt s n (x .section) (depth - 1)) n (x .section) (head .num / 2) (x .m) (x .e) (head .next) ≡ got (x .seq, x .to)
 
 pub start : (s : Bytes) (n depth events at : ℕ) (x : SequenceAt s n depth events at) → Start s n depth events at x
 unfolding sequenceAt
 start s n zero events at x =
-    split _ (item ARRAY 0 (limits .pairs + limits .pairs) s (x .e) at) _ (x .seq, x .to) (x .reads) λ h qh q₁.
+    split _ (item ARRAY 0 (limits .sequence + limits .sequence) s (x .e) at) _ (x .seq, x .to) (x .reads) λ h qh q₁.
     let (_, q₂) = passed (eqb (h .num % 2) 0) Malformed at _ (x .seq, x .to) q₁ in
     let z : _≡_ {A = ℕ} 0 1 = cc in
     absurd (omega arith)
 start s n (suc depth) events at x =
-    split _ (item ARRAY 0 (limits .pairs + limits .pairs) s (x .e) at) _ (x .seq, x .to) (x .reads) λ h qh q₁.
+    split _ (item ARRAY 0 (limits .sequence + limits .sequence) s (x .e) at) _ (x .seq, x .to) (x .reads) λ h qh q₁.
     let (_, q₂) = passed (eqb (h .num % 2) 0) Malformed at _ (x .seq, x .to) q₁ in
     let d : suc depth - 1 ≡ depth = omega arith in
     record { head = h; item = qh; deep = omega arith; reads = rw d q₂ }

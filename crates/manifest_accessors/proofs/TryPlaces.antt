@@ -69,7 +69,7 @@ pub strings-of : (s : Bytes) (deeper : ℕ → Read Seq) (e : ℕ) (list : List 
 unfolding strings
 strings-of s deeper e [] m at to r = ap got r
 strings-of s deeper e (a ∷ rest) m at to r =
-    let i : Item s BYTES 0 (limits .number) e at (r .0 .head) = item-law s BYTES 0 (limits .number) e at (r .0 .head) (r .0 .item) in
+    let i : Item s BYTES 0 (limits .largest) e at (r .0 .head) = item-law s BYTES 0 (limits .largest) e at (r .0 .head) (r .0 .item) in
     let w : after (r .0 .head) ≡ r .0 .head .next + r .0 .head .num = rw (i .is) in
     rw (r .0 .item, w) (strings-of s deeper e rest (m + count a) (r .0 .head .next + r .0 .head .num) to (r .1))
 

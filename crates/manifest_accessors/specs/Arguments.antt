@@ -70,7 +70,7 @@ pub record Entries (s : Bytes) (k at : ℕ) : Type 0 where
   pub reads : entries s n k 0 nothing e at ≡ got (given, to)
 
 -- the argument at `at` of a command of code c, which check has accepted
-pub record One (s : Bytes) (c at : ℕ) : Type 0 where
+pub record ArgumentAt (s : Bytes) (c at : ℕ) : Type 0 where
   pub deeper : ℕ → Read Seq
   pub n : ℕ
   pub m : ℕ
@@ -85,7 +85,7 @@ pub record One (s : Bytes) (c at : ℕ) : Type 0 where
   pub reads : argument s deeper n m place (row .form) e at ≡ got (one place op coerce, to)
 
 -- it was read
-pub record ReadAs (s : Bytes) (c at : ℕ) (x : One s c at) (a : Args) : Type 0 where
+pub record ArgumentRead (s : Bytes) (c at : ℕ) (x : ArgumentAt s c at) (a : Args) : Type 0 where
   pub op : opOf s c (a .value) (paramsOf a) ≡ x .op
   pub coerce : coerceOf (a .coerce) ≡ x .coerce
   pub next : a .next ≡ x .to

@@ -8,7 +8,7 @@ use Rattle.rules.specs.Cbor.{Head, head}
 use Rattle.rules.specs.Check.{strings}
 
 -- the head of a number, string, array or map
-pub record Headed (s : Bytes) (at : ℕ) : Type 0 where
+pub record HeadAt (s : Bytes) (at : ℕ) : Type 0 where
   pub e : ℕ
   pub fits : e ≤ length s
   pub head : Head

@@ -3,7 +3,7 @@ ghost use mathlib.Core.Path.{_≡_};
 ghost use lib.Dec.{eqb};
 ghost use mathlib.Core.Bool.{cond};
 ghost use Rattle.run_slots.specs.Params.{Fit};
-ghost use Rattle.manifest_accessors.specs.Arguments.{paramsOf, givenOf, Within, bareAt, EntryAt, EntryPut, Entries, One, ReadAs};
+ghost use Rattle.manifest_accessors.specs.Arguments.{paramsOf, givenOf, Within, bareAt, EntryAt, EntryPut, Entries, ArgumentAt, ArgumentRead};
 use crate::heads::open;
 
 // The place of 16 bytes or the new index; the parameters, as in Params; coerce: 0 unset, 1 false, 2 true; and the place after.
@@ -96,8 +96,8 @@ pub fn read_entries(s: &[u8], k: usize, at: usize) -> Args
 
 // The argument at `at` of the command of that code.
 pub fn read_one(s: &[u8], code: usize, at: usize) -> Args
-    requires { ⌜ One (now s) code at ⌝ }
-    ensures { λ r. ⌜ ((x : One (now (s .entry)) code at) → ReadAs (now (s .entry)) code at x r) ⌝ }
+    requires { ⌜ ArgumentAt (now s) code at ⌝ }
+    ensures { λ r. ⌜ ((x : ArgumentAt (now (s .entry)) code at) → ArgumentRead (now (s .entry)) code at x r) ⌝ }
 {
     match code {
         1 | 2 => {

@@ -1,7 +1,7 @@
 // Heads of an envelope that check has accepted: nothing is tested again.
 ghost use mathlib.Core.Path.{_≡_};
 ghost use Prim.Native.Nat.{_+_};
-ghost use Rattle.manifest_accessors.specs.Heads.{Headed, Strings};
+ghost use Rattle.manifest_accessors.specs.Heads.{HeadAt, Strings};
 use byte_buffer::four;
 use byte_buffer::two;
 use byte_buffer::wide;
@@ -13,8 +13,8 @@ pub struct Opened {
 
 // The number of the head at `at`, and the place after it.
 pub fn open(s: &[u8], at: usize) -> Opened
-    requires { ⌜ Headed (now s) at ⌝ }
-    ensures { λ r. ⌜ ((x : Headed (now (s .entry)) at) → (r .value ≡ x .head .num) × (r .next ≡ x .head .next)) ⌝ }
+    requires { ⌜ HeadAt (now s) at ⌝ }
+    ensures { λ r. ⌜ ((x : HeadAt (now (s .entry)) at) → (r .value ≡ x .head .num) × (r .next ≡ x .head .next)) ⌝ }
 {
     let low = wide(s[at]) % 32;
     let next = at + 1;

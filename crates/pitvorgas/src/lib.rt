@@ -14,6 +14,9 @@ use check_envelope::report::Checked;
 use program_run::run_program;
 use rules::answers::Group;
 use rules::controller::Controller;
+use rules::controller::Places;
+use rules::controller::SectionPlaces;
+use rules::controller::Sixteen;
 use run_admission::answer::Answer;
 use run_admission::answer::Outcome;
 use run_envelope::run;
@@ -23,8 +26,8 @@ use translate::translate;
 // The device.
 #[repr(C)]
 pub struct Device {
-    pub vendor: [u8; 16],
-    pub class: [u8; 16],
+    pub vendor: Sixteen,
+    pub class: Sixteen,
     // the sequence number of the manifest that was installed last
     pub number: u32,
     // an event is open
@@ -38,8 +41,8 @@ pub struct CheckAnswer {
     pub place: usize,
     pub number: usize,
     pub components: usize,
-    pub ids: [usize; 16],
-    pub sections: [usize; 12],
+    pub ids: Places,
+    pub sections: SectionPlaces,
     // the manifest's first byte, and the one after its last
     pub from: usize,
     pub to: usize,
@@ -101,7 +104,7 @@ fn answer_of(o: Outcome) -> RunAnswer
     let answer = o.answer;
     match answer {
         Answer::Refused(refusal, place) => RunAnswer {
-            refusal: refusal.number() as usize,
+            refusal: refusal.number(),
             place,
             end: 0,
             events: 0,
@@ -113,7 +116,7 @@ fn answer_of(o: Outcome) -> RunAnswer
             RunAnswer {
                 refusal: 0,
                 place: ending.place,
-                end: end.number() as usize,
+                end: end.number(),
                 events: ending.events,
                 used: ending.used,
                 number: o.number as usize,
@@ -133,7 +136,7 @@ pub extern "C" fn pitvorgas_check(envelope: &[u8]) -> CheckAnswer
     let sections = report.sections;
     match answer {
         Checked::Refused(refusal, place) => CheckAnswer {
-            refusal: refusal.number() as usize,
+            refusal: refusal.number(),
             place,
             number: 0,
             components: 0,
@@ -178,7 +181,7 @@ pub extern "C" fn pitvorgas_translate(
     let answer = translate(envelope, group_of(boot), room);
     match answer {
         Translated::Refused(refusal, place) => TranslateAnswer {
-            refusal: refusal.number() as usize,
+            refusal: refusal.number(),
             place,
             length: 0,
         },

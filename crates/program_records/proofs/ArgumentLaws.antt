@@ -7,21 +7,22 @@ use mathlib.Core.Option.{some}
 use native.Mathlib.Omega.{arith}
 use lib.Dec.{eqb, ltb, leb}
 use lib.ListN.{length}
-use borrow.Author.Tests.{eq-eqb, ne-eqb, le-ltb, lt-ltb, le-leb, lt-leb, eqb-true, eqb-false}
+use borrow.Author.Tests.{eq-eqb, ne-eqb, le-ltb, lt-ltb, le-leb, lt-leb, eqb-true, eqb-false, not-true, not-false}
 use Rattle.rules.specs.declared.answers.Group.{Group}
 use Rattle.rules.specs.declared.answers.Group.the-variants.{Install, Boot}
 use Rattle.rules.specs.declared.tables.Argument.{Argument}
 use Rattle.rules.specs.declared.tables.Argument.the-variants.{Sixteen, Nil, Index, Alternatives, Parameters, Sequence}
 use Rattle.rules.specs.Bytes.{Bytes, part, same}
-use Rattle.rules.specs.Commands.{Op, Params, code, Form, sixteen, nil, below, alternatives, parameters, sequence, Row, rowOf, commands}
+use Rattle.rules.specs.Commands.{Op, Params, isCondition, Form, sixteen, nil, below, alternatives, parameters, sequence, Row, rowOf, commands}
 use Rattle.rules.specs.Tables.{kindOf, setOf}
 use Rattle.rules.specs.Got.{Got, refused, got}
-use Rattle.rules.specs.Program.{NONE, targetOf}
+use Rattle.rules.specs.Program.{targetOf}
+use Rattle.rules.specs.ProgramFormat.{NONE}
 use Rattle.rules.specs.ProgramTest.{paramsIn, opIn, groupAllows}
 use Rattle.rules.proofs.TableLaws.{rows-agree}
 use Rattle.program_records.specs.declared.parameters.Entries.{Entries}
 use Rattle.program_records.specs.Entries.{ParamsAre}
-use Rattle.program_records.specs.Arguments.{accepted}
+use Rattle.program_records.specs.Arguments.{accepted, targetFits}
 use Rattle.program_records.proofs.PartLaws.{length-to}
 
 module _ (c : ℕ) (row : Row) (r : rowOf c commands ≡ some row) (sections : ℕ) (e : setOf (row .allowed) ≡ sections) where
@@ -31,22 +32,29 @@ module _ (c : ℕ) (row : Row) (r : rowOf c commands ≡ some row) (sections : �
   pub boot-allows : (g : Group) → g ≡ Boot → not (eqb (sections / 8) 0) ≡ groupAllows g (row .allowed)
   boot-allows g q = rw (q, ← e) (rows-agree (λ x. not (eqb (setOf (x .allowed) / 8) 0)) (λ x. groupAllows Boot (x .allowed)) c row refl r)
 
-module _ (op : Op) (c target n total : ℕ) (e : code op ≡ c) where
-  abbrev fits : Bool
-  fits = eqb target NONE || eqb (targetOf op target) target && (ltb n target && leb target total)
-
-  pub no-target : target ≡ NONE → true ≡ fits
+module _ (b : Bool) (target n total : ℕ) where
+  pub no-target : target ≡ NONE → true ≡ targetFits b target n total
   no-target h = rw (eq-eqb target NONE h)
 
-  pub not-condition : (target ≡ NONE → ⊥) → 3 < c → false ≡ fits
-  not-condition h l = rw (ne-eqb target NONE h, e, lt-leb c 3 l, ne-eqb NONE target (λ q. h (sym q)))
+  module _ (h : target ≡ NONE → ⊥) where
+    pub not-condition : not b ≡ true → false ≡ targetFits b target n total
+    not-condition l = rw (ne-eqb target NONE h, not-true b l)
 
-  module _ (h : target ≡ NONE → ⊥) (l : c ≤ 3) where
-    pub not-forward : target ≤ n → false ≡ fits
-    not-forward u = rw (ne-eqb target NONE h, e, le-leb c 3 l, eq-eqb target target refl, le-ltb n target u)
+    pub not-forward : not b ≡ false → target ≤ n → false ≡ targetFits b target n total
+    not-forward l u = rw (ne-eqb target NONE h, not-false b l, le-ltb n target u)
 
-    pub forward : n < target → leb target total ≡ fits
-    forward u = rw (ne-eqb target NONE h, e, le-leb c 3 l, eq-eqb target target refl, lt-ltb n target u)
+    pub forward : not b ≡ false → n < target → leb target total ≡ targetFits b target n total
+    forward l u = rw (ne-eqb target NONE h, not-false b l, lt-ltb n target u)
+
+-- the rule's test of a target, by the table's column
+pub targeted : (op : Op) (b : Bool) (target n total : ℕ) → isCondition op ≡ b →
+    targetFits b target n total ≡ (eqb target NONE || eqb (targetOf op target) target && (ltb n target && leb target total))
+targeted op true target n total e = rw (e, eq-eqb target target refl)
+targeted op false target n total e = go (eqb target NONE) refl
+  where
+    go : (x : Bool) → eqb target NONE ≡ x → targetFits false target n total ≡ (eqb target NONE || eqb (targetOf op target) target && (ltb n target && leb target total))
+    go true q = rw (q)
+    go false q = rw (e, q, ne-eqb NONE target (λ z. eqb-false target NONE q (sym z)))
 
 -- the test of an argument of each kind; a record has no alternatives and no sequence
 abbrev tested : ℕ → Bytes → Argument → Bool

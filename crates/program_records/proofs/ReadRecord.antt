@@ -13,7 +13,8 @@ use Rattle.rules.specs.declared.answers.Refusal.the-variants.{BadProgram}
 use Rattle.rules.specs.Bytes.{Bytes, part, num, same}
 use Rattle.rules.specs.Commands.{Op, Row, rowOf, commands}
 use Rattle.rules.specs.Got.{Got, got, found}
-use Rattle.rules.specs.Program.{Rec, does, jump, NONE, targetOf}
+use Rattle.rules.specs.Program.{Rec, does, jump, targetOf}
+use Rattle.rules.specs.ProgramFormat.{NONE}
 use Rattle.rules.specs.ProgramTest.{opIn, groupAllows, recordIn}
 use Rattle.rules.proofs.GotLaws.{and-true, passed, split, both, found-is}
 

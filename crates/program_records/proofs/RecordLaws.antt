@@ -15,16 +15,18 @@ use Rattle.rules.specs.declared.answers.Refusal.the-variants.{BadProgram}
 use Rattle.rules.specs.declared.tables.Command.{Command}
 use Rattle.rules.specs.declared.tables.Listed.the-variants as L
 use Rattle.rules.specs.Bytes.{Bytes, part, num, same}
-use Rattle.rules.specs.Commands.{Op, Params, code, Form, sixteen, nil, below, alternatives, parameters, sequence, Row, rowOf, commands}
+use Rattle.rules.specs.Commands.{Op, Params, code, isCondition, Form, sixteen, nil, below, alternatives, parameters, sequence, Row, rowOf, commands}
 use Rattle.rules.specs.Tables.{kindOf, setOf, asCommand, listed}
 use Rattle.rules.specs.Got.{Got, refused, got, found, _>>=_}
-use Rattle.rules.specs.Program.{does, NONE, targetOf}
+use Rattle.rules.specs.Program.{does, targetOf}
+use Rattle.rules.specs.ProgramFormat.{NONE}
 use Rattle.rules.specs.ProgramTest.{need, paramsIn, opIn, groupAllows, recordIn}
 use Rattle.rules.proofs.BytesLaws.{num-2}
 use Rattle.rules.proofs.GotLaws.{passed, split}
 use Rattle.rules.proofs.TableLaws.{each-row, _&_, listed-some, listed-none}
 use Rattle.program_records.specs.Entries.{nextIn}
-use Rattle.program_records.specs.Arguments.{accepted}
+use Rattle.program_records.specs.Arguments.{accepted, targetFits}
+use Rattle.program_records.proofs.ArgumentLaws.{targeted}
 use Rattle.program_records.specs.Records.{jumpFits, commandAt, recordAt}
 use Rattle.program_records.proofs.PartLaws.{part-drop, rest-at, same-2}
 
@@ -218,9 +220,13 @@ module _ (g : Group) (comps total n : ℕ) (p : Bytes) (at to : ℕ) where
                 go (refused r q) e = rw (← ec, is-row, ← allowed, not-false a ha, lt-ltb _ _ hc, e)
                 go (got op) e = let z : true ≡ false = ap accepted (sym e) ∙ sym fitting ∙ not-true b h in absurd (no z)
 
+            is-condition : (op : Op) → made ≡ got op → isCondition op ≡ x .condition
+            is-condition op e =
+                rw (op-code comps (getD p (at + 3) 0) _ op c row is-row e, is-row) (ap (λ (y : Command). y .condition) is-command)
+
             -- the command is made, and its target decides
             pub decided : not b ≡ false → (y : ℕ) → y ≡ num (part p (at + 6) 2) →
-                (u : Bool) → ((op : Op) → code op ≡ c → u ≡ (eqb y NONE || eqb (targetOf op y) y && (ltb n y && leb y total))) → u ≡ accepted asked
+                (u : Bool) → u ≡ targetFits (x .condition) y n total → u ≡ accepted asked
             unfolding commandAt
             decided h y ey u eu = go made refl
               where
@@ -231,7 +237,7 @@ module _ (g : Group) (comps total n : ℕ) (p : Bytes) (at to : ℕ) where
                 go : (m : Got Op) → made ≡ m → u ≡ accepted asked
                 go (refused r q) e = let z : true ≡ false = sym (not-false b h) ∙ fitting ∙ ap accepted e in absurd (no z)
                 go (got op) e =
-                    rw (← ec, is-row, ← allowed, not-false a ha, lt-ltb _ _ hc, e, ← ey, ← eu op (op-code comps (getD p (at + 3) 0) _ op c row is-row e)) (last op u)
+                    rw (← ec, is-row, ← allowed, not-false a ha, lt-ltb _ _ hc, e, ← ey, ← targeted op (x .condition) y n total (is-condition op e), ← eu) (last op u)
 
 accepted-got : {A : Type 0} (x : Got A) → accepted x ≡ true → (a : A) × (x ≡ got a)
 accepted-got (refused r p) e = absurd (no (sym e))

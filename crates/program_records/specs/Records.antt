@@ -9,7 +9,8 @@ use Rattle.rules.specs.declared.answers.Refusal.the-variants.{BadProgram}
 use Rattle.rules.specs.Bytes.{Bytes, part, num}
 use Rattle.rules.specs.Commands as Rules
 use Rattle.rules.specs.Got.{Got, refused, got, found, _>>=_}
-use Rattle.rules.specs.Program.{Rec, does, jump, NONE, targetOf}
+use Rattle.rules.specs.Program.{Rec, does, jump, targetOf}
+use Rattle.rules.specs.ProgramFormat.{NONE}
 use Rattle.rules.specs.ProgramTest.{need, opIn, groupAllows, nonJumps}
 use Rattle.program_records.specs.declared.records.Records.{Records}
 

@@ -1,23 +1,17 @@
 // What a record of a command may hold.
 ghost use mathlib.Core.Path.{_≡_};
-ghost use mathlib.Core.Bool.{_&&_, _||_};
 ghost use mathlib.Core.Option.{some};
 ghost use Prim.Native.Nat.{ℕ, _-_, _≤_, _<_};
-ghost use lib.Dec.{eqb, ltb, leb};
 ghost use lib.ListN.{length};
 ghost use Rattle.rules.specs.Bytes.{part};
-ghost use Rattle.rules.specs.Commands.{Op, Form, Row, rowOf, commands};
-ghost use Rattle.rules.specs.Commands as Rules;
+ghost use Rattle.rules.specs.Commands.{Form, Row, rowOf, commands};
 ghost use Rattle.rules.specs.Tables.{kindOf, setOf};
-ghost use Rattle.rules.specs.Program.{NONE, targetOf};
 ghost use Rattle.rules.specs.ProgramTest as Rule;
-ghost use Rattle.program_records.specs.Arguments.{accepted};
+ghost use Rattle.program_records.specs.Arguments.{accepted, targetFits};
 use crate::parameters::read_params;
 use rules::answers::Group;
+use rules::program_format::NO_TARGET;
 use rules::tables::Argument;
-
-// No target.
-pub const NONE: usize = 0xffff;
 
 // Whether the bytes from `from` to `to` are an argument of that kind, for n components.
 pub fn argument_fits(p: &[u8], argument: Argument, from: usize, to: usize, n: usize) -> bool
@@ -49,14 +43,14 @@ pub fn allows(sections: u8, group: Group) -> bool
     }
 }
 
-// Whether record n of `total`, with a command of that code, may have the target.
-pub fn target_fits(code: usize, target: usize, n: usize, total: usize) -> bool
-    ensures { λ r. ⌜ ((op : Op) → Rules.code op ≡ code → r ≡ (eqb target NONE || eqb (targetOf op target) target && (ltb n target && leb target total))) ⌝ }
+// Whether record n of `total`, which is a condition or not, may have the target.
+pub fn target_fits(condition: bool, target: usize, n: usize, total: usize) -> bool
+    ensures { λ r. ⌜ r ≡ targetFits condition target n total ⌝ }
 {
-    if target == NONE {
+    if target == NO_TARGET {
         return true;
     }
-    if 3 < code {
+    if !condition {
         return false;
     }
     if target <= n {

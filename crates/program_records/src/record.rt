@@ -13,12 +13,11 @@ use crate::argument::target_fits;
 use byte_buffer::two;
 use byte_buffer::wide;
 use rules::answers::Group;
+use rules::program_format::JUMP;
+use rules::program_format::RECORD_BYTES;
 use rules::tables::Listed;
+use rules_tables::Table;
 use rules_tables::look_up;
-
-pub const RECORD_BYTES: usize = 10;
-
-pub const JUMP: usize = 0xff;
 
 // Whether the jump at `at`, record n of `total` with an argument of `size` bytes, is well formed.
 fn jump_fits(p: &[u8], at: usize, size: usize, total: usize, n: usize) -> bool
@@ -44,7 +43,7 @@ fn jump_fits(p: &[u8], at: usize, size: usize, total: usize, n: usize) -> bool
 // Whether the command at `at`, record n of `total` with an argument up to `next`, is well formed.
 fn command_fits(
     p: &[u8],
-    table: &[u16; 46],
+    table: &Table,
     at: usize,
     next: usize,
     group: Group,
@@ -70,13 +69,13 @@ fn command_fits(
     if !argument_fits(p, argument, at + RECORD_BYTES, next, components) {
         return false;
     }
-    target_fits(code, two(p, at + 6), n, total)
+    target_fits(row.condition, two(p, at + 6), n, total)
 }
 
 // The place after record n of `total` at `at`; 0 if it is not well formed.
 pub fn test_record(
     p: &[u8],
-    table: &[u16; 46],
+    table: &Table,
     at: usize,
     group: Group,
     components: usize,

@@ -5,10 +5,11 @@ ghost use lib.ListN.{length, drop};
 ghost use Rattle.rules.specs.Tables.{byNumber};
 ghost use Rattle.rules.specs.ProgramTest as Rule;
 ghost use Rattle.program_records.specs.Records.{recordsAre};
-use crate::record::JUMP;
 use crate::record::test_record;
 use byte_buffer::wide;
 use rules::answers::Group;
+use rules::program_format::JUMP;
+use rules_tables::Table;
 
 // The place after the records, 0 if one is not well formed; and how many of them are commands and not jumps.
 pub struct Records {
@@ -19,7 +20,7 @@ pub struct Records {
 // `total` records from `at` on.
 pub fn test_records(
     p: &[u8],
-    table: &[u16; 46],
+    table: &Table,
     at: usize,
     group: Group,
     components: usize,

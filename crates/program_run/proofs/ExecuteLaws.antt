@@ -13,19 +13,19 @@ use Rattle.rules.specs.ProgramTest.{nonJumps}
 use Rattle.rules.specs.Step.{State, Out, out, step}
 use Rattle.run_slots.specs.declared.params.Params.{Params}
 use Rattle.run_slots.specs.Params.{FitAll}
-use Rattle.run_commands.specs.declared.Done.{Done}
+use Rattle.run_commands.specs.declared.Progress.{Progress}
 use Rattle.run_commands.specs.Machine.{stateAt, outAt}
 use Rattle.run_commands.specs.Op.{opOf, IsCode}
 use Rattle.run_commands.proofs.LentLaws.{moves-step, lent-after}
-use Rattle.program_run.specs.declared.step.Walk.{Walk}
+use Rattle.program_run.specs.declared.step.ProgramState.{ProgramState}
 use Rattle.program_run.specs.Step.{ArgumentAt, valueOf, GivenAs, afterwards, OnwardJob, Onward, stateOf, ExecJob, Executed}
 use Rattle.program_run.proofs.FirstRecord.{numberAt, First, first-of}
 use Rattle.program_records.proofs.ReadRecord.{Commands}
 use Rattle.program_run.proofs.GivenLaws.{argument-code, argument-sixteen}
 use Rattle.program_run.proofs.OnwardLaws.{exec-does}
 
-module _ (p : Bytes) (components : ℕ) (walk : Walk) (vendor class : Bytes) (found : List ℕ) (answers slots : Bytes) (words : List ℕ) (trace : Bytes)
-    (j : ExecJob p components walk vendor class found answers slots words trace) where
+module _ (p : Bytes) (components : ℕ) (walk : ProgramState) (vendor class : Bytes) (assigned : List ℕ) (answers slots : Bytes) (params : List ℕ) (trace : Bytes)
+    (j : ExecJob p components walk vendor class assigned answers slots params trace) where
   abbrev at : ℕ
   at = walk .at
 
@@ -42,7 +42,7 @@ module _ (p : Bytes) (components : ℕ) (walk : Walk) (vendor class : Bytes) (fo
   pub execute-number : walk .n < 1024
   execute-number = omega (arith, j .before, j .ready .size)
 
-  pub execute-fit : FitAll p 8 words
+  pub execute-fit : FitAll p 8 params
   execute-fit k h = record { source = omega (arith, j .ready .lent .fit k h .source, j .ready .lent .host .few); digest = j .ready .lent .fit k h .digest }
 
   records-are : j .ready .place .records ≡ does (command .op) (getD p (at + 3) 0) (numberAt p (at + 4)) (numberAt p (at + 6)) ∷ here .others .records
@@ -93,38 +93,38 @@ module _ (p : Bytes) (components : ℕ) (walk : Walk) (vendor class : Bytes) (fo
       pub execute-code : IsCode p code v w
       execute-code = rw (ev, g .op) (argument-code p components code (at + 10) (at + 10 + size) argument-here)
 
-      module _ (place : ℕ) (ep : place ≡ numberAt p (at + 4)) (target : ℕ) (et : target ≡ numberAt p (at + 6)) (d : Done) (slots′ : Bytes) (words′ : List ℕ) (trace′ : Bytes)
+      module _ (place : ℕ) (ep : place ≡ numberAt p (at + 4)) (target : ℕ) (et : target ≡ numberAt p (at + 6)) (d : Progress) (slots′ : Bytes) (words′ : List ℕ) (trace′ : Bytes)
           (counted : d .events ≡ walk .events + 1)
           (goes : outAt p (length (j .env .ids)) words′ slots′ trace′ d
-          ≡ step (j .env) (opOf p code v w) i place (stateAt p (length (j .env .ids)) words slots trace (walk .events) (walk .used)))
+          ≡ step (j .env) (opOf p code v w) i place (stateAt p (length (j .env .ids)) params slots trace (walk .events) (walk .used)))
           (fit : FitAll p (length (j .env .ids)) words′)
-          (r : Walk) (o : Onward p (j .group) components (j .total) (walk .n + 1) (at + 10 + size) (onward-here target et .place) target d r) where
+          (r : ProgramState) (o : Onward p (j .group) components (j .total) (walk .n + 1) (at + 10 + size) (onward-here target et .place) target d r) where
         abbrev st : State
-        st = stateOf p components words slots trace walk
+        st = stateOf p components params slots trace walk
 
         abbrev st′ : State
         st′ = stateOf p components words′ slots′ trace′ r
 
-        stepped : step (j .env) (command .op) (getD p (at + 3) 0) (numberAt p (at + 4)) st ≡ out (endOf (d .stop)) st′
+        stepped : step (j .env) (command .op) (getD p (at + 3) 0) (numberAt p (at + 4)) st ≡ out (endOf (d .end)) st′
         stepped = rw (o .events, o .used) (sym (rw (j .ready .among, ev, g .op, ei, ep) at goes))
 
-        base : exec (j .env) (j .ready .place .records) (walk .n) 0 st ≡ afterwards (j .env) (here .others .records) (walk .n + 1) target (out (endOf (d .stop)) st′)
+        base : exec (j .env) (j .ready .place .records) (walk .n) 0 st ≡ afterwards (j .env) (here .others .records) (walk .n + 1) target (out (endOf (d .end)) st′)
         base =
             ap (λ (rs : List Rec). exec (j .env) rs (walk .n) 0 st) records-are
             ∙ exec-does (j .env) (here .others .records) (command .op) (getD p (at + 3) 0) (numberAt p (at + 4)) (numberAt p (at + 6)) (walk .n) st
             ∙ ap (λ (x : Out). afterwards (j .env) (here .others .records) (walk .n + 1) (numberAt p (at + 6)) x) stepped
-            ∙ ap (λ (t : ℕ). afterwards (j .env) (here .others .records) (walk .n + 1) t (out (endOf (d .stop)) st′)) (sym et)
+            ∙ ap (λ (t : ℕ). afterwards (j .env) (here .others .records) (walk .n + 1) t (out (endOf (d .end)) st′)) (sym et)
 
-        pub executed : Executed p components walk vendor class found answers slots words trace j r slots′ words′ trace′
+        pub executed : Executed p components walk vendor class assigned answers slots params trace j r slots′ words′ trace′
         executed =
-            let st₀ : State = stateAt p (length (j .env .ids)) words slots trace (walk .events) (walk .used) in
+            let st₀ : State = stateAt p (length (j .env .ids)) params slots trace (walk .events) (walk .used) in
             record {
               moved =
                   record {
                     ready =
                         record {
                           lent =
-                              lent-after (j .env) p vendor class found answers slots words trace (j .ready .lent) st₀ _ 1 refl refl (moves-step (j .env) (opOf p code v w) i place st₀)
+                              lent-after (j .env) p vendor class assigned answers slots params trace (j .ready .lent) st₀ _ 1 refl refl (moves-step (j .env) (opOf p code v w) i place st₀)
                               slots′ words′ trace′ (ap (λ (x : Out). x .state .slots) goes) (ap (λ (x : Out). x .state .trace) goes) fit;
                           among = j .ready .among;
                           place = o .place;

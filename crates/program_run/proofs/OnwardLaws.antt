@@ -12,12 +12,13 @@ use Rattle.rules.specs.declared.answers.End.the-variants.{ConditionFailed, Star
 use Rattle.rules.specs.Answers.{endOf, failureOf}
 use Rattle.rules.specs.Bytes.{Bytes}
 use Rattle.rules.specs.Commands.{Op}
-use Rattle.rules.specs.Program.{Rec, does, NONE}
+use Rattle.rules.specs.Program.{Rec, does}
+use Rattle.rules.specs.ProgramFormat.{NONE}
 use Rattle.rules.specs.ProgramRun.{exec}
 use Rattle.rules.specs.ProgramTest.{nonJumps}
 use Rattle.rules.specs.Run.{on}
 use Rattle.rules.specs.Step.{Env, State, out, step}
-use Rattle.run_commands.specs.declared.Done.{Done}
+use Rattle.run_commands.specs.declared.Progress.{Progress}
 use Rattle.program_run.specs.Walk.{AdvanceJob, Advanced}
 use Rattle.program_run.specs.Step.{failing, afterwards, OnwardJob, Onward}
 use Rattle.program_run.proofs.WalkLaws.{exec-past, fewer}
@@ -67,10 +68,10 @@ module _ (p : Bytes) (at n target : ℕ) (j : OnwardJob p at n target) where
   target-job k =
       record { group = j .group; components = j .components; total = j .total; place = j .place; forward = j .aims k .0; within = j .aims k .1 }
 
-  module _ (done : Done) where
-    pub onward-target : done .stop ≡ 1 → (k : target ≡ NONE → ⊥) (r : ℕ) → Advanced p (j .group) (j .components) (j .total) n at (j .place) target r →
+  module _ (done : Progress) where
+    pub onward-target : done .end ≡ 1 → (k : target ≡ NONE → ⊥) (r : ℕ) → Advanced p (j .group) (j .components) (j .total) n at (j .place) target r →
         Onward p (j .group) (j .components) (j .total) n at (j .place) target done
-        (record { at = r; n = target; events = done .events; used = done .used; stop = 0 })
+        (record { at = r; n = target; events = done .events; used = done .used; end = 0 })
     onward-target z k r a =
         let m : nonJumps (a .place .records) ≡ nonJumps (drop (target - n) (j .place .records)) = ap nonJumps (a .records) in
         record {
@@ -80,13 +81,13 @@ module _ (p : Bytes) (at n target : ℕ) (j : OnwardJob p at n target) where
           events = refl;
           used = refl;
           goes = λ _ env st.
-              after-failed env (j .place .records) n target (done .stop) st z k (j .aims k .0) ∙ ap (λ (rs : List Rec). exec env rs target 0 st) (sym (a .records));
+              after-failed env (j .place .records) n target (done .end) st z k (j .aims k .0) ∙ ap (λ (rs : List Rec). exec env rs target 0 st) (sym (a .records));
           stops = λ l. absurd (omega arith);
         }
 
-    pub onward-next : (done .stop ≡ 1 → target ≡ NONE) →
+    pub onward-next : (done .end ≡ 1 → target ≡ NONE) →
         Onward p (j .group) (j .components) (j .total) n at (j .place) target done
-        (record { at = at; n = n; events = done .events; used = done .used; stop = done .stop })
+        (record { at = at; n = n; events = done .events; used = done .used; end = done .end })
     onward-next h =
         record {
           place = j .place;
@@ -94,11 +95,11 @@ module _ (p : Bytes) (at n target : ℕ) (j : OnwardJob p at n target) where
           few = omega arith;
           events = refl;
           used = refl;
-          goes = λ z env st. after-good env (j .place .records) n target (done .stop) st z;
-          stops = λ l env st. go env st (eqb (done .stop) 1) refl (omega arith);
+          goes = λ z env st. after-good env (j .place .records) n target (done .end) st z;
+          stops = λ l env st. go env st (eqb (done .end) 1) refl (omega arith);
         }
       where
-        go : (env : Env) (st : State) (b : Bool) → eqb (done .stop) 1 ≡ b → 0 < done .stop →
-            afterwards env (j .place .records) n target (out (endOf (done .stop)) st) ≡ out (endOf (done .stop)) st
-        go env st true e l = let z = eqb-true (done .stop) 1 e in after-uncaught env (j .place .records) n target (done .stop) st z (h z)
-        go env st false e l = after-end env (j .place .records) n target (done .stop) st (λ z. omega arith) (eqb-false (done .stop) 1 e)
+        go : (env : Env) (st : State) (b : Bool) → eqb (done .end) 1 ≡ b → 0 < done .end →
+            afterwards env (j .place .records) n target (out (endOf (done .end)) st) ≡ out (endOf (done .end)) st
+        go env st true e l = let z = eqb-true (done .end) 1 e in after-uncaught env (j .place .records) n target (done .end) st z (h z)
+        go env st false e l = after-end env (j .place .records) n target (done .end) st (λ z. omega arith) (eqb-false (done .end) 1 e)

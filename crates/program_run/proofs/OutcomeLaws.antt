@@ -19,10 +19,10 @@ use Rattle.run_slots.specs.Slot.{namesAt, Found}
 use Rattle.run_commands.specs.Machine.{stateAt}
 use Rattle.run_admission.specs.declared.answer.Answer.the-variants as The
 use Rattle.run_admission.specs.declared.answer.Ending.{Ending}
-use Rattle.run_admission.specs.Answer.{stopOf, endingOf, Settles}
+use Rattle.run_admission.specs.Answer.{refusalIn, endingOf, Settles}
 use Rattle.run_admission.proofs.FrameLaws.{trace-room, lent-start, state-start, settles-refused}
 use Rattle.run_admission.proofs.FrameLaws as Frame
-use Rattle.program_run.specs.declared.step.Walk.{Walk}
+use Rattle.program_run.specs.declared.step.ProgramState.{ProgramState}
 use Rattle.program_test.specs.declared.test.Tested.{Tested}
 use Rattle.program_test.specs.Test.{TestedAs}
 use Rattle.program_run.specs.Known.{Known}
@@ -39,14 +39,14 @@ module _ (p : Bytes) (t : Tested) (ids : List ℕ) (a : Known p t ids) where
   pub inside : (k : ℕ) → k < t .components → (spanAt ids k .from ≤ spanAt ids k .to) × (spanAt ids k .to ≤ length p)
   inside = a .stands .places
 
-  pub number-small : t .number ≤ limits .number
+  pub number-small : t .number ≤ limits .largest
   number-small = a .stands .small
 
   counted : length (a .program .ids) ≡ t .components
   counted = ap length (sym (a .stands .names)) ∙ names-count p ids (t .components)
 
-  module _ (x : Input) (refusal : ℕ) (e : refusal ≡ stopOf (admit (t .group) (t .number) (namesAt p ids (t .components)) x)) where
-    stops : refusal ≡ stopOf (admit (a .program .group) (a .program .number) (a .program .ids) x)
+  module _ (x : Input) (refusal : ℕ) (e : refusal ≡ refusalIn (admit (t .group) (t .number) (namesAt p ids (t .components)) x)) where
+    stops : refusal ≡ refusalIn (admit (a .program .group) (a .program .number) (a .program .ids) x)
     stops = rw (← a .stands .group, ← a .stands .number, ← a .stands .names) e
 
     is-run : runProgram p x ≡ runOf (a .program .group) (a .program .number) (a .program .ids) (λ env st. exec env (a .program .records) 0 0 st) x
@@ -57,15 +57,15 @@ module _ (p : Bytes) (t : Tested) (ids : List ℕ) (a : Known p t ids) where
         Settles (x .device) (runProgram p x) (record { answer = The.Refused r 0; number = x .device .number }) (x .slots) (x .slots) (x .trace) (x .trace)
     refused-answer = Frame.refused-answer (a .program .group) (a .program .number) (a .program .ids) x _ (runProgram p x) is-run refusal stops
 
-    module _ (z : refusal ≡ 0) (found : List ℕ) (f : Found (namesAt p ids (t .components)) (x .slots) (replicate 8 0) found) where
-      unfoldable whole : StepJob p (t .components) (t .records) (startAt (t .from)) (x .device .vendor) (x .device .class) found (x .answers) (x .slots) (replicate 40 0) (x .trace)
+    module _ (z : refusal ≡ 0) (assigned : List ℕ) (f : Found (namesAt p ids (t .components)) (x .slots) (replicate 8 0) assigned) where
+      unfoldable whole : StepJob p (t .components) (t .records) (startAt (t .from)) (x .device .vendor) (x .device .class) assigned (x .answers) (x .slots) (replicate 40 0) (x .trace)
       whole =
           record {
             env = envOf (a .program .ids) x;
             group = a .program .group;
             ready =
                 record {
-                  lent = lent-start (a .program .group) (a .program .number) (a .program .ids) x refusal stops z (omega (arith, few, counted)) found (rw (a .stands .names) at f) p;
+                  lent = lent-start (a .program .group) (a .program .number) (a .program .ids) x refusal stops z (omega (arith, few, counted)) assigned (rw (a .stands .names) at f) p;
                   among = counted;
                   place =
                       record {
@@ -80,32 +80,32 @@ module _ (p : Bytes) (t : Tested) (ids : List ℕ) (a : Known p t ids) where
             going = refl;
           }
 
-      pub job : StepJob p (t .components) (t .records) (startAt (t .from)) (x .device .vendor) (x .device .class) found (x .answers) (x .slots) (replicate 40 0) (x .trace)
+      pub job : StepJob p (t .components) (t .records) (startAt (t .from)) (x .device .vendor) (x .device .class) assigned (x .answers) (x .slots) (replicate 40 0) (x .trace)
       job = whole
 
-      module _ (r : Walk) (slots′ : Bytes) (words′ : List ℕ) (trace′ : Bytes)
-          (d : (j : StepJob p (t .components) (t .records) (startAt (t .from)) (x .device .vendor) (x .device .class) found (x .answers) (x .slots) (replicate 40 0) (x .trace)) →
-          Ran p (t .components) (t .records) (t .from) (x .device .vendor) (x .device .class) found (x .answers) (x .slots) (replicate 40 0) (x .trace) j r slots′ words′ trace′) where
-        ran : Ran p (t .components) (t .records) (t .from) (x .device .vendor) (x .device .class) found (x .answers) (x .slots) (replicate 40 0) (x .trace) whole r slots′ words′ trace′
+      module _ (r : ProgramState) (slots′ : Bytes) (words′ : List ℕ) (trace′ : Bytes)
+          (d : (j : StepJob p (t .components) (t .records) (startAt (t .from)) (x .device .vendor) (x .device .class) assigned (x .answers) (x .slots) (replicate 40 0) (x .trace)) →
+          Ran p (t .components) (t .records) (t .from) (x .device .vendor) (x .device .class) assigned (x .answers) (x .slots) (replicate 40 0) (x .trace) j r slots′ words′ trace′) where
+        ran : Ran p (t .components) (t .records) (t .from) (x .device .vendor) (x .device .class) assigned (x .answers) (x .slots) (replicate 40 0) (x .trace) whole r slots′ words′ trace′
         ran = d whole
 
-        done : out (endOf (r .stop)) (stateOf p (t .components) words′ slots′ trace′ r) ≡ exec (envOf (a .program .ids) x) (a .program .records) 0 0 (startState (a .program .ids) x)
+        done : out (endOf (r .end)) (stateOf p (t .components) words′ slots′ trace′ r) ≡ exec (envOf (a .program .ids) x) (a .program .records) 0 0 (startState (a .program .ids) x)
         unfolding whole
         done =
             ran .goes
             ∙ ap (λ (n : ℕ). exec (envOf (a .program .ids) x) (a .program .records) 0 0 (stateAt p n (replicate 40 0) (x .slots) (x .trace) 0 0)) (sym counted)
             ∙ ap (exec (envOf (a .program .ids) x) (a .program .records) 0 0) (state-start p (a .program .ids) x)
 
-        pub last-event : (0 < r .stop → 0 < r .events) × (8 * r .events ≤ length trace′)
+        pub last-event : (0 < r .end → 0 < r .events) × (8 * r .events ≤ length trace′)
         unfolding report
         last-event =
-            let f = program-effects p (a .program) x _ (a .tests) (Frame.run-as (a .program .group) (a .program .number) (a .program .ids) x _ (runProgram p x) is-run refusal stops z (r .stop) (r .events) (r .used) _ slots′ trace′ done) in
+            let f = program-effects p (a .program) x _ (a .tests) (Frame.run-as (a .program .group) (a .program .number) (a .program .ids) x _ (runProgram p x) is-run refusal stops z (r .end) (r .events) (r .used) _ slots′ trace′ done) in
             (ran .late, omega (arith, f .fits, f .trace-length, trace-room (a .program .group) (a .program .number) (a .program .ids) x refusal stops z))
 
-        pub answered : (ending : Ending) (after : ℕ) → ending ≡ endingOf (r .stop) (r .events) (r .used) trace′ → after ≡ numberAfter (t .group) (endOf (r .stop)) (t .number) (x .device .number) →
+        pub answered : (ending : Ending) (after : ℕ) → ending ≡ endingOf (r .end) (r .events) (r .used) trace′ → after ≡ numberAfter (t .group) (endOf (r .end)) (t .number) (x .device .number) →
             Settles (x .device) (runProgram p x) (record { answer = The.Ran ending; number = after }) (x .slots) slots′ (x .trace) trace′
         answered ending after q w =
-            Frame.answered (a .program .group) (a .program .number) (a .program .ids) x _ (runProgram p x) is-run refusal stops z (r .stop) (r .events) (r .used) _ slots′ trace′ done ending after q
+            Frame.answered (a .program .group) (a .program .number) (a .program .ids) x _ (runProgram p x) is-run refusal stops z (r .end) (r .events) (r .used) _ slots′ trace′ done ending after q
             (rw (← a .stands .group, ← a .stands .number) w)
 
 -- what the test answered

@@ -9,48 +9,48 @@ use Rattle.rules.specs.Program.{Rec}
 use Rattle.rules.specs.ProgramRun.{exec}
 use Rattle.rules.specs.Step.{Env, Out}
 use Rattle.run_commands.specs.Machine.{stateAt}
-use Rattle.program_run.specs.declared.step.Walk.{Walk}
+use Rattle.program_run.specs.declared.step.ProgramState.{ProgramState}
 use Rattle.program_run.specs.Step.{stateOf, Ready, rest, StepJob, Stepped, startAt, Ran}
 use Rattle.program_run.proofs.FirstRecord.{none-left}
 
-pub record Loop (p : Bytes) (components total : ℕ) (vendor class : Bytes) (found : List ℕ) (answers : Bytes) (env : Env) (group : Group) (whole : Out) (slots : Bytes) (words : List ℕ) (trace : Bytes) (walk : Walk) : Type 0 where
-  pub ready : Ready env group p components total walk vendor class found answers slots words trace
-  pub goes : whole ≡ rest env group p components total walk (ready .place) slots words trace
-  pub calm : walk .stop ≡ 0
+pub record Loop (p : Bytes) (components total : ℕ) (vendor class : Bytes) (assigned : List ℕ) (answers : Bytes) (env : Env) (group : Group) (whole : Out) (slots : Bytes) (params : List ℕ) (trace : Bytes) (walk : ProgramState) : Type 0 where
+  pub ready : Ready env group p components total walk vendor class assigned answers slots params trace
+  pub goes : whole ≡ rest env group p components total walk (ready .place) slots params trace
+  pub calm : walk .end ≡ 0
 
-module _ (p : Bytes) (components total from : ℕ) (vendor class : Bytes) (found : List ℕ) (answers slots₀ : Bytes) (words₀ : List ℕ) (trace₀ : Bytes)
-    (j : StepJob p components total (startAt from) vendor class found answers slots₀ words₀ trace₀) where
+module _ (p : Bytes) (components total from : ℕ) (vendor class : Bytes) (assigned : List ℕ) (answers slots₀ : Bytes) (words₀ : List ℕ) (trace₀ : Bytes)
+    (j : StepJob p components total (startAt from) vendor class assigned answers slots₀ words₀ trace₀) where
   abbrev pub whole : Out
   whole = exec (j .env) (j .ready .place .records) 0 0 (stateAt p components words₀ slots₀ trace₀ 0 0)
 
-  abbrev pub LoopAt : Bytes → List ℕ → Bytes → Walk → Type 0
-  LoopAt slots words trace walk = Loop p components total vendor class found answers (j .env) (j .group) whole slots words trace walk
+  abbrev pub LoopAt : Bytes → List ℕ → Bytes → ProgramState → Type 0
+  LoopAt slots params trace walk = Loop p components total vendor class assigned answers (j .env) (j .group) whole slots params trace walk
 
   pub loop-starts : LoopAt slots₀ words₀ trace₀ (startAt from)
   loop-starts = record { ready = j .ready; goes = refl; calm = refl }
 
-  module _ (slots : Bytes) (words : List ℕ) (trace : Bytes) (walk : Walk) (l : LoopAt slots words trace walk) where
-    abbrev pub loop-job : StepJob p components total walk vendor class found answers slots words trace
+  module _ (slots : Bytes) (params : List ℕ) (trace : Bytes) (walk : ProgramState) (l : LoopAt slots params trace walk) where
+    abbrev pub loop-job : StepJob p components total walk vendor class assigned answers slots params trace
     loop-job = record { env = j .env; group = j .group; ready = l .ready; going = l .calm }
 
-    pub loop-done : total ≤ walk .n → Ran p components total from vendor class found answers slots₀ words₀ trace₀ j walk slots words trace
+    pub loop-done : total ≤ walk .n → Ran p components total from vendor class assigned answers slots₀ words₀ trace₀ j walk slots params trace
     unfolding exec
     loop-done h =
         let e : l .ready .place .records ≡ [] = none-left p (j .group) components total (walk .n) (walk .at) (l .ready .place) (omega (arith, l .ready .place .below)) in
         record {
-          goes = rw (l .calm) (sym (l .goes ∙ ap (λ (rs : List Rec). exec (j .env) rs (walk .n) 0 (stateOf p components words slots trace walk)) e));
+          goes = rw (l .calm) (sym (l .goes ∙ ap (λ (rs : List Rec). exec (j .env) rs (walk .n) 0 (stateOf p components params slots trace walk)) e));
           late = λ z. absurd (omega (arith, l .calm));
           few = omega (arith, l .ready .few);
         }
 
-    module _ (h : walk .n < total) (r : Walk) (slots′ : Bytes) (words′ : List ℕ) (trace′ : Bytes)
-        (s : Stepped p components total walk vendor class found answers slots words trace loop-job r slots′ words′ trace′) where
-      pub loop-stops : (r .stop ≡ 0 → ⊥) → Ran p components total from vendor class found answers slots₀ words₀ trace₀ j r slots′ words′ trace′
+    module _ (h : walk .n < total) (r : ProgramState) (slots′ : Bytes) (words′ : List ℕ) (trace′ : Bytes)
+        (s : Stepped p components total walk vendor class assigned answers slots params trace loop-job r slots′ words′ trace′) where
+      pub loop-stops : (r .end ≡ 0 → ⊥) → Ran p components total from vendor class assigned answers slots₀ words₀ trace₀ j r slots′ words′ trace′
       loop-stops z =
-          let w : 0 < r .stop = omega (arith, z) in
+          let w : 0 < r .end = omega (arith, z) in
           record { goes = sym (l .goes ∙ s .moved .stops w); late = λ _. omega (arith, s .late w); few = omega (arith, s .moved .ready .few) }
 
-      pub loop-goes-on : r .stop ≡ 0 → LoopAt slots′ words′ trace′ r
+      pub loop-goes-on : r .end ≡ 0 → LoopAt slots′ words′ trace′ r
       loop-goes-on z = record { ready = s .moved .ready; goes = l .goes ∙ s .moved .goes z; calm = z }
 
       pub loop-further : (walk .n < r .n) × (r .n ≤ total)

@@ -4,21 +4,21 @@ use mathlib.Core.Path.{_≡_, _∙_}
 use mathlib.Core.List.{List}
 use native.Mathlib.Omega.{arith}
 use Rattle.rules.specs.Bytes.{Bytes}
-use Rattle.program_run.specs.declared.step.Walk.{Walk}
-use Rattle.program_run.specs.declared.walk.Stand.{Stand}
+use Rattle.program_run.specs.declared.step.ProgramState.{ProgramState}
+use Rattle.program_run.specs.declared.walk.RecordPlace.{RecordPlace}
 use Rattle.program_run.specs.Walk.{LandJob, Landed}
 use Rattle.program_run.specs.Step.{Ready, ExecJob, Executed, StepJob, Stepped}
 
-module _ (p : Bytes) (components total : ℕ) (walk : Walk) (vendor class : Bytes) (found : List ℕ) (answers slots : Bytes) (words : List ℕ) (trace : Bytes)
-    (j : StepJob p components total walk vendor class found answers slots words trace) where
+module _ (p : Bytes) (components total : ℕ) (walk : ProgramState) (vendor class : Bytes) (assigned : List ℕ) (answers slots : Bytes) (params : List ℕ) (trace : Bytes)
+    (j : StepJob p components total walk vendor class assigned answers slots params trace) where
   abbrev pub land-job : LandJob p (walk .at) (walk .n) total
   land-job = record { group = j .group; components = components; place = j .ready .place }
 
-  module _ (s : Stand) (l : Landed p (j .group) components total (walk .n) (walk .at) (j .ready .place) s) where
-    abbrev pub landed-at : Walk
-    landed-at = record { at = s .at; n = s .n; events = walk .events; used = walk .used; stop = 0 }
+  module _ (s : RecordPlace) (l : Landed p (j .group) components total (walk .n) (walk .at) (j .ready .place) s) where
+    abbrev pub landed-at : ProgramState
+    landed-at = record { at = s .at; n = s .n; events = walk .events; used = walk .used; end = 0 }
 
-    abbrev pub landed-ready : Ready (j .env) (j .group) p components total landed-at vendor class found answers slots words trace
+    abbrev pub landed-ready : Ready (j .env) (j .group) p components total landed-at vendor class assigned answers slots params trace
     landed-ready =
         record {
           lent = j .ready .lent;
@@ -28,7 +28,7 @@ module _ (p : Bytes) (components total : ℕ) (walk : Walk) (vendor class : Byte
           few = omega (arith, j .ready .few, l .reached .few);
         }
 
-    pub step-over : s .n ≡ total → Stepped p components total walk vendor class found answers slots words trace j landed-at slots words trace
+    pub step-over : s .n ≡ total → Stepped p components total walk vendor class assigned answers slots params trace j landed-at slots params trace
     step-over e =
         record {
           moved = record { ready = landed-ready; goes = λ z. l .reached .goes (j .env) _; stops = λ h. absurd (omega arith) };
@@ -39,14 +39,14 @@ module _ (p : Bytes) (components total : ℕ) (walk : Walk) (vendor class : Byte
         }
 
     module _ (e : s .n ≡ total → ⊥) where
-      abbrev pub execute-job : ExecJob p components landed-at vendor class found answers slots words trace
+      abbrev pub execute-job : ExecJob p components landed-at vendor class assigned answers slots params trace
       execute-job =
           let h : s .n < total = omega (arith, e, l .reached .place .below) in
           record { env = j .env; group = j .group; total = total; ready = landed-ready; before = h; stands = l .stands h }
 
-      pub step-done : (r : Walk) (slots′ : Bytes) (words′ : List ℕ) (trace′ : Bytes) →
-          Executed p components landed-at vendor class found answers slots words trace execute-job r slots′ words′ trace′ →
-          Stepped p components total walk vendor class found answers slots words trace j r slots′ words′ trace′
+      pub step-done : (r : ProgramState) (slots′ : Bytes) (words′ : List ℕ) (trace′ : Bytes) →
+          Executed p components landed-at vendor class assigned answers slots params trace execute-job r slots′ words′ trace′ →
+          Stepped p components total walk vendor class assigned answers slots params trace j r slots′ words′ trace′
       step-done r slots′ words′ trace′ x =
           record {
             moved =

@@ -13,17 +13,18 @@ use Rattle.rules.specs.Bytes.{Bytes, part}
 use Rattle.rules.specs.Commands.{Op, Row, rowOf, commands}
 use Rattle.rules.specs.Got.{got}
 use Rattle.rules.specs.Limits.{limits}
-use Rattle.rules.specs.Program.{Rec, NONE}
+use Rattle.rules.specs.Program.{Rec}
+use Rattle.rules.specs.ProgramFormat.{NONE}
 use Rattle.rules.specs.ProgramRun.{exec}
 use Rattle.rules.specs.ProgramTest.{opIn, nonJumps}
 use Rattle.rules.specs.Run.{next}
 use Rattle.rules.specs.Step.{Env, State, Out, out}
 use Rattle.run_slots.specs.declared.params.Params.{Params}
 use Rattle.run_slots.specs.Params.{Fit}
-use Rattle.run_commands.specs.declared.Done.{Done}
+use Rattle.run_commands.specs.declared.Progress.{Progress}
 use Rattle.run_commands.specs.Machine.{stateAt, Lent}
 use Rattle.run_commands.specs.Op.{opOf}
-use Rattle.program_run.specs.declared.step.Walk.{Walk}
+use Rattle.program_run.specs.declared.step.ProgramState.{ProgramState}
 use Rattle.program_run.specs.Walk.{RecordsAt}
 
 -- the argument of a command, as the program test read it
@@ -62,75 +63,75 @@ pub record OnwardJob (p : Bytes) (at n target : ℕ) : Type 0 where
   pub aims : (target ≡ NONE → ⊥) → (n ≤ target) × (target ≤ total)
 
 -- the run goes on at r, or ended
-pub record Onward (p : Bytes) (group : Group) (components total n at : ℕ) (x : RecordsAt p group components total n at) (target : ℕ) (done : Done) (r : Walk) : Type 0 where
+pub record Onward (p : Bytes) (group : Group) (components total n at : ℕ) (x : RecordsAt p group components total n at) (target : ℕ) (done : Progress) (r : ProgramState) : Type 0 where
   pub place : RecordsAt p group components total (r .n) (r .at)
   pub up : n ≤ r .n
   pub few : nonJumps (place .records) ≤ nonJumps (x .records)
   pub events : r .events ≡ done .events
   pub used : r .used ≡ done .used
-  pub goes : r .stop ≡ 0 → (env : Env) (st : State) → afterwards env (x .records) n target (out (endOf (done .stop)) st) ≡ exec env (place .records) (r .n) 0 st
-  pub stops : 0 < r .stop → (env : Env) (st : State) → afterwards env (x .records) n target (out (endOf (done .stop)) st) ≡ out (endOf (r .stop)) st
+  pub goes : r .end ≡ 0 → (env : Env) (st : State) → afterwards env (x .records) n target (out (endOf (done .end)) st) ≡ exec env (place .records) (r .n) 0 st
+  pub stops : 0 < r .end → (env : Env) (st : State) → afterwards env (x .records) n target (out (endOf (done .end)) st) ≡ out (endOf (r .end)) st
 
 -- the state that a run has reached
-abbrev pub stateOf : Bytes → ℕ → List ℕ → Bytes → Bytes → Walk → State
-stateOf p components words slots trace r = stateAt p components words slots trace (r .events) (r .used)
+abbrev pub stateOf : Bytes → ℕ → List ℕ → Bytes → Bytes → ProgramState → State
+stateOf p components params slots trace r = stateAt p components params slots trace (r .events) (r .used)
 
 -- a run over lent memory that is at a record or at the end of them, with room for an event of each command that is left
-pub record Ready (env : Env) (group : Group) (p : Bytes) (components total : ℕ) (walk : Walk) (vendor class : Bytes) (found : List ℕ) (answers slots : Bytes) (words : List ℕ) (trace : Bytes) : Type 0 where
-  pub lent : Lent env p vendor class found answers slots words trace
+pub record Ready (env : Env) (group : Group) (p : Bytes) (components total : ℕ) (walk : ProgramState) (vendor class : Bytes) (assigned : List ℕ) (answers slots : Bytes) (params : List ℕ) (trace : Bytes) : Type 0 where
+  pub lent : Lent env p vendor class assigned answers slots params trace
   pub among : length (env .ids) ≡ components
   pub place : RecordsAt p group components total (walk .n) (walk .at)
   pub size : total ≤ limits .records
   pub few : walk .events + nonJumps (place .records) ≤ limits .commands
 
 -- what the rule gives from there
-abbrev pub rest : (env : Env) (group : Group) (p : Bytes) (components total : ℕ) (walk : Walk) → RecordsAt p group components total (walk .n) (walk .at) → Bytes → List ℕ → Bytes → Out
-rest env group p components total walk x slots words trace = exec env (x .records) (walk .n) 0 (stateOf p components words slots trace walk)
+abbrev pub rest : (env : Env) (group : Group) (p : Bytes) (components total : ℕ) (walk : ProgramState) → RecordsAt p group components total (walk .n) (walk .at) → Bytes → List ℕ → Bytes → Out
+rest env group p components total walk x slots params trace = exec env (x .records) (walk .n) 0 (stateOf p components params slots trace walk)
 
 -- the run was taken on to r: it goes on there as the rule does, or ended as the rule says
-pub record Moved (env : Env) (group : Group) (p : Bytes) (components total : ℕ) (walk : Walk) (vendor class : Bytes) (found : List ℕ) (answers slots : Bytes) (words : List ℕ) (trace : Bytes)
-    (x : Ready env group p components total walk vendor class found answers slots words trace) (r : Walk) (slots′ : Bytes) (words′ : List ℕ) (trace′ : Bytes) : Type 0 where
-  pub ready : Ready env group p components total r vendor class found answers slots′ words′ trace′
-  pub goes : r .stop ≡ 0 → rest env group p components total walk (x .place) slots words trace ≡ rest env group p components total r (ready .place) slots′ words′ trace′
-  pub stops : 0 < r .stop → rest env group p components total walk (x .place) slots words trace ≡ out (endOf (r .stop)) (stateOf p components words′ slots′ trace′ r)
+pub record Moved (env : Env) (group : Group) (p : Bytes) (components total : ℕ) (walk : ProgramState) (vendor class : Bytes) (assigned : List ℕ) (answers slots : Bytes) (params : List ℕ) (trace : Bytes)
+    (x : Ready env group p components total walk vendor class assigned answers slots params trace) (r : ProgramState) (slots′ : Bytes) (words′ : List ℕ) (trace′ : Bytes) : Type 0 where
+  pub ready : Ready env group p components total r vendor class assigned answers slots′ words′ trace′
+  pub goes : r .end ≡ 0 → rest env group p components total walk (x .place) slots params trace ≡ rest env group p components total r (ready .place) slots′ words′ trace′
+  pub stops : 0 < r .end → rest env group p components total walk (x .place) slots params trace ≡ out (endOf (r .end)) (stateOf p components words′ slots′ trace′ r)
 
 -- at a command
-pub record ExecJob (p : Bytes) (components : ℕ) (walk : Walk) (vendor class : Bytes) (found : List ℕ) (answers slots : Bytes) (words : List ℕ) (trace : Bytes) : Type 0 where
+pub record ExecJob (p : Bytes) (components : ℕ) (walk : ProgramState) (vendor class : Bytes) (assigned : List ℕ) (answers slots : Bytes) (params : List ℕ) (trace : Bytes) : Type 0 where
   pub env : Env
   pub group : Group
   pub total : ℕ
-  pub ready : Ready env group p components total walk vendor class found answers slots words trace
+  pub ready : Ready env group p components total walk vendor class assigned answers slots params trace
   pub before : walk .n < total
   pub stands : getD p (walk .at + 2) 0 ≡ 0xff → ⊥
 
 -- which was done
-pub record Executed (p : Bytes) (components : ℕ) (walk : Walk) (vendor class : Bytes) (found : List ℕ) (answers slots : Bytes) (words : List ℕ) (trace : Bytes)
-    (j : ExecJob p components walk vendor class found answers slots words trace) (r : Walk) (slots′ : Bytes) (words′ : List ℕ) (trace′ : Bytes) : Type 0 where
-  pub moved : Moved (j .env) (j .group) p components (j .total) walk vendor class found answers slots words trace (j .ready) r slots′ words′ trace′
+pub record Executed (p : Bytes) (components : ℕ) (walk : ProgramState) (vendor class : Bytes) (assigned : List ℕ) (answers slots : Bytes) (params : List ℕ) (trace : Bytes)
+    (j : ExecJob p components walk vendor class assigned answers slots params trace) (r : ProgramState) (slots′ : Bytes) (words′ : List ℕ) (trace′ : Bytes) : Type 0 where
+  pub moved : Moved (j .env) (j .group) p components (j .total) walk vendor class assigned answers slots params trace (j .ready) r slots′ words′ trace′
   pub wrote : r .events ≡ walk .events + 1
   pub further : walk .n < r .n
 
-pub record StepJob (p : Bytes) (components total : ℕ) (walk : Walk) (vendor class : Bytes) (found : List ℕ) (answers slots : Bytes) (words : List ℕ) (trace : Bytes) : Type 0 where
+pub record StepJob (p : Bytes) (components total : ℕ) (walk : ProgramState) (vendor class : Bytes) (assigned : List ℕ) (answers slots : Bytes) (params : List ℕ) (trace : Bytes) : Type 0 where
   pub env : Env
   pub group : Group
-  pub ready : Ready env group p components total walk vendor class found answers slots words trace
-  pub going : walk .stop ≡ 0
+  pub ready : Ready env group p components total walk vendor class assigned answers slots params trace
+  pub going : walk .end ≡ 0
 
 -- one event was written, or the end was reached without
-pub record Stepped (p : Bytes) (components total : ℕ) (walk : Walk) (vendor class : Bytes) (found : List ℕ) (answers slots : Bytes) (words : List ℕ) (trace : Bytes)
-    (j : StepJob p components total walk vendor class found answers slots words trace) (r : Walk) (slots′ : Bytes) (words′ : List ℕ) (trace′ : Bytes) : Type 0 where
-  pub moved : Moved (j .env) (j .group) p components total walk vendor class found answers slots words trace (j .ready) r slots′ words′ trace′
+pub record Stepped (p : Bytes) (components total : ℕ) (walk : ProgramState) (vendor class : Bytes) (assigned : List ℕ) (answers slots : Bytes) (params : List ℕ) (trace : Bytes)
+    (j : StepJob p components total walk vendor class assigned answers slots params trace) (r : ProgramState) (slots′ : Bytes) (words′ : List ℕ) (trace′ : Bytes) : Type 0 where
+  pub moved : Moved (j .env) (j .group) p components total walk vendor class assigned answers slots params trace (j .ready) r slots′ words′ trace′
   pub few : r .events ≤ walk .events + 1
   pub wrote : r .n < total → r .events ≡ walk .events + 1
-  pub late : 0 < r .stop → r .events ≡ walk .events + 1
+  pub late : 0 < r .end → r .events ≡ walk .events + 1
   pub further : walk .n < total → walk .n < r .n
 
 -- a run at the first record
-abbrev pub startAt : ℕ → Walk
-startAt from = record { at = from; n = 0; events = 0; used = 0; stop = 0 }
+abbrev pub startAt : ℕ → ProgramState
+startAt from = record { at = from; n = 0; events = 0; used = 0; end = 0 }
 
-pub record Ran (p : Bytes) (components total from : ℕ) (vendor class : Bytes) (found : List ℕ) (answers slots : Bytes) (words : List ℕ) (trace : Bytes)
-    (j : StepJob p components total (startAt from) vendor class found answers slots words trace) (r : Walk) (slots′ : Bytes) (words′ : List ℕ) (trace′ : Bytes) : Type 0 where
-  pub goes : out (endOf (r .stop)) (stateOf p components words′ slots′ trace′ r) ≡ exec (j .env) (j .ready .place .records) 0 0 (stateAt p components words slots trace 0 0)
-  pub late : 0 < r .stop → 0 < r .events
+pub record Ran (p : Bytes) (components total from : ℕ) (vendor class : Bytes) (assigned : List ℕ) (answers slots : Bytes) (params : List ℕ) (trace : Bytes)
+    (j : StepJob p components total (startAt from) vendor class assigned answers slots params trace) (r : ProgramState) (slots′ : Bytes) (words′ : List ℕ) (trace′ : Bytes) : Type 0 where
+  pub goes : out (endOf (r .end)) (stateOf p components words′ slots′ trace′ r) ≡ exec (j .env) (j .ready .place .records) 0 0 (stateAt p components params slots trace 0 0)
+  pub late : 0 < r .end → 0 < r .events
   pub few : r .events ≤ limits .commands

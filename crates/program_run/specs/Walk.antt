@@ -10,7 +10,7 @@ use Rattle.rules.specs.Program.{Rec}
 use Rattle.rules.specs.ProgramRun.{exec}
 use Rattle.rules.specs.ProgramTest.{recordsIn, nonJumps}
 use Rattle.rules.specs.Step.{Env, State}
-use Rattle.program_run.specs.declared.walk.Stand.{Stand}
+use Rattle.program_run.specs.declared.walk.RecordPlace.{RecordPlace}
 
 -- the records from number n on, at `at`, as the program test read them
 pub record RecordsAt (p : Bytes) (group : Group) (components total n at : ℕ) : Type 0 where
@@ -45,6 +45,6 @@ pub record Reached (p : Bytes) (group : Group) (components total n at : ℕ) (x 
   pub goes : (env : Env) (st : State) → exec env (x .records) n 0 st ≡ exec env (place .records) m 0 st
 
 -- and that is a command, or the end
-pub record Landed (p : Bytes) (group : Group) (components total n at : ℕ) (x : RecordsAt p group components total n at) (r : Stand) : Type 0 where
+pub record Landed (p : Bytes) (group : Group) (components total n at : ℕ) (x : RecordsAt p group components total n at) (r : RecordPlace) : Type 0 where
   pub reached : Reached p group components total n at x (r .n) (r .at)
   pub stands : r .n < total → getD p (r .at + 2) 0 ≡ 0xff → ⊥

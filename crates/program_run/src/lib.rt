@@ -6,22 +6,25 @@ ghost use Rattle.program_run.specs.Known.{Known};
 use program_test::test::Tested;
 use program_test::test::test_program;
 use rules::answers::Refusal;
+use rules::controller::ALL_PARAMETERS;
 use rules::controller::Controller;
+use rules::controller::PLACES;
+use rules::controller::Places;
 use run_admission::admit::admit;
 use run_admission::answer::Answer;
 use run_admission::answer::Outcome;
 use run_admission::ending::ended;
-use run_admission::ending::taken;
+use run_admission::ending::number_after;
 use step::run_records;
 
 pub mod step;
 pub mod walk;
 
-// The run of a program that the test has accepted, by what the test found.
+// The run of a program that the test has accepted, by what the test assigned.
 fn run_tested(
     p: &[u8],
     t: Tested,
-    ids: &[usize; 16],
+    ids: &Places,
     verdict: bool,
     device: Controller,
     slots: &mut [u8],
@@ -34,7 +37,7 @@ fn run_tested(
     let group = t.group;
     let number = t.number;
     let n = t.components;
-    let mut found = [0usize; 8];
+    let mut assigned = [0usize; Controller::COMPONENTS];
     let refusal = admit(
         p,
         group,
@@ -46,7 +49,7 @@ fn run_tested(
         slots,
         answers,
         trace,
-        &mut found,
+        &mut assigned,
     );
     if refusal != 0 {
         return Outcome {
@@ -56,7 +59,7 @@ fn run_tested(
     }
     let vendor = device.vendor;
     let class = device.class;
-    let mut words = [0usize; 40];
+    let mut params = [0usize; ALL_PARAMETERS];
     let done = run_records(
         p,
         n,
@@ -64,15 +67,15 @@ fn run_tested(
         t.from,
         &vendor,
         &class,
-        &found,
+        &assigned,
         answers,
         slots,
-        &mut words,
+        &mut params,
         trace,
     );
     Outcome {
-        answer: Answer::Ran(ended(done.stop, done.events, done.used, trace)),
-        number: taken(group, done.stop, number as u32, device.number),
+        answer: Answer::Ran(ended(done.end, done.events, done.used, trace)),
+        number: number_after(group, done.end, number as u32, device.number),
     }
 }
 
@@ -88,7 +91,7 @@ pub fn run_program(
 ) -> Outcome
     ensures { λ r. ⌜ Settles device (runProgram (now (p .entry)) (inputOf verdict device (now (slots .entry)) (now (answers .entry)) (now (trace .entry)))) r (now (slots .entry)) (now (slots .exit)) (now (trace .entry)) (now (trace .exit)) ⌝ }
 {
-    let mut ids = [0usize; 16];
+    let mut ids = [0usize; PLACES];
     let t = test_program(p, &mut ids);
     let good = t.good;
     if !good {

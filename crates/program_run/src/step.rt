@@ -5,21 +5,24 @@ use crate::walk::advance;
 use crate::walk::land;
 use byte_buffer::two;
 use byte_buffer::wide;
-use program_records::argument::NONE;
 use program_records::parameters::read_params;
-use program_records::record::RECORD_BYTES;
-use run_commands::Done;
+use rules::controller::AllParameters;
+use rules::controller::Sixteen;
+use rules::controller::SlotNumbers;
+use rules::program_format::NO_TARGET;
+use rules::program_format::RECORD_BYTES;
+use run_commands::Progress;
 use run_commands::perform::perform;
 use run_slots::params::Params;
 
 // How far a run is: the next record and its number, events written, answers used, and the number of the end of what was done last,
 // 0 to go on.
-pub struct Walk {
+pub struct ProgramState {
     pub at: usize,
     pub n: usize,
     pub events: usize,
     pub used: usize,
-    pub stop: usize,
+    pub end: usize,
 }
 
 // What a command of that code has beside its parameters: 12 the new index, any other the place of its argument.
@@ -59,28 +62,28 @@ fn given(p: &[u8], components: usize, code: usize, from: usize, to: usize) -> Pa
 }
 
 // Where a run goes on after a command whose next record is record n at `at`: there or, where its condition failed, at its target.
-fn onward(p: &[u8], at: usize, n: usize, target: usize, done: Done) -> Walk
+fn onward(p: &[u8], at: usize, n: usize, target: usize, done: Progress) -> ProgramState
     requires { ⌜ OnwardJob (now p) at n target ⌝ }
     ensures { λ r. ⌜ ((j : OnwardJob (now (p .entry)) at n target) → Onward (now (p .entry)) (j .group) (j .components) (j .total) n at (j .place) target done r) ⌝ }
 {
-    let stop = done.stop;
-    if stop == 1 {
-        if target != NONE {
-            return Walk {
+    let end = done.end;
+    if end == 1 {
+        if target != NO_TARGET {
+            return ProgramState {
                 at: advance(p, at, n, target),
                 n: target,
                 events: done.events,
                 used: done.used,
-                stop: 0,
+                end: 0,
             };
         }
     }
-    Walk {
+    ProgramState {
         at,
         n,
         events: done.events,
         used: done.used,
-        stop,
+        end,
     }
 }
 
@@ -88,17 +91,17 @@ fn onward(p: &[u8], at: usize, n: usize, target: usize, done: Done) -> Walk
 fn execute(
     p: &[u8],
     components: usize,
-    walk: Walk,
-    vendor: &[u8; 16],
-    class: &[u8; 16],
-    found: &[usize; 8],
+    walk: ProgramState,
+    vendor: &Sixteen,
+    class: &Sixteen,
+    assigned: &SlotNumbers,
     answers: &[u8],
     slots: &mut [u8],
-    words: &mut [usize; 40],
+    params: &mut AllParameters,
     trace: &mut [u8],
-) -> Walk
-    requires { ⌜ ExecJob (now p) components walk (now vendor) (now class) (now found) (now answers) (now slots) (now words) (now trace) ⌝ }
-    ensures { λ r. ⌜ ((j : ExecJob (now (p .entry)) components walk (now (vendor .entry)) (now (class .entry)) (now (found .entry)) (now (answers .entry)) (now (slots .entry)) (now (words .entry)) (now (trace .entry))) → Executed (now (p .entry)) components walk (now (vendor .entry)) (now (class .entry)) (now (found .entry)) (now (answers .entry)) (now (slots .entry)) (now (words .entry)) (now (trace .entry)) j r (now (slots .exit)) (now (words .exit)) (now (trace .exit))) ⌝ }
+) -> ProgramState
+    requires { ⌜ ExecJob (now p) components walk (now vendor) (now class) (now assigned) (now answers) (now slots) (now params) (now trace) ⌝ }
+    ensures { λ r. ⌜ ((j : ExecJob (now (p .entry)) components walk (now (vendor .entry)) (now (class .entry)) (now (assigned .entry)) (now (answers .entry)) (now (slots .entry)) (now (params .entry)) (now (trace .entry))) → Executed (now (p .entry)) components walk (now (vendor .entry)) (now (class .entry)) (now (assigned .entry)) (now (answers .entry)) (now (slots .entry)) (now (params .entry)) (now (trace .entry)) j r (now (slots .exit)) (now (params .exit)) (now (trace .exit))) ⌝ }
 {
     let at = walk.at;
     let code = wide(p[at + 2]);
@@ -115,10 +118,10 @@ fn execute(
         two(p, at + 4),
         vendor,
         class,
-        found,
+        assigned,
         answers,
         slots,
-        words,
+        params,
         trace,
         walk.events,
         walk.used,
@@ -131,26 +134,26 @@ pub fn step(
     p: &[u8],
     components: usize,
     total: usize,
-    walk: Walk,
-    vendor: &[u8; 16],
-    class: &[u8; 16],
-    found: &[usize; 8],
+    walk: ProgramState,
+    vendor: &Sixteen,
+    class: &Sixteen,
+    assigned: &SlotNumbers,
     answers: &[u8],
     slots: &mut [u8],
-    words: &mut [usize; 40],
+    params: &mut AllParameters,
     trace: &mut [u8],
-) -> Walk
-    requires { ⌜ StepJob (now p) components total walk (now vendor) (now class) (now found) (now answers) (now slots) (now words) (now trace) ⌝ }
-    ensures { λ r. ⌜ ((j : StepJob (now (p .entry)) components total walk (now (vendor .entry)) (now (class .entry)) (now (found .entry)) (now (answers .entry)) (now (slots .entry)) (now (words .entry)) (now (trace .entry))) → Stepped (now (p .entry)) components total walk (now (vendor .entry)) (now (class .entry)) (now (found .entry)) (now (answers .entry)) (now (slots .entry)) (now (words .entry)) (now (trace .entry)) j r (now (slots .exit)) (now (words .exit)) (now (trace .exit))) ⌝ }
+) -> ProgramState
+    requires { ⌜ StepJob (now p) components total walk (now vendor) (now class) (now assigned) (now answers) (now slots) (now params) (now trace) ⌝ }
+    ensures { λ r. ⌜ ((j : StepJob (now (p .entry)) components total walk (now (vendor .entry)) (now (class .entry)) (now (assigned .entry)) (now (answers .entry)) (now (slots .entry)) (now (params .entry)) (now (trace .entry))) → Stepped (now (p .entry)) components total walk (now (vendor .entry)) (now (class .entry)) (now (assigned .entry)) (now (answers .entry)) (now (slots .entry)) (now (params .entry)) (now (trace .entry)) j r (now (slots .exit)) (now (params .exit)) (now (trace .exit))) ⌝ }
 {
     let stand = land(p, walk.at, walk.n, total);
     let n = stand.n;
-    let now = Walk {
+    let now = ProgramState {
         at: stand.at,
         n,
         events: walk.events,
         used: walk.used,
-        stop: 0,
+        end: 0,
     };
     if n == total {
         return now;
@@ -161,10 +164,10 @@ pub fn step(
         now,
         vendor,
         class,
-        found,
+        assigned,
         answers,
         slots,
-        words,
+        params,
         trace,
     )
 }
@@ -175,23 +178,23 @@ pub fn run_records(
     components: usize,
     total: usize,
     from: usize,
-    vendor: &[u8; 16],
-    class: &[u8; 16],
-    found: &[usize; 8],
+    vendor: &Sixteen,
+    class: &Sixteen,
+    assigned: &SlotNumbers,
     answers: &[u8],
     slots: &mut [u8],
-    words: &mut [usize; 40],
+    params: &mut AllParameters,
     trace: &mut [u8],
-) -> Walk
-    requires { ⌜ StepJob (now p) components total (startAt from) (now vendor) (now class) (now found) (now answers) (now slots) (now words) (now trace) ⌝ }
-    ensures { λ r. ⌜ ((j : StepJob (now (p .entry)) components total (startAt from) (now (vendor .entry)) (now (class .entry)) (now (found .entry)) (now (answers .entry)) (now (slots .entry)) (now (words .entry)) (now (trace .entry))) → Ran (now (p .entry)) components total from (now (vendor .entry)) (now (class .entry)) (now (found .entry)) (now (answers .entry)) (now (slots .entry)) (now (words .entry)) (now (trace .entry)) j r (now (slots .exit)) (now (words .exit)) (now (trace .exit))) ⌝ }
+) -> ProgramState
+    requires { ⌜ StepJob (now p) components total (startAt from) (now vendor) (now class) (now assigned) (now answers) (now slots) (now params) (now trace) ⌝ }
+    ensures { λ r. ⌜ ((j : StepJob (now (p .entry)) components total (startAt from) (now (vendor .entry)) (now (class .entry)) (now (assigned .entry)) (now (answers .entry)) (now (slots .entry)) (now (params .entry)) (now (trace .entry))) → Ran (now (p .entry)) components total from (now (vendor .entry)) (now (class .entry)) (now (assigned .entry)) (now (answers .entry)) (now (slots .entry)) (now (params .entry)) (now (trace .entry)) j r (now (slots .exit)) (now (params .exit)) (now (trace .exit))) ⌝ }
 {
-    let mut walk = Walk {
+    let mut walk = ProgramState {
         at: from,
         n: 0,
         events: 0,
         used: 0,
-        stop: 0,
+        end: 0,
     };
     while walk.n < total {
         walk = step(
@@ -201,14 +204,14 @@ pub fn run_records(
             walk,
             vendor,
             class,
-            found,
+            assigned,
             answers,
             slots,
-            words,
+            params,
             trace,
         );
-        let stop = walk.stop;
-        if stop != 0 {
+        let end = walk.end;
+        if end != 0 {
             return walk;
         }
     }

@@ -3,11 +3,11 @@ ghost use mathlib.Core.Path.{_≡_};
 ghost use Rattle.program_run.specs.Walk.{AdvanceJob, Advanced, LandJob, Landed};
 use byte_buffer::two;
 use byte_buffer::wide;
-use program_records::record::JUMP;
-use program_records::record::RECORD_BYTES;
+use rules::program_format::JUMP;
+use rules::program_format::RECORD_BYTES;
 
 // A record: where it is, and its number.
-pub struct Stand {
+pub struct RecordPlace {
     pub at: usize,
     pub n: usize,
 }
@@ -27,7 +27,7 @@ pub fn advance(p: &[u8], at: usize, n: usize, t: usize) -> usize
 }
 
 // The first record from number n at `at` on that is no jump, through the jumps before it; or the end.
-pub fn land(p: &[u8], at: usize, n: usize, total: usize) -> Stand
+pub fn land(p: &[u8], at: usize, n: usize, total: usize) -> RecordPlace
     requires { ⌜ LandJob (now p) at n total ⌝ }
     ensures { λ r. ⌜ ((j : LandJob (now (p .entry)) at n total) → Landed (now (p .entry)) (j .group) (j .components) total n at (j .place) r) ⌝ }
 {
@@ -35,11 +35,11 @@ pub fn land(p: &[u8], at: usize, n: usize, total: usize) -> Stand
     let mut k = n;
     while k < total {
         if wide(p[next + 2]) != JUMP {
-            return Stand { at: next, n: k };
+            return RecordPlace { at: next, n: k };
         }
         let target = two(p, next + 6);
         next = advance(p, next + RECORD_BYTES, k + 1, target);
         k = target;
     }
-    Stand { at: next, n: k }
+    RecordPlace { at: next, n: k }
 }

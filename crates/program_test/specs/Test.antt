@@ -31,7 +31,7 @@ pub record ProgramAt (p : Bytes) (x : Program) (t : Tested) (ids : List ℕ) : T
   pub good : t .good ≡ true
   pub group : t .group ≡ x .group
   pub number : t .number ≡ x .number
-  pub small : t .number ≤ limits .number
+  pub small : t .number ≤ limits .largest
   pub some-ids : (1 ≤ t .components) × (t .components ≤ limits .components)
   pub names : namesAt p ids (t .components) ≡ x .ids
   pub places : (k : ℕ) → k < t .components → (spanAt ids k .from ≤ spanAt ids k .to) × (spanAt ids k .to ≤ length p)

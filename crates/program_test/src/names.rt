@@ -7,8 +7,8 @@ ghost use Rattle.program_records.specs.Entries.{nextIn};
 ghost use Rattle.program_test.specs.Test.{NamesAre};
 use byte_buffer::wide;
 use rules::controller::Controller;
-
-const NAME_BYTES: usize = 4;
+use rules::controller::Places;
+use rules::program_format::NAME_BYTES;
 
 // The place after the identifier at `at`; 0 if it is not well formed.
 pub fn test_name(p: &[u8], at: usize) -> usize
@@ -42,7 +42,7 @@ pub fn test_name(p: &[u8], at: usize) -> usize
 }
 
 // The place after the n identifiers from `at` on, 0 if one is not well formed; and their places.
-pub fn test_names(p: &[u8], at: usize, n: usize, ids: &mut [usize; 16]) -> usize
+pub fn test_names(p: &[u8], at: usize, n: usize, ids: &mut Places) -> usize
     requires { ⌜ (0 < at) × (at ≤ length (now p)) × (n ≤ 8) ⌝ }
     ensures { λ r. ⌜ (r ≡ nextIn (length (now (p .entry))) (Rule.idsIn n (drop at (now (p .entry))))) × NamesAre (now (p .entry)) n (Rule.idsIn n (drop at (now (p .entry)))) (now (ids .exit)) ⌝ }
 {

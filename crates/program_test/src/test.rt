@@ -14,6 +14,8 @@ use component_ids::repeated_one;
 use program_records::records::test_records;
 use rules::answers::Group;
 use rules::controller::Controller;
+use rules::controller::Places;
+use rules::program_format::START_BYTES;
 use rules_tables::tables;
 
 // The group and the number, how many components and records there are, and where the first record is.
@@ -25,8 +27,6 @@ pub struct Tested {
     pub records: usize,
     pub from: usize,
 }
-
-const START_BYTES: usize = 11;
 
 fn bad() -> Tested
     ensures { λ r. ⌜ r .good ≡ false ⌝ }
@@ -83,7 +83,7 @@ pub fn group_of(mark: u8) -> Group
     Group::Boot
 }
 
-pub fn test_program(p: &[u8], ids: &mut [usize; 16]) -> Tested
+pub fn test_program(p: &[u8], ids: &mut Places) -> Tested
     ensures { λ r. ⌜ TestedAs (now (p .entry)) (Rule.programIn (now (p .entry))) r (now (ids .exit)) ⌝ }
 {
     if !start_fits(p) {

@@ -89,11 +89,11 @@ module _ (s : Bytes) where
       go n false e t = inr (eqb-true n kind′ t)
 
   -- a reading that went forward, and not past the end
-  pub number-law : (e at k q : ℕ) → number s e at ≡ got (k, q) → (at < q) × (q ≤ e) × (k ≤ (limits .number))
+  pub number-law : (e at k q : ℕ) → number s e at ≡ got (k, q) → (at < q) × (q ≤ e) × (k ≤ (limits .largest))
   unfolding number
   number-law e at k q q₀ =
-      let (h, qh, q₁) = bound (item NUMBER 0 (limits .number) s e at) _ (k, q) q₀ in
-      let i : Item NUMBER 0 (limits .number) e at h = item-law NUMBER 0 (limits .number) e at h qh in
+      let (h, qh, q₁) = bound (item NUMBER 0 (limits .largest) s e at) _ (k, q) q₀ in
+      let i : Item NUMBER 0 (limits .largest) e at h = item-law NUMBER 0 (limits .largest) e at h qh in
       let (ek, eq) = both q₁ in
       (omega arith, omega arith, omega arith)
 
@@ -115,9 +115,9 @@ module _ (s : Bytes) where
   pub inBytes-law : {A : Type 0} (read : Read A) (e at : ℕ) (a : A) (p : Span) → inBytes s read e at ≡ got (a, p) → Inside read e at a p
   unfolding inBytes
   inBytes-law {A} read e at a p q₀ =
-      split _ (item BYTES 0 (limits .number) s e at) _ (a, p) q₀ λ h qh q₁.
+      split _ (item BYTES 0 (limits .largest) s e at) _ (a, p) q₀ λ h qh q₁.
       split₂ _ (read (after h) (h .next)) _ (a, p) q₁ λ b next qr q₂.
-      let i : Item BYTES 0 (limits .number) e at h = item-law BYTES 0 (limits .number) e at h qh in
+      let i : Item BYTES 0 (limits .largest) e at h = item-law BYTES 0 (limits .largest) e at h qh in
       let (t, q₃) = passed (eqb next (after h)) NotCbor next _ (a, p) q₂ in
       let (ea, ep) = both q₃ in
       let l : next ≡ after h = eqb-true _ _ t in
@@ -127,7 +127,7 @@ module _ (s : Bytes) where
   unfolding strings
   strings-law zero e at q u q₀ = let eq : at ≡ q = cc in (omega arith, omega arith)
   strings-law (suc k) e at q u q₀ =
-      split _ (item BYTES 0 (limits .number) s e at) _ q q₀ λ h qh q₁.
-      let i : Item BYTES 0 (limits .number) e at h = item-law BYTES 0 (limits .number) e at h qh in
+      split _ (item BYTES 0 (limits .largest) s e at) _ q q₀ λ h qh q₁.
+      let i : Item BYTES 0 (limits .largest) e at h = item-law BYTES 0 (limits .largest) e at h qh in
       let (a, b) = strings-law k e (after h) q (i .fits) q₁ in
       (omega arith, b)

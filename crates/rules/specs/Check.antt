@@ -5,7 +5,7 @@ use Rattle.rules.specs.Limits.{limits}
 use Rattle.rules.specs.Bytes.{Bytes, part, Span, span, bytesAt, member}
 use Rattle.rules.specs.Got.{Got, refused, got, need, found, _>>=_}
 use Rattle.rules.specs.Cbor.{NUMBER, BYTES, TEXT, ARRAY, MAP, FALSE, TRUE, NIL, after, item, oneOf}
-use Rattle.rules.specs.Commands.{Params, over, orElse, Form, sixteen, nil, below, alternatives, parameters, sequence, commands, rowOf, isAllowed, params, paramOf}
+use Rattle.rules.specs.Commands.{Params, over, orElse, Form, sixteen, nil, below, alternatives, parameters, sequence, COMMON, PAYLOAD_FETCH, RUN, commands, rowOf, isAllowed, params, paramOf}
 use Rattle.rules.specs.Manifest.{Seq, end, then, Cmd, one, sub, try, Alts, last, or, count, countCmd, Section, countAll, Manifest}
 
 -- a reader: from the container's end and a place to a value and the place after it. The container is the innermost byte string around,
@@ -28,7 +28,7 @@ nothing = give none none none none none
 module _ (s : Bytes) where
   unfoldable pub number : Read ℕ
   number e at = do
-    h ← item NUMBER 0 (limits .number) s e at
+    h ← item NUMBER 0 (limits .largest) s e at
     got (h .num, h .next)
 
   -- a key, which is k; the place after it
@@ -40,7 +40,7 @@ module _ (s : Bytes) where
   -- one thing in a byte string, and the place of the string's bytes. 'Left-over bytes: the first of them'
   unfoldable pub inBytes : {A : Type 0} → Read A → ℕ → ℕ → Got (A × Span)
   inBytes read e at = do
-    h ← item BYTES 0 (limits .number) s e at
+    h ← item BYTES 0 (limits .largest) s e at
     (a, next) ← read (after h) (h .next)
     _ ← need (eqb next (after h)) NotCbor next
     got (a, span (h .next) next)
@@ -49,7 +49,7 @@ module _ (s : Bytes) where
   unfoldable pub strings : ℕ → ℕ → ℕ → Got ℕ
   strings zero e at = got at
   strings (suc n) e at = do
-    h ← item BYTES 0 (limits .number) s e at
+    h ← item BYTES 0 (limits .largest) s e at
     strings n e (after h)
 
   -- an identifier, after those of `before`. 'Identifier length, then 68, are tested once the identifier is read, at its head'
@@ -87,8 +87,8 @@ module _ (s : Bytes) where
     _ ← need (ltb k n) NoSuchComponent at
     got (give none none (some k) none none, next)
   parameter n Digest e at = do
-    h ← item BYTES 32 32 s e at
-    got (give none none none (some (part s (h .next) 32)) none, after h)
+    h ← item BYTES (limits .digest) (limits .digest) s e at
+    got (give none none none (some (part s (h .next) (limits .digest))) none, after h)
   parameter n Size e at = do
     (k, next) ← number e at
     got (give none none none none (some k), next)
@@ -116,8 +116,8 @@ module _ (s : Bytes) where
   -- the argument at `at` of the command whose code is at `place`, with m commands before those that it holds
   unfoldable pub argument : (ℕ → Read Seq) → ℕ → ℕ → ℕ → Form → Read Cmd
   argument deeper n m place (sixteen op) e at = do
-    h ← item BYTES 16 16 s e at
-    got (one place (op (part s (h .next) 16)) none, after h)
+    h ← item BYTES (limits .class) (limits .class) s e at
+    got (one place (op (part s (h .next) (limits .class))) none, after h)
   argument deeper n m place (nil op) e at = do
     h ← item NIL 0 0 s e at
     got (one place op none, h .next)
@@ -157,11 +157,11 @@ module _ (s : Bytes) where
   -- a sequence of a section, after m commands; it and those in it may be d deep. 'An odd sequence is met at the head'
   unfoldable pub sequenceAt : ℕ → ℕ → ℕ → ℕ → Read Seq
   sequenceAt n section zero m e at = do
-    h ← item ARRAY 0 (limits .pairs + limits .pairs) s e at
+    h ← item ARRAY 0 (limits .sequence + limits .sequence) s e at
     _ ← need (eqb (h .num % 2) 0) Malformed at
     refused TooDeep at
   sequenceAt n section (suc d) m e at = do
-    h ← item ARRAY 0 (limits .pairs + limits .pairs) s e at
+    h ← item ARRAY 0 (limits .sequence + limits .sequence) s e at
     _ ← need (eqb (h .num % 2) 0) Malformed at
     commandsAt (sequenceAt n section d) n section (h .num / 2) m e (h .next)
 
@@ -176,7 +176,7 @@ module _ (s : Bytes) where
   commonSeq n zero e at = got ([], at)
   commonSeq n (suc k) e at = do
     p ← key 4 e at
-    (x, next) ← sectionAt n 3 0 e p
+    (x, next) ← sectionAt n COMMON 0 e p
     got (x ∷ [], next)
 
   -- common: the components, and its sequence if there is one
@@ -192,7 +192,7 @@ module _ (s : Bytes) where
   unfoldable pub sectionsAt : ℕ → ℕ → ℕ → ℕ → Read (List Section)
   sectionsAt n zero low m e at = got ([], at)
   sectionsAt n (suc k) low m e at = do
-    h ← item NUMBER low 12 s e at
+    h ← item NUMBER low RUN s e at
     (x, p) ← sectionAt n (h .num) m e (h .next)
     (xs, q) ← sectionsAt n k (h .num + 1) (m + count (x .seq)) e p
     got (x ∷ xs, q)
@@ -207,7 +207,7 @@ module _ (s : Bytes) where
     (n, p₃) ← number e p₂
     p₄ ← key 3 e p₃
     ((ids, xs), common) ← inBytes commonAt e p₄
-    (ys, next) ← sectionsAt (length ids) (h .num - 3) 8 (countAll xs) e (common .to)
+    (ys, next) ← sectionsAt (length ids) (h .num - 3) PAYLOAD_FETCH (countAll xs) e (common .to)
     got (record { part = span at next; number = n; ids = ids; common = common; sections = xs ++ ys }, next)
 
   -- nil or a byte string; the place after it

@@ -1,5 +1,5 @@
 -- Commands, parameters, and the command table (01, What a manifest may hold).
-use Rattle.rules.specs.Base.{ℕ, List, [], _∷_, Bool, true, false, _||_, Option, some, none, leb, eqb, Parameter, Coerce, Uri, Source, Digest, Size}
+use Rattle.rules.specs.Base.{ℕ, List, [], _∷_, Bool, true, false, _||_, Option, some, none, eqb, Parameter, Coerce, Uri, Source, Digest, Size}
 use Rattle.rules.specs.Bytes.{Bytes}
 
 -- the parameters of a component; of a command, those that it gives
@@ -67,10 +67,6 @@ component copy i = i
 component run i = i
 component swap i = i
 
--- the commands that can fail as conditions
-abbrev pub isCondition : Op → Bool
-isCondition op = leb (code op) 3
-
 -- the forms of an argument, each with the command that it makes
 pub data Form : Type 0 where
   sixteen : (Bytes → Op) → Form
@@ -80,40 +76,72 @@ pub data Form : Type 0 where
   parameters : (Params → Op) → Form
   sequence : Form
 
--- where a command is allowed: by the keys of the sections, with 3 for common's own sequence
+-- the keys of the sections; common's own sequence goes by the key of common
+abbrev pub COMMON : ℕ
+COMMON = 3
+
+abbrev pub PAYLOAD_FETCH : ℕ
+PAYLOAD_FETCH = 8
+
+abbrev pub INSTALL : ℕ
+INSTALL = 9
+
+abbrev pub VALIDATE : ℕ
+VALIDATE = 10
+
+abbrev pub LOAD : ℕ
+LOAD = 11
+
+abbrev pub RUN : ℕ
+RUN = 12
+
+-- where a command is allowed: by the keys of the sections
 pub data Allowed : Type 0 where
   anywhere : Allowed
   only : List ℕ → Allowed
 
+-- `condition`: its failure is one that a run sequence or a try each may catch
 pub record Row : Type 0 where
   pub number : ℕ
+  pub condition : Bool
   pub form : Form
   pub allowed : Allowed
 
-abbrev row : ℕ → Form → Allowed → Row
-row n f a = record { number = n; form = f; allowed = a }
+abbrev condition : ℕ → Form → Allowed → Row
+condition n f a = record { number = n; condition = true; form = f; allowed = a }
+
+abbrev directive : ℕ → Form → Allowed → Row
+directive n f a = record { number = n; condition = false; form = f; allowed = a }
 
 -- the command table
 abbrev pub commands : List Row
 commands =
-    row 1 (sixteen vendor) anywhere
-    ∷ row 2 (sixteen class) anywhere
-    ∷ row 3 (nil imageMatch) anywhere
-    ∷ row 12 (below setIndex) anywhere
-    ∷ row 14 (nil abort) anywhere
-    ∷ row 15 alternatives anywhere
-    ∷ row 19 (parameters setParams) anywhere
-    ∷ row 20 (parameters overrideParams) anywhere
-    ∷ row 21 (nil fetch) (only (8 ∷ 9 ∷ []))
-    ∷ row 22 (nil copy) (only (8 ∷ 9 ∷ 11 ∷ []))
-    ∷ row 23 (nil run) (only (12 ∷ []))
-    ∷ row 30 sequence anywhere
-    ∷ row 32 (nil swap) (only (8 ∷ 9 ∷ 11 ∷ []))
+    condition 1 (sixteen vendor) anywhere
+    ∷ condition 2 (sixteen class) anywhere
+    ∷ condition 3 (nil imageMatch) anywhere
+    ∷ directive 12 (below setIndex) anywhere
+    ∷ directive 14 (nil abort) anywhere
+    ∷ directive 15 alternatives anywhere
+    ∷ directive 19 (parameters setParams) anywhere
+    ∷ directive 20 (parameters overrideParams) anywhere
+    ∷ directive 21 (nil fetch) (only (PAYLOAD_FETCH ∷ INSTALL ∷ []))
+    ∷ directive 22 (nil copy) (only (PAYLOAD_FETCH ∷ INSTALL ∷ LOAD ∷ []))
+    ∷ directive 23 (nil run) (only (RUN ∷ []))
+    ∷ directive 30 sequence anywhere
+    ∷ directive 32 (nil swap) (only (PAYLOAD_FETCH ∷ INSTALL ∷ LOAD ∷ []))
     ∷ []
 
 abbrev pub rowOf : ℕ → List Row → Option Row
 rowOf n [] = none
 rowOf n (r ∷ rs) = elim (eqb n (r .number)) [ true ↦ some r | false ↦ rowOf n rs ]
+
+-- the table's column of conditions, at a code and at a command
+abbrev pub conditionIn : Option Row → Bool
+conditionIn none = false
+conditionIn (some r) = r .condition
+
+abbrev pub isCondition : Op → Bool
+isCondition op = conditionIn (rowOf (code op) commands)
 
 abbrev pub among : ℕ → List ℕ → Bool
 among n [] = false

@@ -12,6 +12,7 @@ pub mod Newer
 pub mod Slots
 pub mod Step
 pub mod Run
+pub mod ProgramFormat
 pub mod Program
 pub mod ProgramSize
 pub mod ProgramTest

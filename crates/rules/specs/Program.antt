@@ -6,11 +6,8 @@ use Rattle.rules.specs.Got.{Got, got, need, _>>=_}
 use Rattle.rules.specs.Commands.{Op, vendor, class, imageMatch, setIndex, abort, setParams, overrideParams, fetch, copy, run, swap, Params, code, component, isCondition}
 use Rattle.rules.specs.Manifest.{Seq, end, then, Cmd, one, sub, try, Alts, last, or, Manifest, names}
 use Rattle.rules.specs.Check.{check}
+use Rattle.rules.specs.ProgramFormat.{mark, START, NAME, JUMP, NONE}
 use Rattle.rules.specs.Run.{indexAfter, coerceAfter, planOf}
-
--- no target
-abbrev pub NONE : ℕ
-NONE = 0xffff
 
 -- a command at a component, with its place and target; a jump to a record
 pub data Rec : Type 0 where
@@ -38,11 +35,11 @@ unfoldable mutual
 
 -- the records, the first of which has number n. t: where a failed condition goes on
 unfoldable mutual
-  -- `own`: code 30 runs it, so that under its coerce a failed condition goes on at z, the record after it
+  -- `coercible`: code 30 runs it, so that under its coerce a failed condition goes on at z, the record after it
   pub flatSeq : Seq → Bool → ℕ → Bool → ℕ → ℕ → ℕ → List Rec
-  flatSeq end own i c t z n = []
-  flatSeq (then x xs) own i c t z n =
-      flatCmd x i (cond (own && c) z t) n ++ flatSeq xs own (indexAfter x i) (coerceAfter x c) t z (n + sizeCmd x)
+  flatSeq end coercible i c t z n = []
+  flatSeq (then x xs) coercible i c t z n =
+      flatCmd x i (cond (coercible && c) z t) n ++ flatSeq xs coercible (indexAfter x i) (coerceAfter x c) t z (n + sizeCmd x)
 
   pub flatCmd : Cmd → ℕ → ℕ → ℕ → List Rec
   flatCmd (one p op b) i t n = does op (component op i) p (targetOf op t) ∷ []
@@ -94,17 +91,17 @@ argBytes swap = []
 
 -- 'Command: mark, code, component, place 2, target 2, argument length 2, argument'; 'Jump FF (component 0, place 0; no argument)'
 unfoldable pub recBytes : Rec → Bytes
-recBytes (does op i p t) = 0x53 ∷ 0x50 ∷ code op ∷ i ∷ be2 p ++ be2 t ++ be2 (length (argBytes op)) ++ argBytes op
-recBytes (jump t) = 0x53 ∷ 0x50 ∷ 0xff ∷ 0 ∷ be2 0 ++ be2 t ++ be2 0
+recBytes (does op i p t) = mark ++ (code op ∷ i ∷ be2 p) ++ be2 t ++ be2 (length (argBytes op)) ++ argBytes op
+recBytes (jump t) = mark ++ (JUMP ∷ 0 ∷ be2 0) ++ be2 t ++ be2 0
 
 -- 'Per component: mark, FD, length 1, identifier'
 abbrev pub idBytes : Bytes → Bytes
-idBytes id = 0x53 ∷ 0x50 ∷ 0xfd ∷ length id ∷ id
+idBytes id = mark ++ (NAME ∷ length id ∷ id)
 
 -- 'Start: mark, FE, group, sequence number 4, component count 1, command record count 2'
 unfoldable pub programBytes : Program → Bytes
 programBytes p =
-    0x53 ∷ 0x50 ∷ 0xfe ∷ groupNumber (p .group) ∷ be4 (p .number) ++ (length (p .ids) ∷ be2 (length (p .records)))
+    mark ++ (START ∷ groupNumber (p .group) ∷ be4 (p .number)) ++ (length (p .ids) ∷ be2 (length (p .records)))
     ++ (flat (map idBytes (p .ids)) ++ flat (map recBytes (p .records)))
 
 -- translate: the program of the envelope and the group, if a room of that length has space for it

@@ -4,7 +4,8 @@ use Rattle.rules.specs.Bytes.{Bytes}
 use Rattle.rules.specs.Got.{Got, _>>=_}
 use Rattle.rules.specs.Step.{Env, State, Out, out, step}
 use Rattle.rules.specs.Run.{next, Input, Ran, runOf}
-use Rattle.rules.specs.Program.{Rec, does, jump, NONE}
+use Rattle.rules.specs.Program.{Rec, does, jump}
+use Rattle.rules.specs.ProgramFormat.{NONE}
 use Rattle.rules.specs.ProgramTest.{programIn}
 
 module _ (env : Env) where

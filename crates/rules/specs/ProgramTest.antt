@@ -1,12 +1,13 @@
 -- The program test: the program that bytes are, or refusal 97 at place 0 (01, The flat program: 'Well formed').
-use Rattle.rules.specs.Base.{ℕ, zero, suc, _+_, List, [], _∷_, Bool, true, false, _&&_, _||_, cond, not, Option, some, none, ltb, leb, eqb, length, getD, take, drop, Group, Install, Boot, BadProgram}
+use Rattle.rules.specs.Base.{ℕ, zero, suc, _+_, List, [], _∷_, _++_, Bool, true, false, _&&_, _||_, cond, not, Option, some, none, ltb, leb, eqb, length, getD, take, drop, Group, Install, Boot, BadProgram}
 use Rattle.rules.specs.Limits.{limits}
 use Rattle.rules.specs.Bytes.{Bytes, part, num, same, repeats}
 use Rattle.rules.specs.Got.{Got, refused, got, found, _>>=_}
 use Rattle.rules.specs.Got as G
 use Rattle.rules.specs.Commands.{Op, Params, Form, sixteen, nil, below, alternatives, parameters, sequence, Allowed, anywhere, only, commands, rowOf, among}
 use Rattle.rules.specs.Run.{sectionsOf}
-use Rattle.rules.specs.Program.{Rec, does, jump, Program, NONE, targetOf}
+use Rattle.rules.specs.ProgramFormat.{mark, START, NAME, JUMP, NONE, codeFrom, groupFrom, numberFrom, componentsFrom, recordsFrom, startSize, lengthFrom, nameSize, componentFrom, placeFrom, targetFrom, argumentFrom, recordSize, sourceBytes, sizeBytes}
+use Rattle.rules.specs.Program.{Rec, does, jump, Program, targetOf}
 
 abbrev pub need : Bool → Got (Unit {0})
 need b = G.need b BadProgram 0
@@ -16,7 +17,7 @@ bad = refused BadProgram 0
 
 -- a record's mark and code
 abbrev pub marked : ℕ → Bytes → Bool
-marked c p = same (take 3 p) (0x53 ∷ 0x50 ∷ c ∷ [])
+marked c p = same (take 3 p) (mark ++ (c ∷ []))
 
 -- the parameter of key k, of lo to hi bytes, if it stands next; and what follows
 unfoldable pub optional : {A : Type 0} → ℕ → ℕ → ℕ → (Bytes → A) → Bytes → Got (Option A × Bytes)
@@ -38,9 +39,9 @@ isBelow (some k) n = ltb k n
 unfoldable pub paramsIn : ℕ → Bytes → Got Params
 paramsIn n p = do
   (uri, p₁) ← optional 6 1 (limits .uri) (λ b. b) p
-  (source, p₂) ← optional 10 1 1 num p₁
-  (digest, p₃) ← optional 11 32 32 (λ b. b) p₂
-  (size, p₄) ← optional 12 4 4 num p₃
+  (source, p₂) ← optional 10 sourceBytes sourceBytes num p₁
+  (digest, p₃) ← optional 11 (limits .digest) (limits .digest) (λ b. b) p₂
+  (size, p₄) ← optional 12 sizeBytes sizeBytes num p₃
   _ ← need (same p₄ [])
   _ ← need (isBelow source n)
   got (record { uri = uri; source = source; digest = digest; size = size })
@@ -48,7 +49,7 @@ paramsIn n p = do
 -- the command of a form with component i and those bytes as its argument
 unfoldable pub opIn : ℕ → ℕ → Form → Bytes → Got Op
 opIn n i (sixteen op) p = do
-  _ ← need (eqb (length p) 16)
+  _ ← need (eqb (length p) (limits .class))
   got (op p)
 opIn n i (nil op) p = do
   _ ← need (same p [])
@@ -74,23 +75,23 @@ groupAllows g (only sections) = anyOf (sectionsOf g) sections
 -- record number n of `total`, at the start of p, and what follows it
 unfoldable pub recordIn : Group → ℕ → ℕ → ℕ → Bytes → Got (Rec × Bytes)
 recordIn g comps total n p = do
-  _ ← need (leb 10 (length p) && same (take 2 p) (0x53 ∷ 0x50 ∷ []))
-  let i = getD p 3 0
-  let place = num (part p 4 2)
-  let target = num (part p 6 2)
-  let len = num (part p 8 2)
-  let rest = drop len (drop 10 p)
-  _ ← need (leb (10 + len) (length p))
+  _ ← need (leb recordSize (length p) && same (take 2 p) mark)
+  let i = getD p componentFrom 0
+  let place = num (part p placeFrom 2)
+  let target = num (part p targetFrom 2)
+  let len = num (part p argumentFrom 2)
+  let rest = drop len (drop recordSize p)
+  _ ← need (leb (recordSize + len) (length p))
   let forward = ltb n target && leb target total
-  elim (eqb (getD p 2 0) 0xff) [
+  elim (eqb (getD p codeFrom 0) JUMP) [
     | true ↦ do
       _ ← need (eqb i 0 && eqb place 0 && eqb len 0 && forward)
       got (jump target, rest)
     | false ↦ do
-      row ← found (rowOf (getD p 2 0) commands) BadProgram 0
+      row ← found (rowOf (getD p codeFrom 0) commands) BadProgram 0
       _ ← need (groupAllows g (row .allowed))
       _ ← need (ltb i comps)
-      op ← opIn comps i (row .form) (part p 10 len)
+      op ← opIn comps i (row .form) (part p recordSize len)
       _ ← need (eqb target NONE || eqb (targetOf op target) target && forward)
       got (does op i place target, rest)
   ]
@@ -105,10 +106,10 @@ recordsIn g comps total (suc k) n p = do
 unfoldable pub idsIn : ℕ → Bytes → Got (List Bytes × Bytes)
 idsIn zero p = got ([], p)
 idsIn (suc k) p = do
-  let len = getD p 3 0
-  _ ← need (leb 4 (length p) && marked 0xfd p && leb 1 len && leb len (limits .identifier) && leb (4 + len) (length p))
-  (ids, q) ← idsIn k (drop len (drop 4 p))
-  got (part p 4 len ∷ ids, q)
+  let len = getD p lengthFrom 0
+  _ ← need (leb nameSize (length p) && marked NAME p && leb 1 len && leb len (limits .identifier) && leb (nameSize + len) (length p))
+  (ids, q) ← idsIn k (drop len (drop nameSize p))
+  got (part p nameSize len ∷ ids, q)
 
 abbrev pub nonJumps : List Rec → ℕ
 nonJumps [] = 0
@@ -120,14 +121,14 @@ groupIn g = cond (eqb g 0) (some Install) (cond (eqb g 1) (some Boot) none)
 
 unfoldable pub programIn : Bytes → Got Program
 programIn p = do
-  _ ← need (leb (length p) (limits .program) && leb 11 (length p) && marked 0xfe p)
-  let comps = getD p 8 0
-  let total = num (part p 9 2)
-  g ← found (groupIn (getD p 3 0)) BadProgram 0
+  _ ← need (leb (length p) (limits .program) && leb startSize (length p) && marked START p)
+  let comps = getD p componentsFrom 0
+  let total = num (part p recordsFrom 2)
+  g ← found (groupIn (getD p groupFrom 0)) BadProgram 0
   _ ← need (leb 1 comps && leb comps (limits .components) && leb total (limits .records))
-  (ids, p₁) ← idsIn comps (drop 11 p)
+  (ids, p₁) ← idsIn comps (drop startSize p)
   _ ← need (not (repeats ids))
   (rs, p₂) ← recordsIn g comps total total 0 p₁
   _ ← need (leb (nonJumps rs) (limits .commands))
   _ ← need (same p₂ [])
-  got (record { group = g; number = num (part p 4 4); ids = ids; records = rs })
+  got (record { group = g; number = num (part p numberFrom 4); ids = ids; records = rs })

@@ -4,11 +4,11 @@ use Rattle.rules.specs.Answers.{endNumber}
 use Rattle.rules.specs.Limits.{limits}
 use Rattle.rules.specs.Bytes.{Bytes, num, part, allIn}
 use Rattle.rules.specs.Got.{Got, got, need, _>>=_}
-use Rattle.rules.specs.Commands.{unset, component, among}
+use Rattle.rules.specs.Commands.{COMMON, PAYLOAD_FETCH, INSTALL, VALIDATE, LOAD, RUN, unset, component, among}
 use Rattle.rules.specs.Manifest.{Seq, end, then, Cmd, one, sub, try, Alts, last, or, Section, Manifest, names}
 use Rattle.rules.specs.Check.{check}
 use Rattle.rules.specs.Slots.{answerBytes, goodSlots, slotNames}
-use Rattle.rules.specs.Step.{Env, State, state, Out, out, step, eventBytes}
+use Rattle.rules.specs.Step.{Env, State, state, Out, out, step, eventBytes, eventPlace}
 
 -- the index and coerce after a command of the same sequence
 abbrev pub indexAfter : Cmd → ℕ → ℕ
@@ -32,14 +32,14 @@ abbrev pub next : Out → (State → Out) → (State → Out) → Out
 next o f g = on (o .end) (o .state) f g
 
 module _ (env : Env) where
-  -- a sequence from index i, with its coerce c. `own`: code 30 runs it, so that 'a condition failure inside, while that sequence's coerce
+  -- a sequence from index i, with its coerce c. `coercible`: code 30 runs it, so that 'a condition failure inside, while that sequence's coerce
   -- is true, is a success'
   unfoldable mutual
     pub runSeq : Seq → Bool → ℕ → Bool → State → Out
-    runSeq end own i c st = out Finished st
-    runSeq (then x xs) own i c st =
-        next (runCmd x i st) (λ st′. runSeq xs own (indexAfter x i) (coerceAfter x c) st′)
-        (λ st′. out (cond (own && c) Finished ConditionFailed) st′)
+    runSeq end coercible i c st = out Finished st
+    runSeq (then x xs) coercible i c st =
+        next (runCmd x i st) (λ st′. runSeq xs coercible (indexAfter x i) (coerceAfter x c) st′)
+        (λ st′. out (cond (coercible && c) Finished ConditionFailed) st′)
 
     -- 'A nested sequence starts with its caller's index', and coerce starts false
     pub runCmd : Cmd → ℕ → State → Out
@@ -59,8 +59,8 @@ module _ (env : Env) where
 
 -- 'Install does common, 8, 9; boot does common, 10, 11, 12; each once, absent ones skipped'
 abbrev pub sectionsOf : Group → List ℕ
-sectionsOf Install = 3 ∷ 8 ∷ 9 ∷ []
-sectionsOf Boot = 3 ∷ 10 ∷ 11 ∷ 12 ∷ []
+sectionsOf Install = COMMON ∷ PAYLOAD_FETCH ∷ INSTALL ∷ []
+sectionsOf Boot = COMMON ∷ VALIDATE ∷ LOAD ∷ RUN ∷ []
 
 abbrev pub chosen : List ℕ → List Section → List Seq
 chosen ks [] = []
@@ -113,7 +113,7 @@ isFinished e = eqb (endNumber e) 0
 
 -- 'with the last event's place (0 if finished)'
 abbrev pub endPlace : End → State → ℕ
-endPlace e st = cond (isFinished e) 0 (num (part (st .trace) (eventBytes * st .events - 4) 2))
+endPlace e st = cond (isFinished e) 0 (num (part (st .trace) (eventBytes * st .events - (eventBytes - eventPlace)) 2))
 
 -- 'The device takes the manifest's sequence number exactly when install finishes'
 abbrev pub numberAfter : Group → End → ℕ → ℕ → ℕ

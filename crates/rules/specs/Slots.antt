@@ -8,15 +8,28 @@ use Rattle.rules.specs.Base.{ℕ, zero, suc, _+_, _*_, _/_, _%_, List, [
 use Rattle.rules.specs.Limits.{limits}
 use Rattle.rules.specs.Bytes.{Bytes, part, num, put, indexOf, repeats}
 
+-- an answer, and an image: where size and digest start
+abbrev pub sizeFrom : ℕ
+sizeFrom = 1
+
+abbrev pub digestFrom : ℕ
+digestFrom = sizeFrom + 4
+
 abbrev pub answerBytes : ℕ
-answerBytes = 37
+answerBytes = digestFrom + limits .digest
+
+-- a slot: where identifier, capacity and image start
+abbrev pub idFrom : ℕ
+idFrom = 1
+
+abbrev pub capacityFrom : ℕ
+capacityFrom = idFrom + limits .identifier
+
+abbrev pub imageFrom : ℕ
+imageFrom = capacityFrom + 4
 
 abbrev pub slotBytes : ℕ
-slotBytes = 74
-
--- where in a slot its image starts
-abbrev pub imageFrom : ℕ
-imageFrom = 37
+slotBytes = imageFrom + answerBytes
 
 pub record Slot : Type 0 where
   pub idLength : ℕ
@@ -32,11 +45,11 @@ slotAt b k =
     let at = slotBytes * k in
     record {
       idLength = getD b at 0;
-      id = take (getD b at 0) (part b (at + 1) 32);
-      capacity = num (part b (at + 33) 4);
-      present = not (eqb (getD b (at + 37) 0) 0);
-      size = num (part b (at + 38) 4);
-      digest = part b (at + 42) 32;
+      id = take (getD b at 0) (part b (at + idFrom) (limits .identifier));
+      capacity = num (part b (at + capacityFrom) 4);
+      present = not (eqb (getD b (at + imageFrom) 0) 0);
+      size = num (part b (at + (imageFrom + sizeFrom)) 4);
+      digest = part b (at + (imageFrom + digestFrom)) (limits .digest);
     }
 
 unfoldable pub imageAt : Bytes → ℕ → Bytes

@@ -1,9 +1,9 @@
 -- What one command does: its result, the slots and parameters that it changes, and its event (01, How a run goes).
-use Rattle.rules.specs.Base.{ℕ, _+_, _*_, List, [], _∷_, _++_, Bool, true, false, _&&_, Option, some, none, ltb, leb, eqb, length, getD, set, Controller, Failure, ParameterUnset, Aborted, NoAnswer, BadStatus, TooLarge, NothingToCopy, NothingToRun, End, Finished, ConditionFailed, Started, Failed}
+use Rattle.rules.specs.Base.{ℕ, _+_, _-_, _*_, List, [], _∷_, _++_, Bool, true, false, _&&_, Option, some, none, ltb, leb, eqb, length, getD, set, Controller, Failure, ParameterUnset, Aborted, NoAnswer, BadStatus, TooLarge, NothingToCopy, NothingToRun, End, Finished, ConditionFailed, Started, Failed}
 use Rattle.rules.specs.Answers.{resultNumber}
 use Rattle.rules.specs.Bytes.{Bytes, part, num, be2, same, put}
 use Rattle.rules.specs.Commands.{Op, vendor, class, imageMatch, setIndex, abort, setParams, overrideParams, fetch, copy, run, swap, Params, unset, over, code}
-use Rattle.rules.specs.Slots.{Slot, answerBytes, slotAt, imageAt, putImage, slotOf}
+use Rattle.rules.specs.Slots.{Slot, sizeFrom, answerBytes, slotAt, imageAt, putImage, slotOf}
 
 -- what does not change in a run: the device, the components' identifiers, the host's answers
 pub record Env : Type 0 where
@@ -31,8 +31,16 @@ withSlots st b = state (st .params) b (st .trace) (st .events) (st .used)
 abbrev pub withUsed : State → ℕ → State
 withUsed st n = state (st .params) (st .slots) (st .trace) (st .events) n
 
+-- an event: '`53 54`, code, component, place of the code in 2 bytes, result, 0'
 abbrev pub eventBytes : ℕ
 eventBytes = 8
+
+-- where in it the place is
+abbrev pub eventPlace : ℕ
+eventPlace = 4
+
+abbrev pub event : ℕ → ℕ → ℕ → ℕ → Bytes
+event code i place result = 0x53 ∷ 0x54 ∷ code ∷ i ∷ be2 place ++ (result ∷ 0 ∷ [])
 
 -- the event b after those that are there
 abbrev pub withEvent : State → Bytes → State
@@ -96,8 +104,8 @@ module _ (env : Env) where
       given (paramsOf i st .uri) st λ u.
       unless (ltb (answerBytes * st .used) (length (env .answers))) NoAnswer st
       (unless (eqb (getD a 0 0) 0) BadStatus taken
-      (unless (leb (num (part a 1 4)) (slot i st .capacity)) TooLarge taken
-      (out Finished (filled i (1 ∷ part a 1 36) taken))))
+      (unless (leb (num (part a sizeFrom 4)) (slot i st .capacity)) TooLarge taken
+      (out Finished (filled i (1 ∷ part a sizeFrom (answerBytes - sizeFrom)) taken))))
 
   -- 22: 'source unset, 32; source slot absent, 37; larger than capacity, 36; else size and digest are copied and the slot is present'
   unfoldable pub copies : ℕ → State → Out
@@ -129,8 +137,8 @@ module _ (env : Env) where
   acts run i st = unless (slot i st .present) NothingToRun st (out Started st)
   acts swap i st = swaps i st
 
-  -- the command with its code at `place`, and its event: '`53 54`, code, component, place of the code in 2 bytes, result, 0'
+  -- the command with its code at `place`, and its event
   unfoldable pub step : Op → ℕ → ℕ → State → Out
   step op i place st =
       let o = acts op i st in
-      out (o .end) (withEvent (o .state) (0x53 ∷ 0x54 ∷ code op ∷ i ∷ be2 place ++ (resultNumber (o .end) ∷ 0 ∷ [])))
+      out (o .end) (withEvent (o .state) (event (code op) i place (resultNumber (o .end))))

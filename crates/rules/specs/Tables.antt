@@ -1,8 +1,8 @@
 -- The tables of commands and parameters as the code keeps them: constant arrays, and one table by number that is lent to each look-up.
-use Rattle.rules.specs.Base.{ℕ, zero, suc, _+_, _*_, List, [], _∷_, _++_, cond, Option, some, none, eqb, Argument, Sixteen, Nil, Index, Alternatives, Parameters, Sequence, Command, Listed, Parameter, Coerce, Uri, Source, Digest, Size, ParameterRow, Known}
+use Rattle.rules.specs.Base.{ℕ, zero, suc, _+_, _*_, List, [], _∷_, _++_, Bool, true, false, cond, Option, some, none, eqb, Argument, Sixteen, Nil, Index, Alternatives, Parameters, Sequence, Command, Listed, Parameter, Coerce, Uri, Source, Digest, Size, ParameterRow, Known}
 use Rattle.rules.specs.declared.tables.Listed.the-variants as L
 use Rattle.rules.specs.declared.tables.Known.the-variants as K
-use Rattle.rules.specs.Commands.{Form, sixteen, nil, below, alternatives, parameters, sequence, Allowed, anywhere, only, Row, commands, rowOf, ParamRow, params, paramOf}
+use Rattle.rules.specs.Commands.{Form, sixteen, nil, below, alternatives, parameters, sequence, Allowed, anywhere, only, COMMON, PAYLOAD_FETCH, INSTALL, VALIDATE, LOAD, RUN, Row, commands, rowOf, ParamRow, params, paramOf}
 
 abbrev pub kindOf : Form → Argument
 kindOf (sixteen op) = Sixteen
@@ -15,7 +15,8 @@ kindOf sequence = Sequence
 -- a set of sections as a number: 1 for common, and 2, 4, 8, 16, 32 for sections 8 to 12
 abbrev pub weightOf : ℕ → ℕ
 weightOf k =
-    cond (eqb k 8) 2 (cond (eqb k 9) 4 (cond (eqb k 10) 8 (cond (eqb k 11) 16 (cond (eqb k 12) 32 1))))
+    cond (eqb k PAYLOAD_FETCH) 2
+    (cond (eqb k INSTALL) 4 (cond (eqb k VALIDATE) 8 (cond (eqb k LOAD) 16 (cond (eqb k RUN) 32 1))))
 
 abbrev pub weights : List ℕ → ℕ
 weights [] = 0
@@ -27,7 +28,7 @@ setOf (only sections) = weights sections
 
 -- the rows of the constant arrays
 abbrev pub asCommand : Row → Command
-asCommand r = record { code = r .number; argument = kindOf (r .form); sections = setOf (r .allowed) }
+asCommand r = record { code = r .number; condition = r .condition; argument = kindOf (r .form); sections = setOf (r .allowed) }
 
 abbrev pub asParameterRow : ParamRow → ParameterRow
 asParameterRow r = record { key = r .number; parameter = r .param }
@@ -70,9 +71,13 @@ knownAt n =
     (cond (eqb n 4) (K.Parameter Digest) (cond (eqb n 5) (K.Parameter Size) K.Unknown))))
 
 -- the entries of the table by number: 0 where nothing is listed
+abbrev pub bitOf : Bool → ℕ
+bitOf false = 0
+bitOf true = 1
+
 abbrev pub packed : Listed → ℕ
 packed L.Unlisted = 0
-packed (L.Command c) = argumentNumber (c .argument) * 64 + c .sections
+packed (L.Command c) = bitOf (c .condition) * 512 + argumentNumber (c .argument) * 64 + c .sections
 
 abbrev pub packedParameter : Known → ℕ
 packedParameter K.Unknown = 0
@@ -83,10 +88,16 @@ abbrev pub values : {A : Type 0} → (ℕ → A) → ℕ → List A
 values f zero = []
 values f (suc n) = f 0 ∷ values (λ k. f (suc k)) n
 
--- at c the command of code c, at 33 + k the parameter of key k
+-- at c the command of code c, and behind them at k the parameter of key k
+abbrev pub codes : ℕ
+codes = 33
+
+abbrev pub keys : ℕ
+keys = 13
+
 unfoldable pub tableOf : List Row → List ParamRow → List ℕ
 tableOf rows ps =
-    values (λ c. packed (listed (rowOf c rows))) 33 ++ values (λ k. packedParameter (known (paramOf k ps))) 13
+    values (λ c. packed (listed (rowOf c rows))) codes ++ values (λ k. packedParameter (known (paramOf k ps))) keys
 
 unfoldable pub byNumber : List ℕ
 byNumber = tableOf commands params

@@ -19,7 +19,7 @@ impl Group {
     }
 }
 
-// Why a job refuses, in the order of the table.
+// Why a job refuses, in the order of the table. Each number of document 01 stands here once.
 pub enum Refusal {
     EnvelopeTooLong,
     NotCbor,
@@ -44,30 +44,70 @@ pub enum Refusal {
 }
 
 impl Refusal {
-    pub fn number(self) -> u8
+    pub const ENVELOPE_TOO_LONG: usize = 64;
+
+    pub const NOT_CBOR: usize = 65;
+
+    pub const MALFORMED: usize = 66;
+
+    pub const WRONG_VERSION: usize = 67;
+
+    pub const REPEATED_IDENTIFIER: usize = 68;
+
+    pub const UNKNOWN_COMMAND: usize = 69;
+
+    pub const UNKNOWN_PARAMETER: usize = 70;
+
+    pub const NOT_ALLOWED: usize = 71;
+
+    pub const NO_SUCH_COMPONENT: usize = 72;
+
+    pub const TOO_DEEP: usize = 73;
+
+    pub const TOO_MANY_COMMANDS: usize = 74;
+
+    pub const NOT_VERIFIED: usize = 80;
+
+    pub const EVENT_OPEN: usize = 81;
+
+    pub const WRONG_NUMBER: usize = 82;
+
+    pub const BAD_SLOTS: usize = 85;
+
+    pub const NO_SLOT: usize = 83;
+
+    pub const BAD_ANSWERS: usize = 86;
+
+    pub const SHORT_TRACE: usize = 84;
+
+    pub const SHORT_ROOM: usize = 96;
+
+    pub const BAD_PROGRAM: usize = 97;
+
+    pub fn number(self) -> usize
         ensures { λ r. ⌜ r ≡ refusalNumber self ⌝ }
     {
         match self {
-            Refusal::EnvelopeTooLong => 64,
-            Refusal::NotCbor => 65,
-            Refusal::Malformed => 66,
-            Refusal::WrongVersion => 67,
-            Refusal::RepeatedIdentifier => 68,
-            Refusal::UnknownCommand => 69,
-            Refusal::UnknownParameter => 70,
-            Refusal::NotAllowed => 71,
-            Refusal::NoSuchComponent => 72,
-            Refusal::TooDeep => 73,
-            Refusal::TooManyCommands => 74,
-            Refusal::NotVerified => 80,
-            Refusal::EventOpen => 81,
-            Refusal::WrongNumber => 82,
-            Refusal::BadSlots => 85,
-            Refusal::NoSlot => 83,
-            Refusal::BadAnswers => 86,
-            Refusal::ShortTrace => 84,
-            Refusal::ShortRoom => 96,
-            Refusal::BadProgram => 97,
+            Refusal::EnvelopeTooLong => Refusal::ENVELOPE_TOO_LONG,
+            Refusal::NotCbor => Refusal::NOT_CBOR,
+            Refusal::Malformed => Refusal::MALFORMED,
+            Refusal::WrongVersion => Refusal::WRONG_VERSION,
+            Refusal::RepeatedIdentifier => Refusal::REPEATED_IDENTIFIER,
+            Refusal::UnknownCommand => Refusal::UNKNOWN_COMMAND,
+            Refusal::UnknownParameter => Refusal::UNKNOWN_PARAMETER,
+            Refusal::NotAllowed => Refusal::NOT_ALLOWED,
+            Refusal::NoSuchComponent => Refusal::NO_SUCH_COMPONENT,
+            Refusal::TooDeep => Refusal::TOO_DEEP,
+            Refusal::TooManyCommands => Refusal::TOO_MANY_COMMANDS,
+            Refusal::NotVerified => Refusal::NOT_VERIFIED,
+            Refusal::EventOpen => Refusal::EVENT_OPEN,
+            Refusal::WrongNumber => Refusal::WRONG_NUMBER,
+            Refusal::BadSlots => Refusal::BAD_SLOTS,
+            Refusal::NoSlot => Refusal::NO_SLOT,
+            Refusal::BadAnswers => Refusal::BAD_ANSWERS,
+            Refusal::ShortTrace => Refusal::SHORT_TRACE,
+            Refusal::ShortRoom => Refusal::SHORT_ROOM,
+            Refusal::BadProgram => Refusal::BAD_PROGRAM,
         }
     }
 
@@ -76,25 +116,25 @@ impl Refusal {
         ensures { λ r. ⌜ r ≡ refusalOf number ⌝ }
     {
         match number {
-            64 => Refusal::EnvelopeTooLong,
-            65 => Refusal::NotCbor,
-            66 => Refusal::Malformed,
-            67 => Refusal::WrongVersion,
-            68 => Refusal::RepeatedIdentifier,
-            69 => Refusal::UnknownCommand,
-            70 => Refusal::UnknownParameter,
-            71 => Refusal::NotAllowed,
-            72 => Refusal::NoSuchComponent,
-            73 => Refusal::TooDeep,
-            74 => Refusal::TooManyCommands,
-            80 => Refusal::NotVerified,
-            81 => Refusal::EventOpen,
-            82 => Refusal::WrongNumber,
-            83 => Refusal::NoSlot,
-            84 => Refusal::ShortTrace,
-            85 => Refusal::BadSlots,
-            86 => Refusal::BadAnswers,
-            96 => Refusal::ShortRoom,
+            Refusal::ENVELOPE_TOO_LONG => Refusal::EnvelopeTooLong,
+            Refusal::NOT_CBOR => Refusal::NotCbor,
+            Refusal::MALFORMED => Refusal::Malformed,
+            Refusal::WRONG_VERSION => Refusal::WrongVersion,
+            Refusal::REPEATED_IDENTIFIER => Refusal::RepeatedIdentifier,
+            Refusal::UNKNOWN_COMMAND => Refusal::UnknownCommand,
+            Refusal::UNKNOWN_PARAMETER => Refusal::UnknownParameter,
+            Refusal::NOT_ALLOWED => Refusal::NotAllowed,
+            Refusal::NO_SUCH_COMPONENT => Refusal::NoSuchComponent,
+            Refusal::TOO_DEEP => Refusal::TooDeep,
+            Refusal::TOO_MANY_COMMANDS => Refusal::TooManyCommands,
+            Refusal::NOT_VERIFIED => Refusal::NotVerified,
+            Refusal::EVENT_OPEN => Refusal::EventOpen,
+            Refusal::WRONG_NUMBER => Refusal::WrongNumber,
+            Refusal::NO_SLOT => Refusal::NoSlot,
+            Refusal::SHORT_TRACE => Refusal::ShortTrace,
+            Refusal::BAD_SLOTS => Refusal::BadSlots,
+            Refusal::BAD_ANSWERS => Refusal::BadAnswers,
+            Refusal::SHORT_ROOM => Refusal::ShortRoom,
             _ => Refusal::BadProgram,
         }
     }
@@ -112,17 +152,31 @@ pub enum Failure {
 }
 
 impl Failure {
-    pub fn number(self) -> u8
+    pub const PARAMETER_UNSET: usize = 32;
+
+    pub const ABORTED: usize = 33;
+
+    pub const NO_ANSWER: usize = 34;
+
+    pub const BAD_STATUS: usize = 35;
+
+    pub const TOO_LARGE: usize = 36;
+
+    pub const NOTHING_TO_COPY: usize = 37;
+
+    pub const NOTHING_TO_RUN: usize = 38;
+
+    pub fn number(self) -> usize
         ensures { λ r. ⌜ r ≡ failureNumber self ⌝ }
     {
         match self {
-            Failure::ParameterUnset => 32,
-            Failure::Aborted => 33,
-            Failure::NoAnswer => 34,
-            Failure::BadStatus => 35,
-            Failure::TooLarge => 36,
-            Failure::NothingToCopy => 37,
-            Failure::NothingToRun => 38,
+            Failure::ParameterUnset => Failure::PARAMETER_UNSET,
+            Failure::Aborted => Failure::ABORTED,
+            Failure::NoAnswer => Failure::NO_ANSWER,
+            Failure::BadStatus => Failure::BAD_STATUS,
+            Failure::TooLarge => Failure::TOO_LARGE,
+            Failure::NothingToCopy => Failure::NOTHING_TO_COPY,
+            Failure::NothingToRun => Failure::NOTHING_TO_RUN,
         }
     }
 
@@ -131,12 +185,12 @@ impl Failure {
         ensures { λ r. ⌜ r ≡ failureOf number ⌝ }
     {
         match number {
-            32 => Failure::ParameterUnset,
-            33 => Failure::Aborted,
-            34 => Failure::NoAnswer,
-            35 => Failure::BadStatus,
-            36 => Failure::TooLarge,
-            37 => Failure::NothingToCopy,
+            Failure::PARAMETER_UNSET => Failure::ParameterUnset,
+            Failure::ABORTED => Failure::Aborted,
+            Failure::NO_ANSWER => Failure::NoAnswer,
+            Failure::BAD_STATUS => Failure::BadStatus,
+            Failure::TOO_LARGE => Failure::TooLarge,
+            Failure::NOTHING_TO_COPY => Failure::NothingToCopy,
             _ => Failure::NothingToRun,
         }
     }
@@ -151,13 +205,19 @@ pub enum End {
 }
 
 impl End {
-    pub fn number(self) -> u8
+    pub const FINISHED: usize = 0;
+
+    pub const CONDITION_FAILED: usize = 1;
+
+    pub const STARTED: usize = 2;
+
+    pub fn number(self) -> usize
         ensures { λ r. ⌜ r ≡ endNumber self ⌝ }
     {
         match self {
-            End::Finished => 0,
-            End::ConditionFailed => 1,
-            End::Started => 2,
+            End::Finished => End::FINISHED,
+            End::ConditionFailed => End::CONDITION_FAILED,
+            End::Started => End::STARTED,
             End::Failed(failure) => failure.number(),
         }
     }
@@ -167,9 +227,9 @@ impl End {
         ensures { λ r. ⌜ r ≡ endOf number ⌝ }
     {
         match number {
-            0 => End::Finished,
-            1 => End::ConditionFailed,
-            2 => End::Started,
+            End::FINISHED => End::Finished,
+            End::CONDITION_FAILED => End::ConditionFailed,
+            End::STARTED => End::Started,
             _ => End::Failed(Failure::of(number)),
         }
     }

@@ -4,8 +4,8 @@ ghost use Rattle.rules.specs.Limits.{limits};
 
 // A device as a run sees it.
 pub struct Controller {
-    pub vendor: [u8; 16],
-    pub class: [u8; 16],
+    pub vendor: Sixteen,
+    pub class: Sixteen,
     // the sequence number of the manifest that was installed last
     pub number: u32,
     // an event is open, so nothing may be installed
@@ -35,6 +35,10 @@ impl Controller {
 
     pub const URI_BYTES: usize = 96;
 
+    pub const DIGEST_BYTES: usize = 32;
+
+    pub const CLASS_BYTES: usize = 16;
+
     pub const SLOTS: usize = 8;
 
     pub const TRACE_BYTES: usize = 2048;
@@ -44,19 +48,46 @@ impl Controller {
     pub const PROGRAM_BYTES: usize = 32768;
 }
 
+// A vendor or a class.
+pub type Sixteen = [u8; Controller::CLASS_BYTES];
+
+// Where each identifier stands: its first byte, and the one after its last.
+pub const PLACES: usize = 2 * Controller::COMPONENTS;
+
+pub type Places = [usize; PLACES];
+
+// Common's sequence and sections 8 to 12; where each stands, as identifiers.
+pub const SECTIONS: usize = 6;
+
+pub const SECTION_PLACES: usize = 2 * SECTIONS;
+
+pub type SectionPlaces = [usize; SECTION_PLACES];
+
+// The number of each component's slot.
+pub type SlotNumbers = [usize; Controller::COMPONENTS];
+
+// Each component's parameters, as numbers.
+pub const PARAMETER_NUMBERS: usize = 5;
+
+pub const ALL_PARAMETERS: usize = PARAMETER_NUMBERS * Controller::COMPONENTS;
+
+pub type AllParameters = [usize; ALL_PARAMETERS];
+
 // The limits as a value, which ties the constants to the numbers of specs/Limits.
 pub struct Limits {
     pub envelope: usize,
-    pub number: usize,
+    pub largest: usize,
     pub components: usize,
     pub parts: usize,
     pub identifier: usize,
-    pub pairs: usize,
+    pub sequence: usize,
     pub depth: usize,
     pub commands: usize,
     pub alternatives: usize,
     pub parameters: usize,
     pub uri: usize,
+    pub digest: usize,
+    pub class: usize,
     pub slots: usize,
     pub trace: usize,
     pub records: usize,
@@ -69,16 +100,18 @@ impl Controller {
     {
         Limits {
             envelope: Controller::ENVELOPE_BYTES,
-            number: Controller::LARGEST_NUMBER,
+            largest: Controller::LARGEST_NUMBER,
             components: Controller::COMPONENTS,
             parts: Controller::IDENTIFIER_PARTS,
             identifier: Controller::IDENTIFIER_BYTES,
-            pairs: Controller::SEQUENCE_COMMANDS,
+            sequence: Controller::SEQUENCE_COMMANDS,
             depth: Controller::DEPTH,
             commands: Controller::COMMANDS,
             alternatives: Controller::ALTERNATIVES,
             parameters: Controller::PARAMETERS,
             uri: Controller::URI_BYTES,
+            digest: Controller::DIGEST_BYTES,
+            class: Controller::CLASS_BYTES,
             slots: Controller::SLOTS,
             trace: Controller::TRACE_BYTES,
             records: Controller::RECORDS,

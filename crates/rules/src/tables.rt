@@ -12,6 +12,8 @@ pub enum Argument {
 
 pub struct Command {
     pub code: u8,
+    // its failure is one that a run sequence or a try each may catch
+    pub condition: bool,
     pub argument: Argument,
     pub sections: u8,
 }

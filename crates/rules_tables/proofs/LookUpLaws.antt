@@ -2,8 +2,8 @@
 use Prim.Native.Nat.{ℕ, zero, suc, _+_, _/_, _%_, _≤_, _<_}
 use mathlib.Core.Path.{_≡_, refl}
 use mathlib.Core.List.{List, [], _∷_, head-eq-of-cons-eq, tail-eq-of-cons-eq}
-use mathlib.Core.Bool.{Bool, true, cond}
-use mathlib.Core.Option.{none}
+use mathlib.Core.Bool.{Bool, true, false, cond}
+use mathlib.Core.Option.{Option, some, none}
 use native.Mathlib.Nat.{le-of-suc-le-suc, not-suc-le-zero}
 use native.Mathlib.Numerals.{add-one}
 use native.Mathlib.Omega.{arith}
@@ -13,8 +13,8 @@ use lib.ListN.{length, getD, drop, set}
 use lib.Seq.{drop-cons}
 use Rattle.rules.specs.declared.tables.Listed.{Listed}
 use Rattle.rules.specs.declared.tables.Listed.the-variants as L
-use Rattle.rules.specs.Commands.{Row, commands, rowOf, ParamRow, params, paramOf}
-use Rattle.rules.specs.Tables.{listed, known, argumentAt, knownAt, values, tableOf, byNumber}
+use Rattle.rules.specs.Commands.{Row, commands, rowOf, conditionIn, ParamRow, params, paramOf}
+use Rattle.rules.specs.Tables.{listed, known, argumentAt, knownAt, values, codes, keys, tableOf, byNumber}
 use Rattle.rules.proofs.TableLaws.{all, both}
 
 module _ {A : Type 0} where
@@ -44,15 +44,15 @@ module _ {A : Type 0} where
 
 -- the command of code c, from its entry e
 abbrev pub unpacked : ℕ → ℕ → Listed
-unpacked c e = cond (eqb e 0) L.Unlisted (L.Command (record { code = c; argument = argumentAt (e / 64); sections = e % 64 }))
+unpacked c e = cond (eqb e 0) L.Unlisted (L.Command (record { code = c; condition = eqb (e / 512) 1; argument = argumentAt (e / 64 % 8); sections = e % 64 }))
 
-pub listed-at : (t : List ℕ) (c : ℕ) → t ≡ byNumber → c < 33 → unpacked c (getD t c 0) ≡ listed (rowOf c commands)
+pub listed-at : (t : List ℕ) (c : ℕ) → t ≡ byNumber → c < codes → unpacked c (getD t c 0) ≡ listed (rowOf c commands)
 unfolding tableOf byNumber
-listed-at t c e h = rw e (agree (λ k. unpacked k (getD byNumber k 0)) (λ k. listed (rowOf k commands)) 33 c refl h)
+listed-at t c e h = rw e (agree (λ k. unpacked k (getD byNumber k 0)) (λ k. listed (rowOf k commands)) codes c refl h)
 
-pub known-at : (t : List ℕ) (k : ℕ) → t ≡ byNumber → k < 13 → knownAt (getD t (33 + k) 0) ≡ known (paramOf k params)
+pub known-at : (t : List ℕ) (k : ℕ) → t ≡ byNumber → k < keys → knownAt (getD t (codes + k) 0) ≡ known (paramOf k params)
 unfolding tableOf byNumber
-known-at t k e h = rw e (agree (λ k. knownAt (getD byNumber (33 + k) 0)) (λ k. known (paramOf k params)) 13 k refl h)
+known-at t k e h = rw e (agree (λ k. knownAt (getD byNumber (codes + k) 0)) (λ k. known (paramOf k params)) keys k refl h)
 
 -- a number that is not below n is in no table within n
 pub no-row : (n : ℕ) (rs : List Row) (c : ℕ) → within (λ r. r .number) n rs ≡ true → n ≤ c → rowOf c rs ≡ none
@@ -66,3 +66,12 @@ no-param n [] c t h = refl
 no-param n (r ∷ rs) c t h =
     let (b, bs) = both (λ x. ltb (x .number) n) r rs t in
     rw (ne-eqb c (r .number) (λ e. omega (arith, ltb-true (r .number) n b)), paramOf) (no-param n rs c bs h)
+
+-- the column of conditions, as a look-up tells it
+abbrev pub conditionTold : Listed → Bool
+conditionTold (L.Command c) = c .condition
+conditionTold L.Unlisted = false
+
+pub condition-told : (x : Option Row) → conditionTold (listed x) ≡ conditionIn x
+condition-told none = refl
+condition-told (some r) = refl

@@ -1,16 +1,30 @@
 // The tables of commands and parameters, as data: check, the program test and translation take codes and keys from here.
 ghost use mathlib.Core.Path.{_≡_};
 ghost use mathlib.Core.List.{[], map};
+ghost use Prim.Native.Nat.{_≤_};
 ghost use Rattle.rules.specs.declared.tables.Listed.the-variants as L;
-ghost use Rattle.rules.specs.Commands.{commands, rowOf, params, paramOf};
+ghost use Rattle.rules.specs.Commands.{commands, rowOf, conditionIn, params, paramOf};
 ghost use Rattle.rules_tables.specs.Kinds.{kindOf};
-ghost use Rattle.rules.specs.Tables.{asCommand, asParameterRow, listed, known, argumentNumber, argumentAt, parameterNumber, knownAt, packed, tableOf, byNumber};
+ghost use Rattle.rules.specs.Tables.{asCommand, asParameterRow, listed, known, argumentNumber, argumentAt, parameterNumber, knownAt, bitOf, packed, tableOf, byNumber};
+use rules::codes;
+use rules::controller::Controller;
 use rules::tables::Argument;
 use rules::tables::Command;
 use rules::tables::Known;
 use rules::tables::Listed;
 use rules::tables::Parameter;
 use rules::tables::ParameterRow;
+
+// The rows of the table of commands; in the table by number one entry for each code, then one for each key.
+pub const ROWS: usize = 13;
+
+const CODES: usize = codes::SWAP + 1;
+
+const KEYS: usize = codes::SIZE + 1;
+
+const ENTRIES: usize = CODES + KEYS;
+
+pub type Table = [u16; ENTRIES];
 
 // A set of sections is the sum of its members.
 pub const COMMON: u8 = 1;
@@ -27,93 +41,106 @@ pub const RUN: u8 = 32;
 
 pub const ANYWHERE: u8 = COMMON + PAYLOAD_FETCH + INSTALL + VALIDATE + LOAD + RUN;
 
-pub const COMMANDS: [Command; 13] = [
+pub const COMMANDS: [Command; ROWS] = [
     Command {
-        code: 1,
+        code: codes::VENDOR as u8,
+        condition: true,
         argument: Argument::Sixteen,
         sections: ANYWHERE,
     },
     Command {
-        code: 2,
+        code: codes::CLASS as u8,
+        condition: true,
         argument: Argument::Sixteen,
         sections: ANYWHERE,
     },
     Command {
-        code: 3,
+        code: codes::IMAGE_MATCH as u8,
+        condition: true,
         argument: Argument::Nil,
         sections: ANYWHERE,
     },
     Command {
-        code: 12,
+        code: codes::SET_INDEX as u8,
+        condition: false,
         argument: Argument::Index,
         sections: ANYWHERE,
     },
     Command {
-        code: 14,
+        code: codes::ABORT as u8,
+        condition: false,
         argument: Argument::Nil,
         sections: ANYWHERE,
     },
     Command {
-        code: 15,
+        code: codes::TRY_EACH as u8,
+        condition: false,
         argument: Argument::Alternatives,
         sections: ANYWHERE,
     },
     Command {
-        code: 19,
+        code: codes::SET_PARAMETERS as u8,
+        condition: false,
         argument: Argument::Parameters,
         sections: ANYWHERE,
     },
     Command {
-        code: 20,
+        code: codes::OVERRIDE_PARAMETERS as u8,
+        condition: false,
         argument: Argument::Parameters,
         sections: ANYWHERE,
     },
     Command {
-        code: 21,
+        code: codes::FETCH as u8,
+        condition: false,
         argument: Argument::Nil,
         sections: PAYLOAD_FETCH + INSTALL,
     },
     Command {
-        code: 22,
+        code: codes::COPY as u8,
+        condition: false,
         argument: Argument::Nil,
         sections: PAYLOAD_FETCH + INSTALL + LOAD,
     },
     Command {
-        code: 23,
+        code: codes::RUN as u8,
+        condition: false,
         argument: Argument::Nil,
         sections: RUN,
     },
     Command {
-        code: 30,
+        code: codes::RUN_SEQUENCE as u8,
+        condition: false,
         argument: Argument::Sequence,
         sections: ANYWHERE,
     },
     Command {
-        code: 32,
+        code: codes::SWAP as u8,
+        condition: false,
         argument: Argument::Nil,
         sections: PAYLOAD_FETCH + INSTALL + LOAD,
     },
 ];
 
-pub const PARAMETERS: [ParameterRow; 5] = [
+pub const PARAMETERS: [ParameterRow; Controller::PARAMETERS] = [
     ParameterRow {
-        key: 2,
+        key: codes::COERCE as u8,
         parameter: Parameter::Coerce,
     },
     ParameterRow {
-        key: 6,
+        key: codes::URI as u8,
         parameter: Parameter::Uri,
     },
     ParameterRow {
-        key: 10,
+        key: codes::SOURCE as u8,
         parameter: Parameter::Source,
     },
     ParameterRow {
-        key: 11,
+        key: codes::DIGEST as u8,
         parameter: Parameter::Digest,
     },
     ParameterRow {
-        key: 12,
+        key: codes::SIZE as u8,
         parameter: Parameter::Size,
     },
 ];
@@ -144,12 +171,18 @@ fn argument_at(number: u16) -> Argument
     }
 }
 
+fn bit(b: bool) -> u16
+    ensures { λ r. ⌜ (r ≡ bitOf b) × (r ≤ 1) ⌝ }
+{
+    if b { 1 } else { 0 }
+}
+
 // Its entry in the table by number.
 fn entry(row: Command) -> u16
     ensures { λ r. ⌜ r ≡ packed (L.Command row) ⌝ }
 {
     let argument = row.argument;
-    argument_number(argument) as u16 * 64 + row.sections as u16
+    bit(row.condition) * 512 + argument_number(argument) as u16 * 64 + row.sections as u16
 }
 
 fn parameter_number(parameter: Parameter) -> u16
@@ -178,25 +211,25 @@ fn known_at(number: u16) -> Known
 }
 
 // The two constants are the rule's tables.
-fn command_rows() -> [Command; 13]
+fn command_rows() -> [Command; ROWS]
     ensures { λ r. ⌜ r ≡ map asCommand commands ⌝ }
 {
     COMMANDS
 }
 
-fn parameter_rows() -> [ParameterRow; 5]
+fn parameter_rows() -> [ParameterRow; Controller::PARAMETERS]
     ensures { λ r. ⌜ r ≡ map asParameterRow params ⌝ }
 {
     PARAMETERS
 }
 
-fn with_commands(rows: [Command; 13]) -> [u16; 46]
+fn with_commands(rows: [Command; ROWS]) -> Table
     requires { ⌜ rows ≡ map asCommand commands ⌝ }
     ensures { λ r. ⌜ r ≡ tableOf commands [] ⌝ }
 {
-    let mut table = [0u16; 46];
+    let mut table = [0u16; ENTRIES];
     let mut i = 0;
-    while i < 13 {
+    while i < ROWS {
         let row = rows[i];
         table[row.code as usize] = entry(row);
         i += 1;
@@ -204,33 +237,33 @@ fn with_commands(rows: [Command; 13]) -> [u16; 46]
     table
 }
 
-fn with_parameters(mut table: [u16; 46], rows: [ParameterRow; 5]) -> [u16; 46]
+fn with_parameters(mut table: Table, rows: [ParameterRow; Controller::PARAMETERS]) -> Table
     requires { ⌜ (table ≡ tableOf commands []) × (rows ≡ map asParameterRow params) ⌝ }
     ensures { λ r. ⌜ r ≡ byNumber ⌝ }
 {
     let mut i = 0;
-    while i < 5 {
+    while i < Controller::PARAMETERS {
         let row = rows[i];
         let parameter = row.parameter;
-        table[33 + row.key as usize] = parameter_number(parameter);
+        table[CODES + row.key as usize] = parameter_number(parameter);
         i += 1;
     }
     table
 }
 
-// Both tables by number, made once and lent to each look-up: at c the command of code c, at 33 + k the parameter of key k,
+// Both tables by number, made once and lent to each look-up: at c the command of code c, behind them at k the parameter of key k,
 // and 0 where nothing is listed.
-pub fn tables() -> [u16; 46]
+pub fn tables() -> Table
     ensures { λ r. ⌜ r ≡ byNumber ⌝ }
 {
     with_parameters(with_commands(command_rows()), parameter_rows())
 }
 
-pub fn look_up(table: &[u16; 46], code: usize) -> Listed
+pub fn look_up(table: &Table, code: usize) -> Listed
     requires { ⌜ now table ≡ byNumber ⌝ }
     ensures { λ r. ⌜ r ≡ listed (rowOf code commands) ⌝ }
 {
-    if code > 32 {
+    if CODES <= code {
         return Listed::Unlisted;
     }
     let entry = table[code];
@@ -239,19 +272,20 @@ pub fn look_up(table: &[u16; 46], code: usize) -> Listed
     }
     Listed::Command(Command {
         code: code as u8,
-        argument: argument_at(entry / 64),
+        condition: entry / 512 == 1,
+        argument: argument_at(entry / 64 % 8),
         sections: (entry % 64) as u8,
     })
 }
 
-pub fn look_up_parameter(table: &[u16; 46], key: usize) -> Known
+pub fn look_up_parameter(table: &Table, key: usize) -> Known
     requires { ⌜ now table ≡ byNumber ⌝ }
     ensures { λ r. ⌜ r ≡ known (paramOf key params) ⌝ }
 {
-    if key > 12 {
+    if KEYS <= key {
         return Known::Unknown;
     }
-    known_at(table[33 + key])
+    known_at(table[CODES + key])
 }
 
 // For a tool that looks up once.
@@ -269,5 +303,16 @@ pub fn argument_of(code: usize) -> Argument
     match row {
         Listed::Command(command) => command.argument,
         Listed::Unlisted => Argument::Nil,
+    }
+}
+
+// Whether a command is a condition; false where the code is not listed.
+pub fn condition_of(code: usize) -> bool
+    ensures { λ r. ⌜ r ≡ conditionIn (rowOf code commands) ⌝ }
+{
+    let row = command_of(code);
+    match row {
+        Listed::Command(command) => command.condition,
+        Listed::Unlisted => false,
     }
 }

@@ -25,7 +25,8 @@ use Rattle.rules.specs.Check.{check}
 use Rattle.rules.specs.Slots.{slotBytes, imageFrom, answerBytes, imageAt, slotOf}
 use Rattle.rules.specs.Step.{Env, State, Out, out, withUsed, eventBytes, unless, given, passes, slotNo, image, filled, paramsOf, matches, fetches, copies, swaps, acts, step}
 use Rattle.rules.specs.Run.{on, next, indexAfter, coerceAfter, runSeq, runCmd, runAlts, runAll, planOf, Input, Ran, admit, report, startState, envOf, runOf, runEnvelope}
-use Rattle.rules.specs.Program.{Rec, does, jump, Program, NONE}
+use Rattle.rules.specs.Program.{Rec, does, jump, Program}
+use Rattle.rules.specs.ProgramFormat.{NONE}
 use Rattle.rules.specs.ProgramTest.{marked, groupIn, idsIn, recordsIn, nonJumps, programIn}
 use Rattle.rules.specs.ProgramRun.{exec, runProgram}
 use Rattle.rules.proofs.GotLaws.{passed, split, split₂, or-false}
@@ -274,11 +275,11 @@ module _ (env : Env) where
   mutual
     unfolding runSeq count
 
-    pub seq-reaches : (s : Seq) (own : Bool) (i : ℕ) (c : Bool) (st : State) → Reaches (count s) st (runSeq env s own i c st)
-    seq-reaches end own i c st = stays 0 st Finished
-    seq-reaches (then x xs) own i c st =
+    pub seq-reaches : (s : Seq) (coercible : Bool) (i : ℕ) (c : Bool) (st : State) → Reaches (count s) st (runSeq env s coercible i c st)
+    seq-reaches end coercible i c st = stays 0 st Finished
+    seq-reaches (then x xs) coercible i c st =
         next-law (countCmd x) (count xs) st (runCmd env x i st) _ _ (cmd-reaches x i st)
-        (λ st′. seq-reaches xs own (indexAfter x i) (coerceAfter x c) st′) (λ st′. stays (count xs) st′ _)
+        (λ st′. seq-reaches xs coercible (indexAfter x i) (coerceAfter x c) st′) (λ st′. stays (count xs) st′ _)
 
     pub cmd-reaches : (x : Cmd) (i : ℕ) (st : State) → Reaches (countCmd x) st (runCmd env x i st)
     cmd-reaches (one p op b) i st = step-reaches op (component op i) p st

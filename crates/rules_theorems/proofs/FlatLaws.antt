@@ -13,7 +13,8 @@ use Rattle.rules.specs.Bytes.{Bytes, flat}
 use Rattle.rules.specs.Commands.{Op, component, isCondition, among, Allowed, anywhere, only, isAllowed}
 use Rattle.rules.specs.Manifest.{Seq, end, then, Cmd, one, sub, try, Alts, last, or, count, countCmd, countAlts, Section, countAll, Manifest, names}
 use Rattle.rules.specs.Run.{indexAfter, coerceAfter, sectionsOf, chosen, planOf}
-use Rattle.rules.specs.Program.{Rec, does, jump, NONE, targetOf, size, sizeCmd, sizeAlts, flatSeq, flatCmd, flatAlts, flatAll, programOf, argBytes, recBytes, idBytes, programBytes}
+use Rattle.rules.specs.Program.{Rec, does, jump, targetOf, size, sizeCmd, sizeAlts, flatSeq, flatCmd, flatAlts, flatAll, programOf, argBytes, recBytes, idBytes, programBytes}
+use Rattle.rules.specs.ProgramFormat.{NONE}
 use Rattle.rules.specs.ProgramSize.{argSize, argSizeCmd, argSizeAlts, sizeAll, argSizeAll}
 use Rattle.rules.specs.ProgramTest.{groupAllows, anyOf, nonJumps}
 use Rattle.rules_theorems.proofs.OpLaws.{rowFor, component-below}
@@ -69,14 +70,14 @@ bytes-none = refl
 mutual
   unfolding flatSeq size count argSize
 
-  pub sum-seq : (a : Seq) (own : Bool) (i : ℕ) (c : Bool) (t z k : ℕ) →
-      (nonJumps (flatSeq a own i c t z k) ≤ count a) × (bytes (flatSeq a own i c t z k) ≡ 10 * size a + argSize a)
-  sum-seq end own i c t z k = (omega arith, bytes-none)
-  sum-seq (then x xs) own i c t z k =
-      let f : List Rec = flatCmd x i (cond (own && c) z t) k in
-      let f′ : List Rec = flatSeq xs own (indexAfter x i) (coerceAfter x c) t z (k + sizeCmd x) in
-      let r = sum-cmd x i (cond (own && c) z t) k in
-      let r′ = sum-seq xs own (indexAfter x i) (coerceAfter x c) t z (k + sizeCmd x) in
+  pub sum-seq : (a : Seq) (coercible : Bool) (i : ℕ) (c : Bool) (t z k : ℕ) →
+      (nonJumps (flatSeq a coercible i c t z k) ≤ count a) × (bytes (flatSeq a coercible i c t z k) ≡ 10 * size a + argSize a)
+  sum-seq end coercible i c t z k = (omega arith, bytes-none)
+  sum-seq (then x xs) coercible i c t z k =
+      let f : List Rec = flatCmd x i (cond (coercible && c) z t) k in
+      let f′ : List Rec = flatSeq xs coercible (indexAfter x i) (coerceAfter x c) t z (k + sizeCmd x) in
+      let r = sum-cmd x i (cond (coercible && c) z t) k in
+      let r′ = sum-seq xs coercible (indexAfter x i) (coerceAfter x c) t z (k + sizeCmd x) in
       (omega (arith, r .0, r′ .0, nonJumps-append f f′), omega (arith, r .1, r′ .1, bytes-append f f′))
 
   pub sum-cmd : (x : Cmd) (i t k : ℕ) → (nonJumps (flatCmd x i t k) ≤ countCmd x) × (bytes (flatCmd x i t k) ≡ 10 * sizeCmd x + argSizeCmd x)
@@ -141,7 +142,7 @@ recs-append g n total k m (x ∷ xs) ys e h h′ =
 aim-within : (t total : ℕ) → t ≤ total → Aim total t
 aim-within t total h = rw (le-leb t total h) (or-true (eqb t NONE))
 
-pick-aim : (own c : Bool) (z t k total : ℕ) → k ≤ t → Aim total t → (T own → (k ≤ z) × Aim total z) → (k ≤ cond (own && c) z t) × Aim total (cond (own && c) z t)
+pick-aim : (coercible c : Bool) (z t k total : ℕ) → k ≤ t → Aim total t → (T coercible → (k ≤ z) × Aim total z) → (k ≤ cond (coercible && c) z t) × Aim total (cond (coercible && c) z t)
 pick-aim true true z t k total h a az = az tt
 pick-aim true false z t k total h a az = (h, a)
 pick-aim false c z t k total h a az = (h, a)
@@ -156,14 +157,14 @@ module _ (g : Group) (n sec total : ℕ) (of : among sec (sectionsOf g) ≡ true
   mutual
     unfolding flatSeq size argSize GoodSeq
 
-    recs-seq : (a : Seq) (own : Bool) (i : ℕ) (c : Bool) (t z k : ℕ) → GoodSeq a n sec → i < n → argSize a < 65536 → k + size a ≤ total → k + size a ≤ t →
-        Aim total t → (T own → (k + size a ≤ z) × Aim total z) → GoodRecs g n total k (flatSeq a own i c t z k)
-    recs-seq end own i c t z k good h w m f a az = tt
-    recs-seq (then x xs) own i c t z k good h w m f a az =
-        let r = pick-aim own c z t (k + sizeCmd x) total (omega arith) a (λ q. let y = az q in (omega (arith, y .0), y .1)) in
-        recs-append g n total k (sizeCmd x) (flatCmd x i (cond (own && c) z t) k) (flatSeq xs own (indexAfter x i) (coerceAfter x c) t z (k + sizeCmd x))
-        (length-cmd x i (cond (own && c) z t) k) (recs-cmd x i (cond (own && c) z t) k (good .0) h (omega arith) (omega arith) (r .0) (r .1))
-        (recs-seq xs own (indexAfter x i) (coerceAfter x c) t z (k + sizeCmd x) (good .1) (index-below x i (good .0) h) (omega arith) (omega arith) (omega arith) a
+    recs-seq : (a : Seq) (coercible : Bool) (i : ℕ) (c : Bool) (t z k : ℕ) → GoodSeq a n sec → i < n → argSize a < 65536 → k + size a ≤ total → k + size a ≤ t →
+        Aim total t → (T coercible → (k + size a ≤ z) × Aim total z) → GoodRecs g n total k (flatSeq a coercible i c t z k)
+    recs-seq end coercible i c t z k good h w m f a az = tt
+    recs-seq (then x xs) coercible i c t z k good h w m f a az =
+        let r = pick-aim coercible c z t (k + sizeCmd x) total (omega arith) a (λ q. let y = az q in (omega (arith, y .0), y .1)) in
+        recs-append g n total k (sizeCmd x) (flatCmd x i (cond (coercible && c) z t) k) (flatSeq xs coercible (indexAfter x i) (coerceAfter x c) t z (k + sizeCmd x))
+        (length-cmd x i (cond (coercible && c) z t) k) (recs-cmd x i (cond (coercible && c) z t) k (good .0) h (omega arith) (omega arith) (r .0) (r .1))
+        (recs-seq xs coercible (indexAfter x i) (coerceAfter x c) t z (k + sizeCmd x) (good .1) (index-below x i (good .0) h) (omega arith) (omega arith) (omega arith) a
         (λ q. let y = az q in (omega (arith, y .0), y .1)))
 
     recs-cmd : (x : Cmd) (i t k : ℕ) → GoodCmd x n sec → i < n → argSizeCmd x < 65536 → k + sizeCmd x ≤ total → k + sizeCmd x ≤ t → Aim total t →

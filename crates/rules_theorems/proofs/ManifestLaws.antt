@@ -106,7 +106,7 @@ GoodSections n [] = Unit {0}
 GoodSections n (x ∷ xs) = GoodSeq (x .seq) n (x .key) × GoodSections n xs
 
 pub record Sound (s : Bytes) (m : Manifest) : Type 0 where
-  pub number : m .number ≤ limits .number
+  pub number : m .number ≤ limits .largest
   pub ids : GoodIds (names s m)
   pub distinct : repeats (names s m) ≡ false
   pub some-ids : (1 ≤ length (names s m)) × (length (names s m) ≤ limits .components)

@@ -3,7 +3,7 @@ use Prim.Native.Nat.{ℕ, _+_, _≤_, _<_}
 use mathlib.Core.Path.{_≡_, refl, subst}
 use mathlib.Core.List.{List, [], _∷_}
 use mathlib.Core.Bool.{Bool, true, false}
-use mathlib.Core.Option.{Option, some, none}
+use mathlib.Core.Option.{Option, some, none, Option·getD}
 use native.Mathlib.Omega.{arith}
 use lib.Dec.{eqb}
 use lib.ListN.{length, length-append}
@@ -18,7 +18,7 @@ pub record Fit (n : ℕ) (p : Params) : Type 0 where
   pub uri : (b : Bytes) → p .uri ≡ some b → (1 ≤ length b) × (length b ≤ limits .uri)
   pub source : (k : ℕ) → p .source ≡ some k → k < n
   pub digest : (b : Bytes) → p .digest ≡ some b → length b ≡ 32
-  pub size : (k : ℕ) → p .size ≡ some k → k ≤ limits .number
+  pub size : (k : ℕ) → p .size ≡ some k → k ≤ limits .largest
 
 pub no-some : {A : Type 0} (P : Type 0) (x : A) → _≡_ {A = Option A} none (some x) → P
 no-some P x e = let z : _≡_ {A = ℕ} 0 1 = cc in absurd (omega arith)
@@ -40,7 +40,7 @@ fit-over n a b f g =
       uri = λ x e. either (a .uri) (b .uri) x (λ y. (1 ≤ length y) × (length y ≤ limits .uri)) (f .uri) (g .uri) e;
       source = λ x e. either (a .source) (b .source) x (λ y. y < n) (f .source) (g .source) e;
       digest = λ x e. either (a .digest) (b .digest) x (λ y. length y ≡ 32) (f .digest) (g .digest) e;
-      size = λ x e. either (a .size) (b .size) x (λ y. y ≤ limits .number) (f .size) (g .size) e;
+      size = λ x e. either (a .size) (b .size) x (λ y. y ≤ limits .largest) (f .size) (g .size) e;
     }
 
 -- the bytes that parameters take in a record
@@ -96,21 +96,8 @@ component-below n i run h o = h
 component-below n i swap h o = h
 
 -- the row of a command
-abbrev row : Op → Form → Allowed → Row
-row op f a = record { number = code op; form = f; allowed = a }
-
 abbrev pub rowFor : Op → Row
-rowFor (vendor b) = row (vendor b) (sixteen vendor) anywhere
-rowFor (class b) = row (class b) (sixteen class) anywhere
-rowFor imageMatch = row imageMatch (nil imageMatch) anywhere
-rowFor (setIndex k) = row (setIndex k) (below setIndex) anywhere
-rowFor abort = row abort (nil abort) anywhere
-rowFor (setParams p) = row (setParams p) (parameters setParams) anywhere
-rowFor (overrideParams p) = row (overrideParams p) (parameters overrideParams) anywhere
-rowFor fetch = row fetch (nil fetch) (only (8 ∷ 9 ∷ []))
-rowFor copy = row copy (nil copy) (only (8 ∷ 9 ∷ 11 ∷ []))
-rowFor run = row run (nil run) (only (12 ∷ []))
-rowFor swap = row swap (nil swap) (only (8 ∷ 9 ∷ 11 ∷ []))
+rowFor op = Option·getD (rowOf (code op) commands) (record { number = 0; condition = false; form = sequence; allowed = anywhere })
 
 -- it is in the table, and is no jump
 pub row-law : (op : Op) → (rowOf (code op) commands ≡ some (rowFor op)) × (eqb (code op) 0xff ≡ false)

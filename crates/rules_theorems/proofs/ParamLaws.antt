@@ -100,7 +100,7 @@ module _ (s : Bytes) where
         fits = omega arith;
         light = omega arith;
         fit =
-            record { uri = λ x e′. no-some _ x e′; source = λ x e′. no-some _ x e′; digest = λ x e′. no-some _ x e′; size = λ x e′. some-is (λ y. y ≤ limits .number) (omega arith) e′ };
+            record { uri = λ x e′. no-some _ x e′; source = λ x e′. no-some _ x e′; digest = λ x e′. no-some _ x e′; size = λ x e′. some-is (λ y. y ≤ limits .largest) (omega arith) e′ };
       })
 
   pub record Entries (n k e at : ℕ) (g v : Given) (q : ℕ) : Type 0 where

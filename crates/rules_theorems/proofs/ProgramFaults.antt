@@ -13,7 +13,8 @@ use Rattle.rules.specs.Limits.{limits}
 use Rattle.rules.specs.Got.{Got, refused, got, found, _>>=_}
 use Rattle.rules.specs.Commands.{commands, rowOf, Form, sixteen, nil, below, alternatives, parameters, sequence}
 use Rattle.rules.specs.ProgramTest.{need, marked, optional, isBelow, paramsIn, opIn, groupAllows, recordIn, recordsIn, idsIn, nonJumps, groupIn, programIn}
-use Rattle.rules.specs.Program.{NONE, targetOf}
+use Rattle.rules.specs.Program.{targetOf}
+use Rattle.rules.specs.ProgramFormat.{NONE}
 
 abbrev pub Only97 : {A : Type 0} → Got A → Type 0
 Only97 (refused r p) = (r ≡ BadProgram) × (p ≡ 0)

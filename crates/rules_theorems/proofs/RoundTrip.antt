@@ -17,7 +17,8 @@ use Rattle.rules.specs.Limits.{limits}
 use Rattle.rules.specs.Bytes.{Bytes, num, be2, be4, flat, repeats}
 use Rattle.rules.specs.Got.{got}
 use Rattle.rules.specs.Commands.{Op, vendor, class, imageMatch, setIndex, abort, setParams, overrideParams, fetch, copy, run, swap, Params, component}
-use Rattle.rules.specs.Program.{Rec, does, jump, Program, NONE, targetOf, argBytes, paramBytes, recBytes, idBytes, programBytes, entry}
+use Rattle.rules.specs.Program.{Rec, does, jump, Program, targetOf, argBytes, paramBytes, recBytes, idBytes, programBytes, entry}
+use Rattle.rules.specs.ProgramFormat.{NONE}
 use Rattle.rules.specs.ProgramTest.{optional, paramsIn, opIn, recordIn, recordsIn, groupAllows, isBelow, idsIn, groupIn, programIn, nonJumps}
 use Rattle.rules_theorems.proofs.OpLaws.{Fit, GoodOp, rowFor, row-law}
 
@@ -175,7 +176,7 @@ ids-law (x ∷ xs) rest h =
     )
 
 pub record GoodProgram (p : Program) : Type 0 where
-  pub number : p .number ≤ limits .number
+  pub number : p .number ≤ limits .largest
   pub some-ids : (1 ≤ length (p .ids)) × (length (p .ids) ≤ limits .components)
   pub ids : GoodIds (p .ids)
   pub distinct : repeats (p .ids) ≡ false

@@ -17,19 +17,20 @@ use Rattle.rules.specs.Commands.{Op, vendor, class, imageMatch, setIndex, abort
 use Rattle.rules.specs.Manifest.{Seq, end, then, Cmd, one, sub, try, Alts, last, or}
 use Rattle.rules.specs.Step.{Env, State, Out, out, step, acts, fetches, copies, swaps, unless, given}
 use Rattle.rules.specs.Run.{on, next, runSeq, runCmd, runAlts, runAll, indexAfter, coerceAfter}
-use Rattle.rules.specs.Program.{Rec, does, jump, NONE, targetOf, size, sizeCmd, sizeAlts, flatSeq, flatCmd, flatAlts, flatAll}
+use Rattle.rules.specs.Program.{Rec, does, jump, targetOf, size, sizeCmd, sizeAlts, flatSeq, flatCmd, flatAlts, flatAll}
+use Rattle.rules.specs.ProgramFormat.{NONE}
 use Rattle.rules.specs.ProgramRun.{exec}
 
 mutual
   unfolding size flatSeq
 
-  pub length-seq : (s : Seq) (own : Bool) (i : ℕ) (c : Bool) (t z n : ℕ) → length (flatSeq s own i c t z n) ≡ size s
-  length-seq end own i c t z n = refl
-  length-seq (then x xs) own i c t z n =
+  pub length-seq : (s : Seq) (coercible : Bool) (i : ℕ) (c : Bool) (t z n : ℕ) → length (flatSeq s coercible i c t z n) ≡ size s
+  length-seq end coercible i c t z n = refl
+  length-seq (then x xs) coercible i c t z n =
       rw (
         length-append,
-        length-cmd x i (cond (own && c) z t) n,
-        length-seq xs own (indexAfter x i) (coerceAfter x c) t z (n + sizeCmd x),
+        length-cmd x i (cond (coercible && c) z t) n,
+        length-seq xs coercible (indexAfter x i) (coerceAfter x c) t z (n + sizeCmd x),
       )
 
   pub length-cmd : (x : Cmd) (i t n : ℕ) → length (flatCmd x i t n) ≡ sizeCmd x
@@ -144,12 +145,12 @@ module _ (env : Env) where
       on e st (λ st′. exec env (f ++ rest) m 0 st′) (λ st′. goto (f ++ rest) m (cond b z t) st′)
       ≡ resume rest (m + k) t (on e st g (λ st′. out (cond b Finished ConditionFailed) st′))
   unfolding on
-  seq-step b t z m k f rest g len fits own small ih Finished st = ih st
-  seq-step true t z m k f rest g len fits own small ih ConditionFailed st =
-      rw (own tt, goto-past f rest m k (m + k) st len (omega arith), goto-here rest (m + k) st small)
-  seq-step false t z m k f rest g len fits own small ih ConditionFailed st = goto-past f rest m k t st len fits
-  seq-step b t z m k f rest g len fits own small ih Started st = refl
-  seq-step b t z m k f rest g len fits own small ih (Failed n) st = refl
+  seq-step b t z m k f rest g len fits coercible small ih Finished st = ih st
+  seq-step true t z m k f rest g len fits coercible small ih ConditionFailed st =
+      rw (coercible tt, goto-past f rest m k (m + k) st len (omega arith), goto-here rest (m + k) st small)
+  seq-step false t z m k f rest g len fits coercible small ih ConditionFailed st = goto-past f rest m k t st len fits
+  seq-step b t z m k f rest g len fits coercible small ih Started st = refl
+  seq-step b t z m k f rest g len fits coercible small ih (Failed n) st = refl
 
   -- after an alternative that is not the last: f are the records of the others, and g what these do
   alts-step : (t z m k : ℕ) (f rest : List Rec) (g : State → Out) → length f ≡ k → z ≡ m + 1 + k → m + 1 + k < NONE →
@@ -168,18 +169,18 @@ module _ (env : Env) where
   mutual
     unfolding flatSeq size runSeq on
 
-    pub seq-law : (s : Seq) (own : Bool) (i : ℕ) (c : Bool) (t z n : ℕ) (rest : List Rec) (st : State) →
-        n + size s ≤ t → (T own → z ≡ n + size s) → n + size s < NONE →
-        exec env (flatSeq s own i c t z n ++ rest) n 0 st ≡ resume rest (n + size s) t (runSeq env s own i c st)
-    seq-law end own i c t z n rest st fits h small = rw add-zero
-    seq-law (then x xs) own i c t z n rest st fits h small =
-        let f : List Rec = flatSeq xs own (indexAfter x i) (coerceAfter x c) t z (n + sizeCmd x) in
-        let e : T own → z ≡ n + sizeCmd x + size xs = λ q. h q ∙ sym (add-assoc n (sizeCmd x) (size xs)) in
+    pub seq-law : (s : Seq) (coercible : Bool) (i : ℕ) (c : Bool) (t z n : ℕ) (rest : List Rec) (st : State) →
+        n + size s ≤ t → (T coercible → z ≡ n + size s) → n + size s < NONE →
+        exec env (flatSeq s coercible i c t z n ++ rest) n 0 st ≡ resume rest (n + size s) t (runSeq env s coercible i c st)
+    seq-law end coercible i c t z n rest st fits h small = rw add-zero
+    seq-law (then x xs) coercible i c t z n rest st fits h small =
+        let f : List Rec = flatSeq xs coercible (indexAfter x i) (coerceAfter x c) t z (n + sizeCmd x) in
+        let e : T coercible → z ≡ n + sizeCmd x + size xs = λ q. h q ∙ sym (add-assoc n (sizeCmd x) (size xs)) in
         rw (append-assoc, ← add-assoc n (sizeCmd x) (size xs))
-        (cmd-law x i (cond (own && c) z t) n (f ++ rest) st (cond-fits own c z t (n + sizeCmd x + size xs) (n + sizeCmd x) (omega arith) e (omega arith)) (omega arith)
-        ∙ seq-step (own && c) t z (n + sizeCmd x) (size xs) f rest (λ st′. runSeq env xs own (indexAfter x i) (coerceAfter x c) st′)
-        (length-seq xs own (indexAfter x i) (coerceAfter x c) t z (n + sizeCmd x)) (omega arith) (λ q. e (and-left own c q)) (omega arith)
-        (λ st′. seq-law xs own (indexAfter x i) (coerceAfter x c) t z (n + sizeCmd x) rest st′ (omega arith) e (omega arith))
+        (cmd-law x i (cond (coercible && c) z t) n (f ++ rest) st (cond-fits coercible c z t (n + sizeCmd x + size xs) (n + sizeCmd x) (omega arith) e (omega arith)) (omega arith)
+        ∙ seq-step (coercible && c) t z (n + sizeCmd x) (size xs) f rest (λ st′. runSeq env xs coercible (indexAfter x i) (coerceAfter x c) st′)
+        (length-seq xs coercible (indexAfter x i) (coerceAfter x c) t z (n + sizeCmd x)) (omega arith) (λ q. e (and-left coercible c q)) (omega arith)
+        (λ st′. seq-law xs coercible (indexAfter x i) (coerceAfter x c) t z (n + sizeCmd x) rest st′ (omega arith) e (omega arith))
         (runCmd env x i st .end) (runCmd env x i st .state))
 
     pub cmd-law : (x : Cmd) (i t n : ℕ) (rest : List Rec) (st : State) → n + sizeCmd x ≤ t → n + sizeCmd x < NONE →

@@ -71,13 +71,13 @@ Sides k c at n x = (slotBytes * c + at + n ≤ slotBytes * k + imageFrom) ⊎ (s
 sides : (k c at n x : ℕ) → Apart k c (at + n) → x ≤ answerBytes → Sides k c at n x
 sides k c at n x h short = go (ltb k c) refl
   where
-    own : (c ≡ k) ⊎ (c < k) → Sides k c at n x
-    own (inl e) = let m : at + n ≤ imageFrom = h .1 e in inl (omega arith)
-    own (inr l) = inl (omega (arith, h .0))
+    coercible : (c ≡ k) ⊎ (c < k) → Sides k c at n x
+    coercible (inl e) = let m : at + n ≤ imageFrom = h .1 e in inl (omega arith)
+    coercible (inr l) = inl (omega (arith, h .0))
 
     go : (p : Bool) → ltb k c ≡ p → Sides k c at n x
     go true e = let l : k < c = ltb-true k c e in inr (omega arith)
-    go false e = own (eq-or-lt-of-le (ltb-false k c e))
+    go false e = coercible (eq-or-lt-of-le (ltb-false k c e))
 
 module _ (b : Bytes) (k : ℕ) (x : Bytes) (short : length x ≤ answerBytes) where
   pub slot-part : (c at n : ℕ) → Apart k c (at + n) → part (putImage b k x) (slotBytes * c + at) n ≡ part b (slotBytes * c + at) n

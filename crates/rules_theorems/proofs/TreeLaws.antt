@@ -205,12 +205,12 @@ module _ (s : Bytes) (n sec : ℕ) (small : length s < 65536) where
   pub seq-tree : (d : ℕ) → Fine (sequenceAt s n sec d)
   unfolding sequenceAt
   seq-tree zero m e at a q l u q₀ =
-      split _ (item ARRAY 0 (limits .pairs + limits .pairs) s e at) _ (a, q) q₀ λ h qh q₁.
+      split _ (item ARRAY 0 (limits .sequence + limits .sequence) s e at) _ (a, q) q₀ λ h qh q₁.
       let (_, q₂) = passed (eqb (h .num % 2) 0) Malformed at _ (a, q) q₁ in
       let z : _≡_ {A = ℕ} 0 1 = cc in absurd (omega arith)
   seq-tree (suc d) m e at a q l u q₀ =
-      split _ (item ARRAY 0 (limits .pairs + limits .pairs) s e at) _ (a, q) q₀ λ h qh q₁.
+      split _ (item ARRAY 0 (limits .sequence + limits .sequence) s e at) _ (a, q) q₀ λ h qh q₁.
       let (_, q₂) = passed (eqb (h .num % 2) 0) Malformed at _ (a, q) q₁ in
-      let i : Item s ARRAY 0 (limits .pairs + limits .pairs) e at h = item-law s ARRAY 0 (limits .pairs + limits .pairs) e at h qh in
+      let i : Item s ARRAY 0 (limits .sequence + limits .sequence) e at h = item-law s ARRAY 0 (limits .sequence + limits .sequence) e at h qh in
       let t = cmds-tree (sequenceAt s n sec d) (seq-tree d) (h .num / 2) m e (h .next) a q l (omega arith) q₂ in
       record { up = omega (arith, t .up); fits = t .fits; few = t .few; light = omega (arith, t .light); good = t .good }

@@ -11,12 +11,12 @@ use Rattle.rules.specs.Limits.{limits}
 use Rattle.rules.specs.Bytes.{Bytes, allIn}
 use Rattle.rules.specs.Slots.{answerBytes, goodSlots, slotNames}
 use Rattle.rules.specs.Run.{Input, mayStart, numberFits, admit}
-use Rattle.run_admission.specs.Answer.{stopOf}
+use Rattle.run_admission.specs.Answer.{refusalIn}
 
 -- a test and its negation, as code has them
 -- the answer, and what holds where it is 0
 abbrev pub Stops : ℕ → Group → ℕ → List Bytes → Input → Type 0 → Type 0
-Stops r group number ids x P = (r ≡ stopOf (admit group number ids x)) × (r ≡ 0 → P)
+Stops r group number ids x P = (r ≡ refusalIn (admit group number ids x)) × (r ≡ 0 → P)
 
 module _ (group : Group) (number : ℕ) (ids : List Bytes) (x : Input) (P : Type 0) where
   pub no-verdict : x .verdict ≡ false → Stops 80 group number ids x P

@@ -27,7 +27,7 @@ use Rattle.run_commands.specs.Action.{AllHold}
 use Rattle.run_commands.specs.Machine.{stateAt, Lent}
 use Rattle.run_admission.specs.declared.answer.Answer.the-variants as The
 use Rattle.run_admission.specs.declared.answer.Ending.{Ending}
-use Rattle.run_admission.specs.Answer.{stopOf, endingOf, Settles}
+use Rattle.run_admission.specs.Answer.{refusalIn, endingOf, Settles}
 use Rattle.run_admission.proofs.EndingLaws.{finished-law}
 
 -- a refusal of a run has place 0
@@ -44,11 +44,11 @@ last-zero true r = tt
 last-zero false r = refl
 
 -- by its number: what was refused, or all that was tested
-by-number : (y : Got (Unit {0})) → AtZero y → (n : ℕ) → n ≡ stopOf y → (n ≡ 0 → ⊥) → y ≡ refused (refusalOf n) 0
+by-number : (y : Got (Unit {0})) → AtZero y → (n : ℕ) → n ≡ refusalIn y → (n ≡ 0 → ⊥) → y ≡ refused (refusalOf n) 0
 by-number (refused r p) z n e d = rw (e, of-number r, z)
 by-number (got u) z n e d = absurd (d e)
 
-no-number : (y : Got (Unit {0})) (n : ℕ) → n ≡ stopOf y → n ≡ 0 → y ≡ got tt
+no-number : (y : Got (Unit {0})) (n : ℕ) → n ≡ refusalIn y → n ≡ 0 → y ≡ got tt
 no-number (refused r p) n e z = absurd (not-zero r (sym e ∙ z))
 no-number (got u) n e z = refl
 
@@ -85,7 +85,7 @@ module _ (group : Group) (number : ℕ) (ids : List Bytes) (x : Input) where
       held false e = let z : _≡_ {A = ℕ} 0 1 = cc in absurd (omega arith)
 
 -- a run of any body, by the number that its tests gave
-module _ (group : Group) (number : ℕ) (ids : List Bytes) (x : Input) (refusal : ℕ) (e : refusal ≡ stopOf (admit group number ids x)) where
+module _ (group : Group) (number : ℕ) (ids : List Bytes) (x : Input) (refusal : ℕ) (e : refusal ≡ refusalIn (admit group number ids x)) where
   refused-run : (body : Env → State → Out) → (refusal ≡ 0 → ⊥) → runOf group number ids body x ≡ refused (refusalOf refusal) 0
   unfolding runOf
   refused-run body d =
@@ -106,18 +106,18 @@ module _ (group : Group) (number : ℕ) (ids : List Bytes) (x : Input) (refusal 
     unfolding runOf
     ran-run body o q = rw (admitted, q)
 
-    module _ (few : length ids ≤ limits .components) (found : List ℕ) (f : Found ids (x .slots) (replicate 8 0) found) where
-      holds : AllHold found (x .slots)
+    module _ (few : length ids ≤ limits .components) (assigned : List ℕ) (f : Found ids (x .slots) (replicate 8 0) assigned) where
+      holds : AllHold assigned (x .slots)
       holds i h = go (ltb i (length ids)) refl
         where
-          go : (b : Bool) → ltb i (length ids) ≡ b → Holds (x .slots) (getD found i 0)
+          go : (b : Bool) → ltb i (length ids) ≡ b → Holds (x .slots) (getD assigned i 0)
           go true l = f .there i (ltb-true _ _ l)
           go false l =
-              let y : getD found i 0 ≡ 0 = f .beyond i (ltb-false _ _ l) ∙ getD-replicate {A = ℕ} 8 i 0 0 h in
+              let y : getD assigned i 0 ≡ 0 = f .beyond i (ltb-false _ _ l) ∙ getD-replicate {A = ℕ} 8 i 0 0 h in
               rw y (omega (arith, good-some (x .slots) (facts .slots)))
 
       -- what the run is lent, with all parameters unset
-      pub lent-start : (s : Bytes) → Lent (envOf ids x) s (x .device .vendor) (x .device .class) found (x .answers) (x .slots) (replicate 40 0) (x .trace)
+      pub lent-start : (s : Bytes) → Lent (envOf ids x) s (x .device .vendor) (x .device .class) assigned (x .answers) (x .slots) (replicate 40 0) (x .trace)
       lent-start s =
           record {
             host = record { vendors = refl; classes = refl; replies = refl; few = few; numbers = λ i h. sym (f .number i h) };
@@ -144,7 +144,7 @@ settles-ran group number x stop events used ps slots trace g q ending after p w 
 
 -- the answer of a job that is a run of that body
 module _ (group : Group) (number : ℕ) (ids : List Bytes) (x : Input) (body : Env → State → Out) (job : Got Ran) (is : job ≡ runOf group number ids body x)
-    (refusal : ℕ) (e : refusal ≡ stopOf (admit group number ids x)) where
+    (refusal : ℕ) (e : refusal ≡ refusalIn (admit group number ids x)) where
   pub refused-answer : (refusal ≡ 0 → ⊥) → (r : Refusal) → r ≡ refusalOf refusal →
       Settles (x .device) job (record { answer = The.Refused r 0; number = x .device .number }) (x .slots) (x .slots) (x .trace) (x .trace)
   refused-answer d r q = settles-refused x job r 0 (is ∙ rw q (refused-run group number ids x refusal e body d))

@@ -36,16 +36,16 @@ abbrev pub Settles : Controller → Got Ran → Outcome → Bytes → Bytes → 
 Settles device g r slots slots′ trace trace′ = (r ≡ outcomeOf device g) × (slots′ ≡ slotsAfter slots g) × (trace′ ≡ traceAfter trace g)
 
 -- the number of a refusal, 0 for none
-abbrev pub stopOf : {A : Type 0} → Got A → ℕ
-stopOf (refused r p) = refusalNumber r
-stopOf (got a) = 0
+abbrev pub refusalIn : {A : Type 0} → Got A → ℕ
+refusalIn (refused r p) = refusalNumber r
+refusalIn (got a) = 0
 
 -- how a run ended, by the number of its end and its trace
 abbrev pub endingOf : ℕ → ℕ → ℕ → Bytes → Ending
-endingOf stop events used trace =
+endingOf end events used trace =
     record {
-      end = endOf stop;
-      place = cond (eqb stop 0) 0 (num (part trace (8 * events - 4) 2));
+      end = endOf end;
+      place = cond (eqb end 0) 0 (num (part trace (8 * events - 4) 2));
       events = events;
       used = used;
     }

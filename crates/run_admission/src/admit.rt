@@ -5,10 +5,12 @@ ghost use lib.ListN.{length};
 ghost use Rattle.rules.specs.Bytes.{spanAt};
 ghost use Rattle.rules.specs.Run as Rule;
 ghost use Rattle.run_slots.specs.Slot.{namesAt, Found};
-ghost use Rattle.run_admission.specs.Answer.{inputOf, stopOf};
+ghost use Rattle.run_admission.specs.Answer.{inputOf, refusalIn};
 use rules::answers::Group;
 use rules::controller::Controller;
-use run_slots::image::IMAGE_BYTES;
+use rules::controller::Places;
+use rules::controller::SlotNumbers;
+use rules::slot_format::IMAGE_BYTES;
 use run_slots::search::find_slots;
 use run_slots::whole::good_slots;
 
@@ -38,17 +40,17 @@ pub fn admit(
     s: &[u8],
     group: Group,
     number: usize,
-    ids: &[usize; 16],
+    ids: &Places,
     n: usize,
     verdict: bool,
     device: Controller,
     slots: &[u8],
     answers: &[u8],
     trace: &[u8],
-    found: &mut [usize; 8],
+    assigned: &mut SlotNumbers,
 ) -> usize
     requires { ⌜ (n ≤ 8) × ((k : ℕ) → k < n → (spanAt (now ids) k .from ≤ spanAt (now ids) k .to) × (spanAt (now ids) k .to ≤ length (now s))) ⌝ }
-    ensures { λ r. ⌜ (r ≡ stopOf (Rule.admit group number (namesAt (now (s .entry)) (now (ids .entry)) n) (inputOf verdict device (now (slots .entry)) (now (answers .entry)) (now (trace .entry))))) × (r ≡ 0 → Found (namesAt (now (s .entry)) (now (ids .entry)) n) (now (slots .entry)) (now (found .entry)) (now (found .exit))) ⌝ }
+    ensures { λ r. ⌜ (r ≡ refusalIn (Rule.admit group number (namesAt (now (s .entry)) (now (ids .entry)) n) (inputOf verdict device (now (slots .entry)) (now (answers .entry)) (now (trace .entry))))) × (r ≡ 0 → Found (namesAt (now (s .entry)) (now (ids .entry)) n) (now (slots .entry)) (now (assigned .entry)) (now (assigned .exit))) ⌝ }
 {
     if !verdict {
         return 80;
@@ -62,7 +64,7 @@ pub fn admit(
     if !good_slots(slots) {
         return 85;
     }
-    if !find_slots(s, ids, n, slots, found) {
+    if !find_slots(s, ids, n, slots, assigned) {
         return 83;
     }
     if answers.len() % IMAGE_BYTES != 0 {

@@ -14,35 +14,35 @@ use rules::answers::End;
 use rules::answers::Group;
 
 // The place of the last event, 0 where the run finished.
-fn last_place(stop: usize, events: usize, trace: &[u8]) -> usize
-    requires { ⌜ (0 < stop → 0 < events) × (8 * events ≤ length (now trace)) ⌝ }
-    ensures { λ r. ⌜ r ≡ cond (eqb stop 0) 0 (num (part (now (trace .entry)) (8 * events - 4) 2)) ⌝ }
+fn last_place(end: usize, events: usize, trace: &[u8]) -> usize
+    requires { ⌜ (0 < end → 0 < events) × (8 * events ≤ length (now trace)) ⌝ }
+    ensures { λ r. ⌜ r ≡ cond (eqb end 0) 0 (num (part (now (trace .entry)) (8 * events - 4) 2)) ⌝ }
 {
-    if stop == 0 {
+    if end == 0 {
         return 0;
     }
     two(trace, 8 * events - 4)
 }
 
 // How a run ended, by the number of its end.
-pub fn ended(stop: usize, events: usize, used: usize, trace: &[u8]) -> Ending
-    requires { ⌜ (0 < stop → 0 < events) × (8 * events ≤ length (now trace)) ⌝ }
-    ensures { λ r. ⌜ r ≡ endingOf stop events used (now (trace .entry)) ⌝ }
+pub fn ended(end: usize, events: usize, used: usize, trace: &[u8]) -> Ending
+    requires { ⌜ (0 < end → 0 < events) × (8 * events ≤ length (now trace)) ⌝ }
+    ensures { λ r. ⌜ r ≡ endingOf end events used (now (trace .entry)) ⌝ }
 {
     Ending {
-        end: End::of(stop),
-        place: last_place(stop, events, trace),
+        end: End::of(end),
+        place: last_place(end, events, trace),
         events,
         used,
     }
 }
 
 // The device takes the manifest's number exactly when install finishes.
-pub fn taken(group: Group, stop: usize, new: u32, old: u32) -> u32
-    ensures { λ r. ⌜ r ≡ numberAfter group (endOf stop) new old ⌝ }
+pub fn number_after(group: Group, end: usize, new: u32, old: u32) -> u32
+    ensures { λ r. ⌜ r ≡ numberAfter group (endOf end) new old ⌝ }
 {
     match group {
-        Group::Install => if stop == 0 { new } else { old },
+        Group::Install => if end == 0 { new } else { old },
         Group::Boot => old,
     }
 }

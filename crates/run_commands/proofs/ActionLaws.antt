@@ -55,7 +55,7 @@ module _ (s : Bytes) (p : Params) (env : Env) (i : ℕ) (st : State) (slots : By
   match-set z = rw (a .params, ne-eqb _ _ z, at-slot)
 
   -- where it is set, the number of the source's slot
-  module _ (found : List ℕ) (h : SourceAt env st (p .source) found) where
+  module _ (assigned : List ℕ) (h : SourceAt env st (p .source) assigned) where
     pub copy-unset : p .source ≡ 0 → copies env i st ≡ out (endOf 32) (withSlots st slots)
     unfolding copies meaning given
     copy-unset z = rw (← a .lent, a .params, eq-eqb _ _ z)
@@ -66,7 +66,7 @@ module _ (s : Bytes) (p : Params) (env : Env) (i : ℕ) (st : State) (slots : By
 
     module _ (z : p .source ≡ 0 → ⊥) where
       abbrev pub source : ℕ
-      source = getD found (p .source - 1) 0
+      source = getD assigned (p .source - 1) 0
 
       there : slotNo env (p .source - 1) st ≡ source
       there = h (omega (arith, z))

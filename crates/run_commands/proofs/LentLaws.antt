@@ -42,12 +42,12 @@ moves-cmd env x i st = moves env (countCmd x) st _ (cmd-reaches env x i st)
 pub moves-step : (env : Env) (op : Op) (i place : ℕ) (st : State) → Moves st (step env op i place st .state) 1
 moves-step env op i place st = moves env 1 st _ (step-reaches env op i place st)
 
-module _ (env : Env) (s vendor class : Bytes) (found : List ℕ) (answers slots : Bytes) (words : List ℕ) (trace : Bytes)
-    (k : Lent env s vendor class found answers slots words trace) where
+module _ (env : Env) (s vendor class : Bytes) (assigned : List ℕ) (answers slots : Bytes) (params : List ℕ) (trace : Bytes)
+    (k : Lent env s vendor class assigned answers slots params trace) where
   -- what was lent, after something that the rule gives from it
   pub lent-after : (st st′ : State) (n : ℕ) → st .slots ≡ slots → st .trace ≡ trace → Moves st st′ n →
       (slots′ : Bytes) (words′ : List ℕ) (trace′ : Bytes) → slots′ ≡ st′ .slots → trace′ ≡ st′ .trace → FitAll s (length (env .ids)) words′ →
-      Lent env s vendor class found answers slots′ words′ trace′
+      Lent env s vendor class assigned answers slots′ words′ trace′
   unfolding slotOf
   lent-after st st′ n qs qt m slots′ words′ trace′ es et fit =
       let ls : length slots′ ≡ length slots = ap length es ∙ m .slots ∙ ap length qs in

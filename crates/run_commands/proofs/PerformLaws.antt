@@ -15,36 +15,36 @@ use Rattle.run_commands.specs.Action.{At, SourceAt}
 use Rattle.run_commands.specs.Machine.{Host, stateAt}
 use Rattle.run_slots.proofs.ParamsLaws.{meaning-over, params-at, params-stored}
 
-module _ (s : Bytes) (env : Env) (vendor class answers : Bytes) (found words : List ℕ) (slots trace : Bytes) (i events used : ℕ) (h : Host env vendor class answers found slots) (l : i < length (env .ids)) where
+module _ (s : Bytes) (env : Env) (vendor class answers : Bytes) (assigned params : List ℕ) (slots trace : Bytes) (i events used : ℕ) (h : Host env vendor class answers assigned slots) (l : i < length (env .ids)) where
   abbrev n : ℕ
   n = length (env .ids)
 
   abbrev st : State
-  st = stateAt s n words slots trace events used
+  st = stateAt s n params slots trace events used
 
-  number : (j : ℕ) → j < n → slotNo env j st ≡ getD found j 0
+  number : (j : ℕ) → j < n → slotNo env j st ≡ getD assigned j 0
   unfolding slotNo
   number j m = h .numbers j m
 
-  module _ (p : Params) (e : p ≡ wordsAt words i) where
-    pub is-at : (k : ℕ) → k ≡ getD found i 0 → At env i st slots k (meaning s p)
-    is-at k q = record { lent = refl; number = number i l ∙ sym q; params = rw e (params-at s words n i l) }
+  module _ (p : Params) (e : p ≡ wordsAt params i) where
+    pub is-at : (k : ℕ) → k ≡ getD assigned i 0 → At env i st slots k (meaning s p)
+    is-at k q = record { lent = refl; number = number i l ∙ sym q; params = rw e (params-at s params n i l) }
 
-    pub source-at : FitAll s n words → SourceAt env st (p .source) found
+    pub source-at : FitAll s n params → SourceAt env st (p .source) assigned
     source-at f z =
         let m : p .source ≤ n = rw e (f i (omega (arith, h .few)) .source) in
         number (p .source - 1) (omega arith)
 
-    module _ (w : length words ≡ 40) (given q : Params) where
+    module _ (w : length params ≡ 40) (given q : Params) where
       pub set-params : q ≡ overWords p given →
-          paramsIn s (stored words i q) n ≡ set (paramsIn s words n) i (Rules.over (paramsOf env i st) (meaning s given))
+          paramsIn s (stored params i q) n ≡ set (paramsIn s params n) i (Rules.over (paramsOf env i st) (meaning s given))
       set-params x =
-          params-stored s words n i q w (h .few) l ∙ rw (x, meaning-over s p given, e, params-at s words n i l)
+          params-stored s params n i q w (h .few) l ∙ rw (x, meaning-over s p given, e, params-at s params n i l)
 
       pub override-params : q ≡ overWords given p →
-          paramsIn s (stored words i q) n ≡ set (paramsIn s words n) i (Rules.over (meaning s given) (paramsOf env i st))
+          paramsIn s (stored params i q) n ≡ set (paramsIn s params n) i (Rules.over (meaning s given) (paramsOf env i st))
       override-params x =
-          params-stored s words n i q w (h .few) l ∙ rw (x, meaning-over s given p, e, params-at s words n i l)
+          params-stored s params n i q w (h .few) l ∙ rw (x, meaning-over s given p, e, params-at s params n i l)
 
 pub step-is : (env : Env) (op : Op) (i place : ℕ) (st : State) (o : Out) → o ≡ acts env op i st →
     step env op i place st ≡ out (o .end) (withEvent (o .state) (0x53 ∷ 0x54 ∷ code op ∷ i ∷ be2 place ++ (resultNumber (o .end) ∷ 0 ∷ [])))

@@ -16,9 +16,9 @@ pub record Ends (n : ℕ) : Type 0 where
   pub small : n < 39
   pub result : resultNumber (endOf n) ≡ cond (eqb n 2) 0 n
 
--- each number of found is that of a slot
+-- each number of assigned is that of a slot
 abbrev pub AllHold : List ℕ → Bytes → Type 0
-AllHold found slots = (i : ℕ) → i < 8 → Holds slots (getD found i 0)
+AllHold assigned slots = (i : ℕ) → i < 8 → Holds slots (getD assigned i 0)
 
 -- in st, component i has the slot of number k of `slots`, and the parameters p
 pub record At (env : Env) (i : ℕ) (st : State) (slots : Bytes) (k : ℕ) (p : Rules.Params) : Type 0 where
@@ -26,6 +26,6 @@ pub record At (env : Env) (i : ℕ) (st : State) (slots : Bytes) (k : ℕ) (p : 
   pub number : slotNo env i st ≡ k
   pub params : paramsOf env i st ≡ p
 
--- where a source is set, found has the number of its slot
+-- where a source is set, assigned has the number of its slot
 abbrev pub SourceAt : Env → State → ℕ → List ℕ → Type 0
-SourceAt env st source found = 0 < source → slotNo env (source - 1) st ≡ getD found (source - 1) 0
+SourceAt env st source assigned = 0 < source → slotNo env (source - 1) st ≡ getD assigned (source - 1) 0

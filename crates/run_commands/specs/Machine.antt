@@ -9,28 +9,28 @@ use Rattle.rules.specs.Limits.{limits}
 use Rattle.rules.specs.Slots.{answerBytes, slotOf}
 use Rattle.rules.specs.Step.{Env, State, state, Out, out}
 use Rattle.run_slots.specs.Params.{paramsIn, FitAll}
-use Rattle.run_commands.specs.declared.Done.{Done}
+use Rattle.run_commands.specs.declared.Progress.{Progress}
 use Rattle.run_commands.specs.Action.{AllHold}
 
 -- the parameters of n components as numbers over the bytes s, the slots, the trace, and how many events and answers used
 abbrev pub stateAt : Bytes → ℕ → List ℕ → Bytes → Bytes → ℕ → ℕ → State
-stateAt s n words slots trace events used = state (paramsIn s words n) slots trace events used
+stateAt s n params slots trace events used = state (paramsIn s params n) slots trace events used
 
-abbrev pub outAt : Bytes → ℕ → List ℕ → Bytes → Bytes → Done → Out
-outAt s n words slots trace d = out (endOf (d .stop)) (stateAt s n words slots trace (d .events) (d .used))
+abbrev pub outAt : Bytes → ℕ → List ℕ → Bytes → Bytes → Progress → Out
+outAt s n params slots trace d = out (endOf (d .end)) (stateAt s n params slots trace (d .events) (d .used))
 
--- the device and answers of env are those lent, and found has the number of each component's slot
-pub record Host (env : Env) (vendor class answers : Bytes) (found : List ℕ) (slots : Bytes) : Type 0 where
+-- the device and answers of env are those lent, and assigned has the number of each component's slot
+pub record Host (env : Env) (vendor class answers : Bytes) (assigned : List ℕ) (slots : Bytes) : Type 0 where
   pub vendors : env .device .vendor ≡ vendor
   pub classes : env .device .class ≡ class
   pub replies : env .answers ≡ answers
   pub few : length (env .ids) ≤ limits .components
-  pub numbers : (i : ℕ) → i < length (env .ids) → slotOf (getD (env .ids) i []) slots ≡ getD found i 0
+  pub numbers : (i : ℕ) → i < length (env .ids) → slotOf (getD (env .ids) i []) slots ≡ getD assigned i 0
 
 -- what a run is lent, for the components and the device of env; every command keeps this
-pub record Lent (env : Env) (s vendor class : Bytes) (found : List ℕ) (answers slots : Bytes) (words : List ℕ) (trace : Bytes) : Type 0 where
-  pub host : Host env vendor class answers found slots
-  pub hold : AllHold found slots
-  pub fit : FitAll s (length (env .ids)) words
+pub record Lent (env : Env) (s vendor class : Bytes) (assigned : List ℕ) (answers slots : Bytes) (params : List ℕ) (trace : Bytes) : Type 0 where
+  pub host : Host env vendor class answers assigned slots
+  pub hold : AllHold assigned slots
+  pub fit : FitAll s (length (env .ids)) params
   pub answered : length answers % answerBytes ≡ 0
   pub room : limits .trace ≤ length trace

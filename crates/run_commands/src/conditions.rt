@@ -9,15 +9,16 @@ ghost use Rattle.rules.specs.Step as Step;
 ghost use Rattle.run_slots.specs.Slot.{Holds};
 ghost use Rattle.run_slots.specs.Params.{meaning};
 ghost use Rattle.run_commands.specs.Action.{Ends, At};
+use rules::controller::Sixteen;
+use rules::slot_format::SLOT_BYTES;
+use rules::slot_format::SLOT_DIGEST;
 use run_slots::bytes::same_parts;
 use run_slots::params::Params;
-use run_slots::slot::DIGEST;
-use run_slots::slot::SLOT_BYTES;
 use run_slots::slot::present;
 use run_slots::slot::size;
 
 // 1 and 2: pass on equal bytes.
-pub fn equal_sixteen(s: &[u8], at: usize, own: &[u8; 16]) -> usize
+pub fn equal_sixteen(s: &[u8], at: usize, own: &Sixteen) -> usize
     requires { ⌜ at + 16 ≤ length (now s) ⌝ }
     ensures { λ r. ⌜ Ends r × ((st : Step.State) → Step.out (endOf r) st ≡ Step.passes (same (part (now (s .entry)) at 16) (now (own .entry))) st) ⌝ }
 {
@@ -39,7 +40,7 @@ pub fn matches(s: &[u8], p: Params, slots: &[u8], k: usize) -> usize
     if !present(slots, k) {
         return 1;
     }
-    if !same_parts(slots, SLOT_BYTES * k + DIGEST, s, digest, 32) {
+    if !same_parts(slots, SLOT_BYTES * k + SLOT_DIGEST, s, digest, 32) {
         return 1;
     }
     let wanted = p.size;

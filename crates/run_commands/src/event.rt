@@ -7,30 +7,30 @@ ghost use Rattle.rules.specs.Answers.{endOf, resultNumber};
 ghost use Rattle.rules.specs.Bytes.{put, be2};
 ghost use Rattle.run_commands.specs.Action.{Ends};
 
-const EVENT_BYTES: usize = 8;
-
 // 0 for a command that started an image.
-fn result(stop: usize) -> u8
-    requires { ⌜ Ends stop ⌝ }
-    ensures { λ r. ⌜ r ≡ resultNumber (endOf stop) ⌝ }
+fn result(end: usize) -> u8
+    requires { ⌜ Ends end ⌝ }
+    ensures { λ r. ⌜ r ≡ resultNumber (endOf end) ⌝ }
 {
-    if stop == 2 {
+    if end == 2 {
         return 0;
     }
-    stop as u8
+    end as u8
 }
 
 // `53 54`, code, component, place in 2, result, 0.
+use rules::event_format::EVENT_BYTES;
+
 pub fn put_event(
     trace: &mut [u8],
     events: usize,
     code: usize,
     component: usize,
     place: usize,
-    stop: usize,
+    end: usize,
 )
-    requires { ⌜ (8 * events + 8 ≤ length (now trace)) × (code < 256) × (component < 256) × Ends stop ⌝ }
-    ensures { λ _. ⌜ now (trace .exit) ≡ put (now (trace .entry)) (8 * events) (0x53 ∷ 0x54 ∷ code ∷ component ∷ be2 place ++ (resultNumber (endOf stop) ∷ 0 ∷ [])) ⌝ }
+    requires { ⌜ (8 * events + 8 ≤ length (now trace)) × (code < 256) × (component < 256) × Ends end ⌝ }
+    ensures { λ _. ⌜ now (trace .exit) ≡ put (now (trace .entry)) (8 * events) (0x53 ∷ 0x54 ∷ code ∷ component ∷ be2 place ++ (resultNumber (endOf end) ∷ 0 ∷ [])) ⌝ }
 {
     let at = EVENT_BYTES * events;
     trace[at] = 0x53;
@@ -39,6 +39,6 @@ pub fn put_event(
     trace[at + 3] = component as u8;
     trace[at + 4] = (place / 256 % 256) as u8;
     trace[at + 5] = (place % 256) as u8;
-    trace[at + 6] = result(stop);
+    trace[at + 6] = result(end);
     trace[at + 7] = 0;
 }

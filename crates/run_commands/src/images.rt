@@ -8,9 +8,10 @@ ghost use Rattle.rules.specs.Step as Step;
 ghost use Rattle.run_slots.specs.Slot.{Holds};
 ghost use Rattle.run_slots.specs.Params.{meaning};
 ghost use Rattle.run_commands.specs.Action.{Ends, At, AllHold, SourceAt};
-use crate::Done;
+use crate::Progress;
 use byte_buffer::four;
-use run_slots::image::IMAGE_BYTES;
+use rules::controller::SlotNumbers;
+use rules::slot_format::IMAGE_BYTES;
 use run_slots::image::image;
 use run_slots::image::put_image;
 use run_slots::image::take;
@@ -27,61 +28,61 @@ pub fn fetch(
     used: usize,
     slots: &mut [u8],
     k: usize,
-) -> Done
+) -> Progress
     requires { ⌜ Holds (now slots) k × (length (now answers) % 37 ≡ 0) ⌝ }
-    ensures { λ r. ⌜ (r .events ≡ events) × Ends (r .stop) × ((s : Bytes) (env : Step.Env) (i : ℕ) (st : Step.State) → At env i st (now (slots .entry)) k (meaning s p) → env .answers ≡ now (answers .entry) → st .used ≡ used → Step.out (endOf (r .stop)) (Step.withUsed (Step.withSlots st (now (slots .exit))) (r .used)) ≡ Step.fetches env i st) ⌝ }
+    ensures { λ r. ⌜ (r .events ≡ events) × Ends (r .end) × ((s : Bytes) (env : Step.Env) (i : ℕ) (st : Step.State) → At env i st (now (slots .entry)) k (meaning s p) → env .answers ≡ now (answers .entry) → st .used ≡ used → Step.out (endOf (r .end)) (Step.withUsed (Step.withSlots st (now (slots .exit))) (r .used)) ≡ Step.fetches env i st) ⌝ }
 {
     let uri = p.uri;
     if uri == 0 {
-        return Done {
+        return Progress {
             events,
             used,
-            stop: 32,
+            end: 32,
         };
     }
     if answers.len() / IMAGE_BYTES <= used {
-        return Done {
+        return Progress {
             events,
             used,
-            stop: 34,
+            end: 34,
         };
     }
     let at = IMAGE_BYTES * used;
     let taken = used + 1;
     if answers[at] != 0 {
-        return Done {
+        return Progress {
             events,
             used: taken,
-            stop: 35,
+            end: 35,
         };
     }
     if capacity(slots, k) < four(answers, at + 1) {
-        return Done {
+        return Progress {
             events,
             used: taken,
-            stop: 36,
+            end: 36,
         };
     }
     let mut answer = take(answers, at);
     answer[0] = 1;
     put_image(slots, k, answer);
-    Done {
+    Progress {
         events,
         used: taken,
-        stop: 0,
+        end: 0,
     }
 }
 
 // 22, with the parameters p, to the slot of number k.
-pub fn copy(p: Params, found: &[usize; 8], slots: &mut [u8], k: usize) -> usize
-    requires { ⌜ Holds (now slots) k × AllHold (now found) (now slots) × (p .source ≤ 8) ⌝ }
-    ensures { λ r. ⌜ Ends r × ((s : Bytes) (env : Step.Env) (i : ℕ) (st : Step.State) → At env i st (now (slots .entry)) k (meaning s p) → SourceAt env st (p .source) (now (found .entry)) → Step.out (endOf r) (Step.withSlots st (now (slots .exit))) ≡ Step.copies env i st) ⌝ }
+pub fn copy(p: Params, assigned: &SlotNumbers, slots: &mut [u8], k: usize) -> usize
+    requires { ⌜ Holds (now slots) k × AllHold (now assigned) (now slots) × (p .source ≤ 8) ⌝ }
+    ensures { λ r. ⌜ Ends r × ((s : Bytes) (env : Step.Env) (i : ℕ) (st : Step.State) → At env i st (now (slots .entry)) k (meaning s p) → SourceAt env st (p .source) (now (assigned .entry)) → Step.out (endOf r) (Step.withSlots st (now (slots .exit))) ≡ Step.copies env i st) ⌝ }
 {
     let source = p.source;
     if source == 0 {
         return 32;
     }
-    let j = found[source - 1];
+    let j = assigned[source - 1];
     if !present(slots, j) {
         return 37;
     }
@@ -93,15 +94,15 @@ pub fn copy(p: Params, found: &[usize; 8], slots: &mut [u8], k: usize) -> usize
 }
 
 // 32, with the parameters p, between the slot of number k and the source's.
-pub fn swap(p: Params, found: &[usize; 8], slots: &mut [u8], k: usize) -> usize
-    requires { ⌜ Holds (now slots) k × AllHold (now found) (now slots) × (p .source ≤ 8) ⌝ }
-    ensures { λ r. ⌜ Ends r × ((s : Bytes) (env : Step.Env) (i : ℕ) (st : Step.State) → At env i st (now (slots .entry)) k (meaning s p) → SourceAt env st (p .source) (now (found .entry)) → Step.out (endOf r) (Step.withSlots st (now (slots .exit))) ≡ Step.swaps env i st) ⌝ }
+pub fn swap(p: Params, assigned: &SlotNumbers, slots: &mut [u8], k: usize) -> usize
+    requires { ⌜ Holds (now slots) k × AllHold (now assigned) (now slots) × (p .source ≤ 8) ⌝ }
+    ensures { λ r. ⌜ Ends r × ((s : Bytes) (env : Step.Env) (i : ℕ) (st : Step.State) → At env i st (now (slots .entry)) k (meaning s p) → SourceAt env st (p .source) (now (assigned .entry)) → Step.out (endOf r) (Step.withSlots st (now (slots .exit))) ≡ Step.swaps env i st) ⌝ }
 {
     let source = p.source;
     if source == 0 {
         return 32;
     }
-    let j = found[source - 1];
+    let j = assigned[source - 1];
     if !present(slots, k) {
         return 37;
     }

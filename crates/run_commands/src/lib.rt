@@ -6,8 +6,8 @@ pub mod images;
 pub mod perform;
 
 // How far a run is: events written, answers used, and the number of the end of what was done last, 0 to go on.
-pub struct Done {
+pub struct Progress {
     pub events: usize,
     pub used: usize,
-    pub stop: usize,
+    pub end: usize,
 }

@@ -8,7 +8,7 @@ ghost use Rattle.run_slots.specs.Params.{Fit, FitAll};
 ghost use Rattle.run_commands.specs.Op.{opOf, IsCode};
 ghost use Rattle.run_commands.specs.Action.{Ends, AllHold};
 ghost use Rattle.run_commands.specs.Machine.{stateAt, outAt, Host};
-use crate::Done;
+use crate::Progress;
 use crate::conditions::equal_sixteen;
 use crate::conditions::matches;
 use crate::conditions::runs;
@@ -16,15 +16,18 @@ use crate::event::put_event;
 use crate::images::copy;
 use crate::images::fetch;
 use crate::images::swap;
+use rules::controller::AllParameters;
+use rules::controller::Sixteen;
+use rules::controller::SlotNumbers;
 use run_slots::params::Params;
 use run_slots::params::load;
 use run_slots::params::over;
 use run_slots::params::store;
 
-fn ended(stop: usize, events: usize, used: usize) -> Done
-    ensures { λ r. ⌜ r ≡ record { events = events; used = used; stop = stop } ⌝ }
+fn ended(end: usize, events: usize, used: usize) -> Progress
+    ensures { λ r. ⌜ r ≡ record { events = events; used = used; end = end } ⌝ }
 {
-    Done { events, used, stop }
+    Progress { events, used, end }
 }
 
 // The command of that code at component i, whose slot has number k, its event aside.
@@ -35,19 +38,19 @@ fn act(
     given: Params,
     i: usize,
     k: usize,
-    vendor: &[u8; 16],
-    class: &[u8; 16],
-    found: &[usize; 8],
+    vendor: &Sixteen,
+    class: &Sixteen,
+    assigned: &SlotNumbers,
     answers: &[u8],
     slots: &mut [u8],
-    words: &mut [usize; 40],
+    params: &mut AllParameters,
     events: usize,
     used: usize,
-) -> Done
-    requires { ⌜ (i < 8) × (k ≡ getD (now found) i 0) × (code < 3 → value + 16 ≤ length (now s)) × AllHold (now found) (now slots) × FitAll (now s) 8 (now words) × (length (now answers) % 37 ≡ 0) × IsCode (now s) code value given ⌝ }
-    ensures { λ r. ⌜ (r .events ≡ events) × Ends (r .stop) × ((env : Env) (trace : Bytes) → Host env (now (vendor .entry)) (now (class .entry)) (now (answers .entry)) (now (found .entry)) (now (slots .entry)) → i < length (env .ids) → FitAll (now (s .entry)) (length (env .ids)) (now (words .entry)) → outAt (now (s .entry)) (length (env .ids)) (now (words .exit)) (now (slots .exit)) trace r ≡ acts env (opOf (now (s .entry)) code value given) i (stateAt (now (s .entry)) (length (env .ids)) (now (words .entry)) (now (slots .entry)) trace events used)) × ((n : ℕ) → FitAll (now (s .entry)) n (now (words .entry)) → Fit (now (s .entry)) n given → FitAll (now (s .entry)) n (now (words .exit))) ⌝ }
+) -> Progress
+    requires { ⌜ (i < 8) × (k ≡ getD (now assigned) i 0) × (code < 3 → value + 16 ≤ length (now s)) × AllHold (now assigned) (now slots) × FitAll (now s) 8 (now params) × (length (now answers) % 37 ≡ 0) × IsCode (now s) code value given ⌝ }
+    ensures { λ r. ⌜ (r .events ≡ events) × Ends (r .end) × ((env : Env) (trace : Bytes) → Host env (now (vendor .entry)) (now (class .entry)) (now (answers .entry)) (now (assigned .entry)) (now (slots .entry)) → i < length (env .ids) → FitAll (now (s .entry)) (length (env .ids)) (now (params .entry)) → outAt (now (s .entry)) (length (env .ids)) (now (params .exit)) (now (slots .exit)) trace r ≡ acts env (opOf (now (s .entry)) code value given) i (stateAt (now (s .entry)) (length (env .ids)) (now (params .entry)) (now (slots .entry)) trace events used)) × ((n : ℕ) → FitAll (now (s .entry)) n (now (params .entry)) → Fit (now (s .entry)) n given → FitAll (now (s .entry)) n (now (params .exit))) ⌝ }
 {
-    let p = load(words, i);
+    let p = load(params, i);
     match code {
         1 => ended(equal_sixteen(s, value, vendor), events, used),
         2 => ended(equal_sixteen(s, value, class), events, used),
@@ -55,17 +58,17 @@ fn act(
         12 => ended(0, events, used),
         14 => ended(33, events, used),
         19 => {
-            store(words, i, over(p, given));
+            store(params, i, over(p, given));
             ended(0, events, used)
         }
         20 => {
-            store(words, i, over(given, p));
+            store(params, i, over(given, p));
             ended(0, events, used)
         }
         21 => fetch(p, answers, events, used, slots, k),
-        22 => ended(copy(p, found, slots, k), events, used),
+        22 => ended(copy(p, assigned, slots, k), events, used),
         23 => ended(runs(slots, k), events, used),
-        _ => ended(swap(p, found, slots, k), events, used),
+        _ => ended(swap(p, assigned, slots, k), events, used),
     }
 }
 
@@ -77,20 +80,20 @@ pub fn perform(
     given: Params,
     i: usize,
     place: usize,
-    vendor: &[u8; 16],
-    class: &[u8; 16],
-    found: &[usize; 8],
+    vendor: &Sixteen,
+    class: &Sixteen,
+    assigned: &SlotNumbers,
     answers: &[u8],
     slots: &mut [u8],
-    words: &mut [usize; 40],
+    params: &mut AllParameters,
     trace: &mut [u8],
     events: usize,
     used: usize,
-) -> Done
-    requires { ⌜ (i < 8) × (code < 3 → value + 16 ≤ length (now s)) × AllHold (now found) (now slots) × FitAll (now s) 8 (now words) × (length (now answers) % 37 ≡ 0) × IsCode (now s) code value given × (8 * events + 8 ≤ length (now trace)) ⌝ }
-    ensures { λ r. ⌜ (r .events ≡ events + 1) × Ends (r .stop) × ((env : Env) → Host env (now (vendor .entry)) (now (class .entry)) (now (answers .entry)) (now (found .entry)) (now (slots .entry)) → i < length (env .ids) → FitAll (now (s .entry)) (length (env .ids)) (now (words .entry)) → outAt (now (s .entry)) (length (env .ids)) (now (words .exit)) (now (slots .exit)) (now (trace .exit)) r ≡ step env (opOf (now (s .entry)) code value given) i place (stateAt (now (s .entry)) (length (env .ids)) (now (words .entry)) (now (slots .entry)) (now (trace .entry)) events used)) × ((n : ℕ) → FitAll (now (s .entry)) n (now (words .entry)) → Fit (now (s .entry)) n given → FitAll (now (s .entry)) n (now (words .exit))) ⌝ }
+) -> Progress
+    requires { ⌜ (i < 8) × (code < 3 → value + 16 ≤ length (now s)) × AllHold (now assigned) (now slots) × FitAll (now s) 8 (now params) × (length (now answers) % 37 ≡ 0) × IsCode (now s) code value given × (8 * events + 8 ≤ length (now trace)) ⌝ }
+    ensures { λ r. ⌜ (r .events ≡ events + 1) × Ends (r .end) × ((env : Env) → Host env (now (vendor .entry)) (now (class .entry)) (now (answers .entry)) (now (assigned .entry)) (now (slots .entry)) → i < length (env .ids) → FitAll (now (s .entry)) (length (env .ids)) (now (params .entry)) → outAt (now (s .entry)) (length (env .ids)) (now (params .exit)) (now (slots .exit)) (now (trace .exit)) r ≡ step env (opOf (now (s .entry)) code value given) i place (stateAt (now (s .entry)) (length (env .ids)) (now (params .entry)) (now (slots .entry)) (now (trace .entry)) events used)) × ((n : ℕ) → FitAll (now (s .entry)) n (now (params .entry)) → Fit (now (s .entry)) n given → FitAll (now (s .entry)) n (now (params .exit))) ⌝ }
 {
-    let k = found[i];
+    let k = assigned[i];
     let d = act(
         s,
         code,
@@ -100,18 +103,18 @@ pub fn perform(
         k,
         vendor,
         class,
-        found,
+        assigned,
         answers,
         slots,
-        words,
+        params,
         events,
         used,
     );
-    let stop = d.stop;
-    put_event(trace, events, code, i, place, stop);
-    Done {
+    let end = d.end;
+    put_event(trace, events, code, i, place, end);
+    Progress {
         events: events + 1,
         used: d.used,
-        stop,
+        end,
     }
 }

@@ -20,7 +20,7 @@ use Rattle.run_admission.specs.declared.answer.Answer.the-variants.{Refused, Ra
 use Rattle.run_admission.specs.declared.answer.Ending.{Ending}
 use Rattle.run_sequence.specs.declared.Run.{Run}
 use Rattle.run_slots.specs.Slot.{namesAt, Found}
-use Rattle.run_admission.specs.Answer.{stopOf, endingOf, Settles}
+use Rattle.run_admission.specs.Answer.{refusalIn, endingOf, Settles}
 use Rattle.run_sequence.specs.Cycle.{outOf}
 use Rattle.run_envelope.specs.Sections.{SectionsJob, SectionsRan}
 use Rattle.manifest_accessors.specs.Accepted.{Accepted}
@@ -29,8 +29,8 @@ use Rattle.run_admission.proofs.FrameLaws.{trace-room, lent-start, state-start,
 use Rattle.run_admission.proofs.FrameLaws as Frame
 
 module _ (s : Bytes) (number n : ℕ) (ids sections : List ℕ) (a : Accepted s number n ids sections) where
-  module _ (group : Group) (x : Input) (refusal : ℕ) (e : refusal ≡ stopOf (admit group number (namesAt s ids n) x)) where
-    stops : refusal ≡ stopOf (admit group (a .manifest .number) (names s (a .manifest)) x)
+  module _ (group : Group) (x : Input) (refusal : ℕ) (e : refusal ≡ refusalIn (admit group number (namesAt s ids n) x)) where
+    stops : refusal ≡ refusalIn (admit group (a .manifest .number) (names s (a .manifest)) x)
     stops = rw (← a .numbered, ← named s number n ids sections a) e
 
     is-run : runEnvelope s group x ≡ runOf group (a .manifest .number) (names s (a .manifest)) (λ env st. runAll env (planOf group (a .manifest)) st) x
@@ -41,8 +41,8 @@ module _ (s : Bytes) (number n : ℕ) (ids sections : List ℕ) (a : Accepted s 
         Settles (x .device) (runEnvelope s group x) (record { answer = Refused r 0; number = x .device .number }) (x .slots) (x .slots) (x .trace) (x .trace)
     refused-answer = Frame.refused-answer group (a .manifest .number) (names s (a .manifest)) x _ (runEnvelope s group x) is-run refusal stops
 
-    module _ (z : refusal ≡ 0) (found : List ℕ) (f : Found (namesAt s ids n) (x .slots) (replicate 8 0) found) where
-      unfoldable whole : SectionsJob s sections (x .device .vendor) (x .device .class) found (x .answers) (x .slots) (replicate 40 0) (x .trace)
+    module _ (z : refusal ≡ 0) (assigned : List ℕ) (f : Found (namesAt s ids n) (x .slots) (replicate 8 0) assigned) where
+      unfoldable whole : SectionsJob s sections (x .device .vendor) (x .device .class) assigned (x .answers) (x .slots) (replicate 40 0) (x .trace)
       whole =
           record {
             manifest = a .manifest;
@@ -51,17 +51,17 @@ module _ (s : Bytes) (number n : ℕ) (ids sections : List ℕ) (a : Accepted s 
             ready =
                 record {
                   env = envOf (names s (a .manifest)) x;
-                  lent = lent-start group (a .manifest .number) (names s (a .manifest)) x refusal stops z (known s number n ids sections a .some-ids .1) found (rw (named s number n ids sections a) at f) s;
+                  lent = lent-start group (a .manifest .number) (names s (a .manifest)) x refusal stops z (known s number n ids sections a .some-ids .1) assigned (rw (named s number n ids sections a) at f) s;
                   inside = known s number n ids sections a .some-ids .0;
                 };
             among = length-map (a .manifest .ids) (bytesAt s);
           }
 
-      pub job : SectionsJob s sections (x .device .vendor) (x .device .class) found (x .answers) (x .slots) (replicate 40 0) (x .trace)
+      pub job : SectionsJob s sections (x .device .vendor) (x .device .class) assigned (x .answers) (x .slots) (replicate 40 0) (x .trace)
       job = whole
 
       module _ (r : Run) (slots′ : Bytes) (words′ : List ℕ) (trace′ : Bytes)
-          (d : (j : SectionsJob s sections (x .device .vendor) (x .device .class) found (x .answers) (x .slots) (replicate 40 0) (x .trace)) →
+          (d : (j : SectionsJob s sections (x .device .vendor) (x .device .class) assigned (x .answers) (x .slots) (replicate 40 0) (x .trace)) →
           SectionsRan s (j .ready .env) (planOf group (j .manifest)) (x .slots) (replicate 40 0) (x .trace) r slots′ words′ trace′) where
         ran : SectionsRan s (envOf (names s (a .manifest)) x) (planOf group (a .manifest)) (x .slots) (replicate 40 0) (x .trace) r slots′ words′ trace′
         unfolding whole
@@ -70,16 +70,16 @@ module _ (s : Bytes) (number n : ℕ) (ids sections : List ℕ) (a : Accepted s 
         goes : outOf s (length (names s (a .manifest))) words′ slots′ trace′ r ≡ runAll (envOf (names s (a .manifest)) x) (planOf group (a .manifest)) (startState (names s (a .manifest)) x)
         goes = ran .goes ∙ ap (runAll (envOf (names s (a .manifest)) x) (planOf group (a .manifest))) (state-start s (names s (a .manifest)) x)
 
-        pub last-event : (0 < r .stop → 0 < r .events) × (8 * r .events ≤ length trace′)
+        pub last-event : (0 < r .end → 0 < r .events) × (8 * r .events ≤ length trace′)
         unfolding report
         last-event =
-            let f = envelope-effects s group (a .manifest) x _ (a .checks) (Frame.run-as group (a .manifest .number) (names s (a .manifest)) x _ (runEnvelope s group x) is-run refusal stops z (r .stop) (r .events) (r .used) _ slots′ trace′ goes) in
+            let f = envelope-effects s group (a .manifest) x _ (a .checks) (Frame.run-as group (a .manifest .number) (names s (a .manifest)) x _ (runEnvelope s group x) is-run refusal stops z (r .end) (r .events) (r .used) _ slots′ trace′ goes) in
             (ran .late, omega (arith, f .fits, f .trace-length, trace-room group (a .manifest .number) (names s (a .manifest)) x refusal stops z))
 
-        pub answered : (ending : Ending) (after : ℕ) → ending ≡ endingOf (r .stop) (r .events) (r .used) trace′ → after ≡ numberAfter group (endOf (r .stop)) number (x .device .number) →
+        pub answered : (ending : Ending) (after : ℕ) → ending ≡ endingOf (r .end) (r .events) (r .used) trace′ → after ≡ numberAfter group (endOf (r .end)) number (x .device .number) →
             Settles (x .device) (runEnvelope s group x) (record { answer = Ran ending; number = after }) (x .slots) slots′ (x .trace) trace′
         answered ending after p q =
-            Frame.answered group (a .manifest .number) (names s (a .manifest)) x _ (runEnvelope s group x) is-run refusal stops z (r .stop) (r .events) (r .used) _ slots′ trace′ goes ending after p
+            Frame.answered group (a .manifest .number) (names s (a .manifest)) x _ (runEnvelope s group x) is-run refusal stops z (r .end) (r .events) (r .used) _ slots′ trace′ goes ending after p
             (rw (← a .numbered) q)
 
 module _ (s : Bytes) (r : Report) (e : r ≡ reportOf (check s)) (k : Refusal) (p : ℕ) (h : r .answer ≡ The.Refused k p) where

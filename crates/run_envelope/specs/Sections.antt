@@ -16,17 +16,17 @@ use Rattle.run_sequence.specs.Cycle.{outOf, Ready}
 
 -- the run at the start of the sequence at `from`, with what r has done
 abbrev pub startOf : ℕ → Run → Run
-startOf from r = record { next = from; index = 0; coerce = 1; events = r .events; used = r .used; stop = 0 }
+startOf from r = record { next = from; index = 0; coerce = 1; events = r .events; used = r .used; end = 0 }
 
 -- the places of the sections of an accepted envelope, and a run over lent memory
-pub record SectionsJob (s : Bytes) (sections : List ℕ) (vendor class : Bytes) (found : List ℕ) (answers slots : Bytes) (words : List ℕ) (trace : Bytes) : Type 0 where
+pub record SectionsJob (s : Bytes) (sections : List ℕ) (vendor class : Bytes) (assigned : List ℕ) (answers slots : Bytes) (params : List ℕ) (trace : Bytes) : Type 0 where
   pub manifest : Manifest
   pub checks : check s ≡ got manifest
   pub places : sections ≡ placed (manifest .sections) (replicate 12 0)
-  pub ready : Ready s vendor class found answers slots words trace 0
+  pub ready : Ready s vendor class assigned answers slots params trace 0
   pub among : length (ready .env .ids) ≡ length (manifest .ids)
 
 -- what was left in memory is what the rule gives for the sequences one after the other
-pub record SectionsRan (s : Bytes) (env : Env) (plan : List Seq) (slots : Bytes) (words : List ℕ) (trace : Bytes) (r : Run) (slots′ : Bytes) (words′ : List ℕ) (trace′ : Bytes) : Type 0 where
-  pub goes : outOf s (length (env .ids)) words′ slots′ trace′ r ≡ runAll env plan (stateAt s (length (env .ids)) words slots trace 0 0)
-  pub late : 0 < r .stop → 0 < r .events
+pub record SectionsRan (s : Bytes) (env : Env) (plan : List Seq) (slots : Bytes) (params : List ℕ) (trace : Bytes) (r : Run) (slots′ : Bytes) (words′ : List ℕ) (trace′ : Bytes) : Type 0 where
+  pub goes : outOf s (length (env .ids)) words′ slots′ trace′ r ≡ runAll env plan (stateAt s (length (env .ids)) params slots trace 0 0)
+  pub late : 0 < r .end → 0 < r .events

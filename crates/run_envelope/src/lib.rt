@@ -8,12 +8,15 @@ use check_envelope::check;
 use check_envelope::report::Checked;
 use rules::answers::Group;
 use rules::answers::Refusal;
+use rules::controller::ALL_PARAMETERS;
 use rules::controller::Controller;
+use rules::controller::Places;
+use rules::controller::SectionPlaces;
 use run_admission::admit::admit;
 use run_admission::answer::Answer;
 use run_admission::answer::Outcome;
 use run_admission::ending::ended;
-use run_admission::ending::taken;
+use run_admission::ending::number_after;
 use sections::run_sections;
 
 pub mod sections;
@@ -24,8 +27,8 @@ fn run_checked(
     group: Group,
     number: usize,
     n: usize,
-    ids: &[usize; 16],
-    sections: &[usize; 12],
+    ids: &Places,
+    sections: &SectionPlaces,
     verdict: bool,
     device: Controller,
     slots: &mut [u8],
@@ -35,7 +38,7 @@ fn run_checked(
     requires { ⌜ Accepted (now s) number n (now ids) (now sections) ⌝ }
     ensures { λ r. ⌜ Settles device (runEnvelope (now (s .entry)) group (inputOf verdict device (now (slots .entry)) (now (answers .entry)) (now (trace .entry)))) r (now (slots .entry)) (now (slots .exit)) (now (trace .entry)) (now (trace .exit)) ⌝ }
 {
-    let mut found = [0usize; 8];
+    let mut assigned = [0usize; Controller::COMPONENTS];
     let refusal = admit(
         s,
         group,
@@ -47,7 +50,7 @@ fn run_checked(
         slots,
         answers,
         trace,
-        &mut found,
+        &mut assigned,
     );
     if refusal != 0 {
         return Outcome {
@@ -57,22 +60,22 @@ fn run_checked(
     }
     let vendor = device.vendor;
     let class = device.class;
-    let mut words = [0usize; 40];
+    let mut params = [0usize; ALL_PARAMETERS];
     let done = run_sections(
         s,
         group,
         sections,
         &vendor,
         &class,
-        &found,
+        &assigned,
         answers,
         slots,
-        &mut words,
+        &mut params,
         trace,
     );
     Outcome {
-        answer: Answer::Ran(ended(done.stop, done.events, done.used, trace)),
-        number: taken(group, done.stop, number as u32, device.number),
+        answer: Answer::Ran(ended(done.end, done.events, done.used, trace)),
+        number: number_after(group, done.end, number as u32, device.number),
     }
 }
 

@@ -6,7 +6,11 @@ ghost use Rattle.run_sequence.specs.Cycle.{SequenceJob, SequenceRan};
 ghost use Rattle.run_envelope.specs.Sections.{startOf, SectionsJob, SectionsRan};
 use manifest_accessors::sections::wanted;
 use rules::answers::Group;
+use rules::controller::AllParameters;
 use rules::controller::Controller;
+use rules::controller::SectionPlaces;
+use rules::controller::Sixteen;
+use rules::controller::SlotNumbers;
 use run_sequence::Run;
 use run_sequence::run_sequence;
 
@@ -16,16 +20,16 @@ fn run_section(
     wanted: bool,
     from: usize,
     run: Run,
-    vendor: &[u8; 16],
-    class: &[u8; 16],
-    found: &[usize; 8],
+    vendor: &Sixteen,
+    class: &Sixteen,
+    assigned: &SlotNumbers,
     answers: &[u8],
     slots: &mut [u8],
-    words: &mut [usize; 40],
+    params: &mut AllParameters,
     trace: &mut [u8],
 ) -> Run
-    requires { ⌜ (wanted ≡ true → SequenceJob (now s) 4 (startOf from run) (now vendor) (now class) (now found) (now answers) (now slots) (now words) (now trace)) ⌝ }
-    ensures { λ r. ⌜ (wanted ≡ true → (j : SequenceJob (now (s .entry)) 4 (startOf from run) (now (vendor .entry)) (now (class .entry)) (now (found .entry)) (now (answers .entry)) (now (slots .entry)) (now (words .entry)) (now (trace .entry))) → SequenceRan (now (s .entry)) (j .ready .env) (j .place .seq) false (startOf from run) (now (slots .entry)) (now (words .entry)) (now (trace .entry)) r (now (slots .exit)) (now (words .exit)) (now (trace .exit))) × (wanted ≡ false → (r ≡ run) × (now (slots .exit) ≡ now (slots .entry)) × (now (words .exit) ≡ now (words .entry)) × (now (trace .exit) ≡ now (trace .entry))) ⌝ }
+    requires { ⌜ (wanted ≡ true → SequenceJob (now s) 4 (startOf from run) (now vendor) (now class) (now assigned) (now answers) (now slots) (now params) (now trace)) ⌝ }
+    ensures { λ r. ⌜ (wanted ≡ true → (j : SequenceJob (now (s .entry)) 4 (startOf from run) (now (vendor .entry)) (now (class .entry)) (now (assigned .entry)) (now (answers .entry)) (now (slots .entry)) (now (params .entry)) (now (trace .entry))) → SequenceRan (now (s .entry)) (j .ready .env) (j .place .seq) false (startOf from run) (now (slots .entry)) (now (params .entry)) (now (trace .entry)) r (now (slots .exit)) (now (params .exit)) (now (trace .exit))) × (wanted ≡ false → (r ≡ run) × (now (slots .exit) ≡ now (slots .entry)) × (now (params .exit) ≡ now (params .entry)) × (now (trace .exit) ≡ now (trace .entry))) ⌝ }
 {
     if !wanted {
         return run;
@@ -40,14 +44,14 @@ fn run_section(
             coerce: 1,
             events: run.events,
             used: run.used,
-            stop: 0,
+            end: 0,
         },
         vendor,
         class,
-        found,
+        assigned,
         answers,
         slots,
-        words,
+        params,
         trace,
     )
 }
@@ -56,17 +60,17 @@ fn run_section(
 pub fn run_sections(
     s: &[u8],
     group: Group,
-    sections: &[usize; 12],
-    vendor: &[u8; 16],
-    class: &[u8; 16],
-    found: &[usize; 8],
+    sections: &SectionPlaces,
+    vendor: &Sixteen,
+    class: &Sixteen,
+    assigned: &SlotNumbers,
     answers: &[u8],
     slots: &mut [u8],
-    words: &mut [usize; 40],
+    params: &mut AllParameters,
     trace: &mut [u8],
 ) -> Run
-    requires { ⌜ SectionsJob (now s) (now sections) (now vendor) (now class) (now found) (now answers) (now slots) (now words) (now trace) ⌝ }
-    ensures { λ r. ⌜ ((j : SectionsJob (now (s .entry)) (now (sections .entry)) (now (vendor .entry)) (now (class .entry)) (now (found .entry)) (now (answers .entry)) (now (slots .entry)) (now (words .entry)) (now (trace .entry))) → SectionsRan (now (s .entry)) (j .ready .env) (planOf group (j .manifest)) (now (slots .entry)) (now (words .entry)) (now (trace .entry)) r (now (slots .exit)) (now (words .exit)) (now (trace .exit))) ⌝ }
+    requires { ⌜ SectionsJob (now s) (now sections) (now vendor) (now class) (now assigned) (now answers) (now slots) (now params) (now trace) ⌝ }
+    ensures { λ r. ⌜ ((j : SectionsJob (now (s .entry)) (now (sections .entry)) (now (vendor .entry)) (now (class .entry)) (now (assigned .entry)) (now (answers .entry)) (now (slots .entry)) (now (params .entry)) (now (trace .entry))) → SectionsRan (now (s .entry)) (j .ready .env) (planOf group (j .manifest)) (now (slots .entry)) (now (params .entry)) (now (trace .entry)) r (now (slots .exit)) (now (params .exit)) (now (trace .exit))) ⌝ }
 {
     let mut now = Run {
         next: 0,
@@ -74,7 +78,7 @@ pub fn run_sections(
         coerce: 1,
         events: 0,
         used: 0,
-        stop: 0,
+        end: 0,
     };
     let mut k = 0;
     while k < 6 {
@@ -87,14 +91,14 @@ pub fn run_sections(
             now,
             vendor,
             class,
-            found,
+            assigned,
             answers,
             slots,
-            words,
+            params,
             trace,
         );
-        let stop = now.stop;
-        if stop != 0 {
+        let end = now.end;
+        if end != 0 {
             return now;
         }
         k += 1;

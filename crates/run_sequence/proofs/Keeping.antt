@@ -13,34 +13,34 @@ use Rattle.run_sequence.specs.declared.Run.{Run}
 use Rattle.run_sequence.specs.Cycle.{stateOf, outOf, Ready}
 
 -- Ready at a given environment
-pub record Kept (env : Env) (s vendor class : Bytes) (found : List ℕ) (answers slots : Bytes) (words : List ℕ) (trace : Bytes) (index : ℕ) : Type 0 where
-  pub lent : Lent env s vendor class found answers slots words trace
+pub record Kept (env : Env) (s vendor class : Bytes) (assigned : List ℕ) (answers slots : Bytes) (params : List ℕ) (trace : Bytes) (index : ℕ) : Type 0 where
+  pub lent : Lent env s vendor class assigned answers slots params trace
   pub inside : index < length (env .ids)
 
-module _ (s vendor class : Bytes) (found : List ℕ) (answers : Bytes) where
-  abbrev pub ready-of : (env : Env) (slots : Bytes) (words : List ℕ) (trace : Bytes) (index : ℕ) → Kept env s vendor class found answers slots words trace index →
-      Ready s vendor class found answers slots words trace index
-  ready-of env slots words trace index k = record { env = env; lent = k .lent; inside = k .inside }
+module _ (s vendor class : Bytes) (assigned : List ℕ) (answers : Bytes) where
+  abbrev pub ready-of : (env : Env) (slots : Bytes) (params : List ℕ) (trace : Bytes) (index : ℕ) → Kept env s vendor class assigned answers slots params trace index →
+      Ready s vendor class assigned answers slots params trace index
+  ready-of env slots params trace index k = record { env = env; lent = k .lent; inside = k .inside }
 
-  abbrev pub kept-of : (slots : Bytes) (words : List ℕ) (trace : Bytes) (index : ℕ) (r : Ready s vendor class found answers slots words trace index) →
-      Kept (r .env) s vendor class found answers slots words trace index
-  kept-of slots words trace index r = record { lent = r .lent; inside = r .inside }
+  abbrev pub kept-of : (slots : Bytes) (params : List ℕ) (trace : Bytes) (index : ℕ) (r : Ready s vendor class assigned answers slots params trace index) →
+      Kept (r .env) s vendor class assigned answers slots params trace index
+  kept-of slots params trace index r = record { lent = r .lent; inside = r .inside }
 
   -- after a run of something, at another index
-  pub kept-after : (env : Env) (slots : Bytes) (words : List ℕ) (trace : Bytes) (index : ℕ) → Kept env s vendor class found answers slots words trace index →
-      (run : Run) (o : Out) (n : ℕ) → Moves (stateOf s (length (env .ids)) words slots trace run) (o .state) n →
+  pub kept-after : (env : Env) (slots : Bytes) (params : List ℕ) (trace : Bytes) (index : ℕ) → Kept env s vendor class assigned answers slots params trace index →
+      (run : Run) (o : Out) (n : ℕ) → Moves (stateOf s (length (env .ids)) params slots trace run) (o .state) n →
       (r : Run) (slots′ : Bytes) (words′ : List ℕ) (trace′ : Bytes) → outOf s (length (env .ids)) words′ slots′ trace′ r ≡ o → FitAll s (length (env .ids)) words′ →
-      (index′ : ℕ) → index′ < length (env .ids) → Kept env s vendor class found answers slots′ words′ trace′ index′
-  kept-after env slots words trace index k run o n m r slots′ words′ trace′ e fit index′ inside =
+      (index′ : ℕ) → index′ < length (env .ids) → Kept env s vendor class assigned answers slots′ words′ trace′ index′
+  kept-after env slots params trace index k run o n m r slots′ words′ trace′ e fit index′ inside =
       record {
         lent =
-            lent-after env s vendor class found answers slots words trace (k .lent) (stateOf s (length (env .ids)) words slots trace run) (o .state) n refl refl m slots′ words′ trace′
+            lent-after env s vendor class assigned answers slots params trace (k .lent) (stateOf s (length (env .ids)) params slots trace run) (o .state) n refl refl m slots′ words′ trace′
             (ap (λ (x : Out). x .state .slots) e) (ap (λ (x : Out). x .state .trace) e) fit;
         inside = inside;
       }
 
-  pub events-after : (n : ℕ) (words : List ℕ) (slots trace : Bytes) (run : Run) (o : Out) (k m : ℕ) → Moves (stateOf s n words slots trace run) (o .state) k → run .events ≤ m →
+  pub events-after : (n : ℕ) (params : List ℕ) (slots trace : Bytes) (run : Run) (o : Out) (k m : ℕ) → Moves (stateOf s n params slots trace run) (o .state) k → run .events ≤ m →
       (r : Run) (slots′ : Bytes) (words′ : List ℕ) (trace′ : Bytes) → outOf s n words′ slots′ trace′ r ≡ o → r .events ≤ m + k
-  events-after n words slots trace run o k m v few r slots′ words′ trace′ e =
+  events-after n params slots trace run o k m v few r slots′ words′ trace′ e =
       let es : r .events ≡ o .state .events = ap (λ (x : Out). x .state .events) e in
       omega (arith, v .events)

@@ -14,11 +14,11 @@ use Rattle.rules.specs.Step.{Env, State, step}
 use Rattle.rules.specs.Run.{runSeq, runCmd}
 use Rattle.manifest_accessors.specs.declared.arguments.Args.{Args}
 use Rattle.run_sequence.specs.declared.Run.{Run}
-use Rattle.run_commands.specs.declared.Done.{Done}
+use Rattle.run_commands.specs.declared.Progress.{Progress}
 use Rattle.run_slots.specs.Params.{FitAll}
 use Rattle.run_commands.specs.Op.{opOf, IsCode}
 use Rattle.run_commands.specs.Machine.{stateAt, outAt}
-use Rattle.manifest_accessors.specs.Arguments.{paramsOf, ReadAs}
+use Rattle.manifest_accessors.specs.Arguments.{paramsOf, ArgumentRead}
 use Rattle.run_sequence.specs.Cycle.{LeafJob, CommandRan}
 use Rattle.manifest_accessors.proofs.OneLaws.{one-plain, coerce-after}
 
@@ -26,8 +26,8 @@ run-one : (env : Env) (p : ℕ) (op : Rules.Op) (b : Option Bool) (i : ℕ) (st 
 unfolding runSeq
 run-one env p op b i st = refl
 
-module _ (s : Bytes) (code at : ℕ) (run : Run) (vendor class : Bytes) (found : List ℕ) (answers slots : Bytes) (words : List ℕ) (trace : Bytes)
-    (j : LeafJob s code at run vendor class found answers slots words trace) (a : Args) (r : ReadAs s code at (j .argument) a)
+module _ (s : Bytes) (code at : ℕ) (run : Run) (vendor class : Bytes) (assigned : List ℕ) (answers slots : Bytes) (params : List ℕ) (trace : Bytes)
+    (j : LeafJob s code at run vendor class assigned answers slots params trace) (a : Args) (r : ArgumentRead s code at (j .argument) a)
     (i : ℕ) (e : i ≡ cond (eqb code 12) (a .value) (run .index)) where
   pub leaf-component : i ≡ Rules.component (j .argument .op) (run .index)
   leaf-component = e ∙ sym (r .component (run .index))
@@ -35,7 +35,7 @@ module _ (s : Bytes) (code at : ℕ) (run : Run) (vendor class : Bytes) (found :
   pub leaf-inside : i < length (j .ready .env .ids)
   leaf-inside = omega (arith, leaf-component, r .inside (run .index) (omega (arith, j .among, j .ready .inside)), j .among)
 
-  pub leaf-fit : FitAll s 8 words
+  pub leaf-fit : FitAll s 8 params
   leaf-fit k h = record { source = omega (arith, j .ready .lent .fit k h .source, j .ready .lent .host .few); digest = j .ready .lent .fit k h .digest }
 
   pub leaf-code : IsCode s code (a .value) (paramsOf a)
@@ -44,12 +44,12 @@ module _ (s : Bytes) (code at : ℕ) (run : Run) (vendor class : Bytes) (found :
   pub leaf-room : 8 * run .events + 8 ≤ length trace
   leaf-room = omega (arith, j .few, j .ready .lent .room)
 
-  pub leaf-ran : (d : Done) (slots′ : Bytes) (words′ : List ℕ) (trace′ : Bytes) → d .events ≡ run .events + 1 →
+  pub leaf-ran : (d : Progress) (slots′ : Bytes) (words′ : List ℕ) (trace′ : Bytes) → d .events ≡ run .events + 1 →
       outAt s (length (j .ready .env .ids)) words′ slots′ trace′ d
-      ≡ step (j .ready .env) (opOf s code (a .value) (paramsOf a)) i (run .next) (stateAt s (length (j .ready .env .ids)) words slots trace (run .events) (run .used)) →
+      ≡ step (j .ready .env) (opOf s code (a .value) (paramsOf a)) i (run .next) (stateAt s (length (j .ready .env .ids)) params slots trace (run .events) (run .used)) →
       FitAll s (length (j .ready .env .ids)) words′ → (c : ℕ) → c ≡ cond (eqb (a .coerce) 0) (run .coerce) (a .coerce) →
-      CommandRan s (j .ready .env) (one (run .next) (j .argument .op) (j .argument .coerce)) (j .argument .to) run slots words trace
-      (record { next = a .next; index = i; coerce = c; events = d .events; used = d .used; stop = d .stop }) slots′ words′ trace′
+      CommandRan s (j .ready .env) (one (run .next) (j .argument .op) (j .argument .coerce)) (j .argument .to) run slots params trace
+      (record { next = a .next; index = i; coerce = c; events = d .events; used = d .used; end = d .end }) slots′ words′ trace′
   leaf-ran d slots′ words′ trace′ ev goes fit c ec =
       record {
         goes = goes ∙ (rw (r .op, leaf-component) (sym (run-one _ _ _ _ _ _)));

@@ -18,32 +18,32 @@ use Rattle.rules.specs.Run.{on, next, runSeq, runCmd, indexAfter, coerceAfter}
 use Rattle.run_sequence.specs.declared.Run.{Run}
 use Rattle.manifest_accessors.specs.Arguments.{isTrue}
 use Rattle.run_sequence.specs.Cycle.{stateOf, outOf, Ready, CommandJob, SequenceJob, CommandRan, SequenceRan, caughtBy}
-use Rattle.manifest_accessors.specs.Heads.{Headed}
+use Rattle.manifest_accessors.specs.Heads.{HeadAt}
 use Rattle.manifest_accessors.proofs.HeadLaws.{item-headed}
 use Rattle.manifest_accessors.proofs.SequencePlaces.{CommandsAt, Start, start, Turn, turn, no-more}
 use Rattle.run_commands.proofs.LentLaws.{Moves, moves-cmd}
 use Rattle.run_sequence.proofs.Keeping.{Kept, ready-of, kept-of, kept-after, events-after}
 
 -- a run goes on after a command that went well
-goes-on : (env : Env) (c : Cmd) (cs : Seq) (own : Bool) (i : ℕ) (co : Bool) (st st′ : State) (n : ℕ) → n ≡ 0 → runCmd env c i st ≡ out (endOf n) st′ →
-    runSeq env (then c cs) own i co st ≡ runSeq env cs own (indexAfter c i) (coerceAfter c co) st′
+goes-on : (env : Env) (c : Cmd) (cs : Seq) (coercible : Bool) (i : ℕ) (co : Bool) (st st′ : State) (n : ℕ) → n ≡ 0 → runCmd env c i st ≡ out (endOf n) st′ →
+    runSeq env (then c cs) coercible i co st ≡ runSeq env cs coercible (indexAfter c i) (coerceAfter c co) st′
 unfolding runSeq on
-goes-on env c cs own i co st st′ n z e = rw (e, z)
+goes-on env c cs coercible i co st st′ n z e = rw (e, z)
 
 -- and ends with any other
-stops : (env : Env) (c : Cmd) (cs : Seq) (own : Bool) (i : ℕ) (co : Bool) (st st′ : State) (n : ℕ) → (n ≡ 0 → ⊥) → runCmd env c i st ≡ out (endOf n) st′ →
-    runSeq env (then c cs) own i co st ≡ out (endOf (cond (own && co && eqb n 1) 0 n)) st′
+stops : (env : Env) (c : Cmd) (cs : Seq) (coercible : Bool) (i : ℕ) (co : Bool) (st st′ : State) (n : ℕ) → (n ≡ 0 → ⊥) → runCmd env c i st ≡ out (endOf n) st′ →
+    runSeq env (then c cs) coercible i co st ≡ out (endOf (cond (coercible && co && eqb n 1) 0 n)) st′
 unfolding runSeq on
-stops env c cs own i co st st′ n z e = rw (e, ne-eqb n 0 z) (go (eqb n 1) refl own co)
+stops env c cs coercible i co st st′ n z e = rw (e, ne-eqb n 0 z) (go (eqb n 1) refl coercible co)
   where
     other : (b d : Bool) → eqb n 1 ≡ false →
-        on (cond b Started (Failed (failureOf n))) st′ (λ st″. runSeq env cs own (indexAfter c i) (coerceAfter c co) st″) (λ st″. out (cond d Finished ConditionFailed) st″)
+        on (cond b Started (Failed (failureOf n))) st′ (λ st″. runSeq env cs coercible (indexAfter c i) (coerceAfter c co) st″) (λ st″. out (cond d Finished ConditionFailed) st″)
         ≡ out (cond b Started (Failed (failureOf n))) st′
     other true d f = refl
     other false d f = refl
 
     go : (b : Bool) → eqb n 1 ≡ b → (p q : Bool) →
-        on (cond b ConditionFailed (cond (eqb n 2) Started (Failed (failureOf n)))) st′ (λ st″. runSeq env cs own (indexAfter c i) (coerceAfter c co) st″) (λ st″. out (cond (p && q) Finished ConditionFailed) st″)
+        on (cond b ConditionFailed (cond (eqb n 2) Started (Failed (failureOf n)))) st′ (λ st″. runSeq env cs coercible (indexAfter c i) (coerceAfter c co) st″) (λ st″. out (cond (p && q) Finished ConditionFailed) st″)
         ≡ out (endOf (cond (p && q && b) 0 n)) st′
     go true f true true = refl
     go true f true false = rw (ne-eqb n 0 z, f)
@@ -52,24 +52,24 @@ stops env c cs own i co st st′ n z e = rw (e, ne-eqb n 0 z) (go (eqb n 1) refl
     go false f true false = rw (ne-eqb n 0 z, f) (other (eqb n 2) false f)
     go false f false q = rw (ne-eqb n 0 z, f) (other (eqb n 2) false f)
 
-pub record CommandsJob (s : Bytes) (depth k : ℕ) (run : Run) (vendor class : Bytes) (found : List ℕ) (answers slots : Bytes) (words : List ℕ) (trace : Bytes) : Type 0 where
-  pub ready : Ready s vendor class found answers slots words trace (run .index)
+pub record CommandsJob (s : Bytes) (depth k : ℕ) (run : Run) (vendor class : Bytes) (assigned : List ℕ) (answers slots : Bytes) (params : List ℕ) (trace : Bytes) : Type 0 where
+  pub ready : Ready s vendor class assigned answers slots params trace (run .index)
   pub place : CommandsAt s (length (ready .env .ids)) depth (run .events) k (run .next)
 
 -- the loop over commands: the whole gives what the commands that are left give from here
-pub record Loop (s vendor class : Bytes) (found : List ℕ) (answers : Bytes) (depth : ℕ) (own : Bool) (env : Env) (whole : Out) (slots : Bytes) (words : List ℕ) (trace : Bytes) (left : ℕ) (now : Run) : Type 0 where
-  pub kept : Kept env s vendor class found answers slots words trace (now .index)
+pub record Loop (s vendor class : Bytes) (assigned : List ℕ) (answers : Bytes) (depth : ℕ) (coercible : Bool) (env : Env) (whole : Out) (slots : Bytes) (params : List ℕ) (trace : Bytes) (left : ℕ) (now : Run) : Type 0 where
+  pub kept : Kept env s vendor class assigned answers slots params trace (now .index)
   pub place : CommandsAt s (length (env .ids)) depth (now .events) left (now .next)
-  pub goes : whole ≡ runSeq env (place .cmds) own (now .index) (isTrue (now .coerce)) (stateOf s (length (env .ids)) words slots trace now)
-  pub calm : now .stop ≡ 0
+  pub goes : whole ≡ runSeq env (place .cmds) coercible (now .index) (isTrue (now .coerce)) (stateOf s (length (env .ids)) params slots trace now)
+  pub calm : now .end ≡ 0
 
-module _ (s vendor class : Bytes) (found : List ℕ) (answers : Bytes) (depth : ℕ) (own : Bool) (slots : Bytes) (words : List ℕ) (trace : Bytes) (left : ℕ) (now : Run) where
-  pub loop-starts : now .stop ≡ 0 → (x : CommandsJob s depth left now vendor class found answers slots words trace) →
-      Loop s vendor class found answers depth own (x .ready .env) (runSeq (x .ready .env) (x .place .cmds) own (now .index) (isTrue (now .coerce)) (stateOf s (length (x .ready .env .ids)) words slots trace now)) slots words trace left now
-  loop-starts z x = record { kept = kept-of s vendor class found answers slots words trace (now .index) (x .ready); place = x .place; goes = refl; calm = z }
+module _ (s vendor class : Bytes) (assigned : List ℕ) (answers : Bytes) (depth : ℕ) (coercible : Bool) (slots : Bytes) (params : List ℕ) (trace : Bytes) (left : ℕ) (now : Run) where
+  pub loop-starts : now .end ≡ 0 → (x : CommandsJob s depth left now vendor class assigned answers slots params trace) →
+      Loop s vendor class assigned answers depth coercible (x .ready .env) (runSeq (x .ready .env) (x .place .cmds) coercible (now .index) (isTrue (now .coerce)) (stateOf s (length (x .ready .env .ids)) params slots trace now)) slots params trace left now
+  loop-starts z x = record { kept = kept-of s vendor class assigned answers slots params trace (now .index) (x .ready); place = x .place; goes = refl; calm = z }
 
-  module _ (env : Env) (whole : Out) (l : Loop s vendor class found answers depth own env whole slots words trace left now) where
-    pub loop-done : left ≡ 0 → outOf s (length (env .ids)) words slots trace now ≡ whole
+  module _ (env : Env) (whole : Out) (l : Loop s vendor class assigned answers depth coercible env whole slots params trace left now) where
+    pub loop-done : left ≡ 0 → outOf s (length (env .ids)) params slots trace now ≡ whole
     unfolding runSeq
     loop-done z = rw (l .calm) (sym (l .goes ∙ rw (no-more s (length (env .ids)) depth (now .events) left (now .next) (l .place) z)))
 
@@ -77,24 +77,24 @@ module _ (s vendor class : Bytes) (found : List ℕ) (answers : Bytes) (depth : 
       abbrev pub its-turn : Turn s (length (env .ids)) depth (now .events) left (now .next) (l .place)
       its-turn = turn s (length (env .ids)) depth (now .events) left (now .next) (l .place) h
 
-      abbrev pub command-job : CommandJob s depth now vendor class found answers slots words trace
-      command-job = record { ready = ready-of s vendor class found answers env slots words trace (now .index) (l .kept); place = its-turn .first }
+      abbrev pub command-job : CommandJob s depth now vendor class assigned answers slots params trace
+      command-job = record { ready = ready-of s vendor class assigned answers env slots params trace (now .index) (l .kept); place = its-turn .first }
 
       module _ (r : Run) (slots′ : Bytes) (words′ : List ℕ) (trace′ : Bytes)
-          (ran : CommandRan s env (its-turn .first .cmd) (its-turn .first .to) now slots words trace r slots′ words′ trace′) where
-        pub loop-stops : (r .stop ≡ 0 → ⊥) → outOf s (length (env .ids)) words′ slots′ trace′ (caughtBy own (now .coerce) r) ≡ whole
+          (ran : CommandRan s env (its-turn .first .cmd) (its-turn .first .to) now slots params trace r slots′ words′ trace′) where
+        pub loop-stops : (r .end ≡ 0 → ⊥) → outOf s (length (env .ids)) words′ slots′ trace′ (caughtBy coercible (now .coerce) r) ≡ whole
         loop-stops z =
-            sym (l .goes ∙ rw (its-turn .cmds) (stops env (its-turn .first .cmd) (its-turn .rest .cmds) own (now .index) (isTrue (now .coerce)) (stateOf s (length (env .ids)) words slots trace now) (stateOf s (length (env .ids)) words′ slots′ trace′ r) (r .stop) z (sym (ran .goes))))
+            sym (l .goes ∙ rw (its-turn .cmds) (stops env (its-turn .first .cmd) (its-turn .rest .cmds) coercible (now .index) (isTrue (now .coerce)) (stateOf s (length (env .ids)) params slots trace now) (stateOf s (length (env .ids)) words′ slots′ trace′ r) (r .end) z (sym (ran .goes))))
 
-        pub loop-goes-on : r .stop ≡ 0 → Loop s vendor class found answers depth own env whole slots′ words′ trace′ (left - 1) r
+        pub loop-goes-on : r .end ≡ 0 → Loop s vendor class assigned answers depth coercible env whole slots′ words′ trace′ (left - 1) r
         loop-goes-on z =
             let t = its-turn in
-            let st : State = stateOf s (length (env .ids)) words slots trace now in
+            let st : State = stateOf s (length (env .ids)) params slots trace now in
             let m : Moves st (runCmd env (t .first .cmd) (now .index) st .state) (countCmd (t .first .cmd)) = moves-cmd env (t .first .cmd) (now .index) st in
             let w : r .events ≤ t .first .m + countCmd (t .first .cmd) =
-            events-after s vendor class found answers (length (env .ids)) words slots trace now _ _ (t .first .m) m (t .under) r slots′ words′ trace′ (ran .goes) in
+            events-after s vendor class assigned answers (length (env .ids)) params slots trace now _ _ (t .first .m) m (t .under) r slots′ words′ trace′ (ran .goes) in
             record {
-              kept = kept-after s vendor class found answers env slots words trace (now .index) (l .kept) now _ _ m r slots′ words′ trace′ (ran .goes) (ran .fit) (r .index) (ran .inside z);
+              kept = kept-after s vendor class assigned answers env slots params trace (now .index) (l .kept) now _ _ m r slots′ words′ trace′ (ran .goes) (ran .fit) (r .index) (ran .inside z);
               place =
                   record {
                     section = t .rest .section;
@@ -107,25 +107,25 @@ module _ (s vendor class : Bytes) (found : List ℕ) (answers : Bytes) (depth : 
                     few = omega (arith, t .few);
                   };
               goes =
-                  l .goes ∙ ap (λ (a : Seq). runSeq env a own (now .index) (isTrue (now .coerce)) st) (t .cmds)
-                  ∙ rw (ran .index z, ran .coerce) (goes-on env (t .first .cmd) (t .rest .cmds) own (now .index) (isTrue (now .coerce)) st (stateOf s (length (env .ids)) words′ slots′ trace′ r) (r .stop) z (sym (ran .goes)));
+                  l .goes ∙ ap (λ (a : Seq). runSeq env a coercible (now .index) (isTrue (now .coerce)) st) (t .cmds)
+                  ∙ rw (ran .index z, ran .coerce) (goes-on env (t .first .cmd) (t .rest .cmds) coercible (now .index) (isTrue (now .coerce)) st (stateOf s (length (env .ids)) words′ slots′ trace′ r) (r .end) z (sym (ran .goes)));
               calm = z;
             }
 
 -- a run of a sequence, from its job
-module _ (s : Bytes) (depth : ℕ) (run : Run) (vendor class : Bytes) (found : List ℕ) (answers slots : Bytes) (words : List ℕ) (trace : Bytes)
-    (j : SequenceJob s depth run vendor class found answers slots words trace) where
+module _ (s : Bytes) (depth : ℕ) (run : Run) (vendor class : Bytes) (assigned : List ℕ) (answers slots : Bytes) (params : List ℕ) (trace : Bytes)
+    (j : SequenceJob s depth run vendor class assigned answers slots params trace) where
   abbrev began : Start s (length (j .ready .env .ids)) depth (run .events) (run .next) (j .place)
   began = start s (length (j .ready .env .ids)) depth (run .events) (run .next) (j .place)
 
   pub sequence-deep : 0 < depth
   sequence-deep = began .deep
 
-  abbrev pub sequence-head : Headed s (run .next)
-  sequence-head = item-headed s ARRAY 0 (limits .pairs + limits .pairs) (j .place .e) (run .next) (began .head) (j .place .fits) (omega arith) (began .item)
+  abbrev pub sequence-head : HeadAt s (run .next)
+  sequence-head = item-headed s ARRAY 0 (limits .sequence + limits .sequence) (j .place .e) (run .next) (began .head) (j .place .fits) (omega arith) (began .item)
 
   abbrev pub commands-job : (v p : ℕ) → (v ≡ sequence-head .head .num) × (p ≡ sequence-head .head .next) →
-      CommandsJob s (depth - 1) (v / 2) (record { next = p; index = run .index; coerce = 1; events = run .events; used = run .used; stop = 0 }) vendor class found answers slots words trace
+      CommandsJob s (depth - 1) (v / 2) (record { next = p; index = run .index; coerce = 1; events = run .events; used = run .used; end = 0 }) vendor class assigned answers slots params trace
   commands-job v p q =
       record {
         ready = j .ready;
@@ -142,23 +142,23 @@ module _ (s : Bytes) (depth : ℕ) (run : Run) (vendor class : Bytes) (found : L
             };
       }
 
-module _ (s vendor class : Bytes) (found : List ℕ) (answers : Bytes) (depth : ℕ) (own : Bool) (slots : Bytes) (words : List ℕ) (trace : Bytes) (left : ℕ) (now : Run)
+module _ (s vendor class : Bytes) (assigned : List ℕ) (answers : Bytes) (depth : ℕ) (coercible : Bool) (slots : Bytes) (params : List ℕ) (trace : Bytes) (left : ℕ) (now : Run)
     (env : Env) (seq : Seq) (run : Run) (slots₀ : Bytes) (words₀ : List ℕ) (trace₀ : Bytes)
-    (l : Loop s vendor class found answers depth own env (runSeq env seq own (run .index) false (stateOf s (length (env .ids)) words₀ slots₀ trace₀ run)) slots words trace left now) where
-  pub sequence-done : left ≡ 0 → SequenceRan s env seq own run slots₀ words₀ trace₀ now slots words trace
+    (l : Loop s vendor class assigned answers depth coercible env (runSeq env seq coercible (run .index) false (stateOf s (length (env .ids)) words₀ slots₀ trace₀ run)) slots params trace left now) where
+  pub sequence-done : left ≡ 0 → SequenceRan s env seq coercible run slots₀ words₀ trace₀ now slots params trace
   sequence-done z =
       record {
-        goes = loop-done s vendor class found answers depth own slots words trace left now env _ l z;
+        goes = loop-done s vendor class assigned answers depth coercible slots params trace left now env _ l z;
         fit = l .kept .lent .fit;
         late = λ h. absurd (omega (arith, l .calm));
       }
 
   module _ (h : 0 < left) (r : Run) (slots′ : Bytes) (words′ : List ℕ) (trace′ : Bytes)
-      (ran : CommandRan s env (its-turn s vendor class found answers depth own slots words trace left now env _ l h .first .cmd) (its-turn s vendor class found answers depth own slots words trace left now env _ l h .first .to) now slots words trace r slots′ words′ trace′) where
-    pub sequence-stopped : (r .stop ≡ 0 → ⊥) → SequenceRan s env seq own run slots₀ words₀ trace₀ (caughtBy own (now .coerce) r) slots′ words′ trace′
+      (ran : CommandRan s env (its-turn s vendor class assigned answers depth coercible slots params trace left now env _ l h .first .cmd) (its-turn s vendor class assigned answers depth coercible slots params trace left now env _ l h .first .to) now slots params trace r slots′ words′ trace′) where
+    pub sequence-stopped : (r .end ≡ 0 → ⊥) → SequenceRan s env seq coercible run slots₀ words₀ trace₀ (caughtBy coercible (now .coerce) r) slots′ words′ trace′
     sequence-stopped z =
         record {
-          goes = loop-stops s vendor class found answers depth own slots words trace left now env _ l h r slots′ words′ trace′ ran z;
+          goes = loop-stops s vendor class assigned answers depth coercible slots params trace left now env _ l h r slots′ words′ trace′ ran z;
           fit = ran .fit;
           late = λ p. ran .late (omega (arith, z));
         }

@@ -19,9 +19,9 @@ use Rattle.rules.specs.Step.{Env, State, Out, out}
 use Rattle.rules.specs.Run.{on, next, runSeq, runCmd, runAlts, indexAfter, coerceAfter}
 use Rattle.run_sequence.specs.declared.Run.{Run}
 use Rattle.run_slots.specs.Params.{FitAll}
-use Rattle.manifest_accessors.specs.Heads.{Headed, Strings}
+use Rattle.manifest_accessors.specs.Heads.{HeadAt, Strings}
 use Rattle.run_sequence.specs.Cycle.{stateOf, outOf, LeafJob, CommandJob, SequenceJob, CommandRan, SequenceRan}
-use Rattle.manifest_accessors.specs.Arguments.{One}
+use Rattle.manifest_accessors.specs.Arguments.{ArgumentAt}
 use Rattle.manifest_accessors.proofs.ArgumentLaws.{command-one}
 use Rattle.manifest_accessors.proofs.HeadLaws.{item-headed, number-headed}
 use Rattle.run_commands.proofs.LentLaws.{Moves, moves-seq}
@@ -31,13 +31,13 @@ use Rattle.manifest_accessors.proofs.TryPlaces.{AltsAt, Choice, choice, no-choi
 
 -- the run where a sequence starts, and after a command that held sequences
 abbrev pub entered : Run → ℕ → Run → Run
-entered run at now = record { next = at; index = run .index; coerce = run .coerce; events = now .events; used = now .used; stop = 0 }
+entered run at now = record { next = at; index = run .index; coerce = run .coerce; events = now .events; used = now .used; end = 0 }
 
 abbrev pub left : Run → ℕ → Run → Run
-left run at now = record { next = at; index = run .index; coerce = run .coerce; events = now .events; used = now .used; stop = now .stop }
+left run at now = record { next = at; index = run .index; coerce = run .coerce; events = now .events; used = now .used; end = now .end }
 
 abbrev pub failed : Run → ℕ → Run → Run
-failed run at now = record { next = at; index = run .index; coerce = run .coerce; events = now .events; used = now .used; stop = 1 }
+failed run at now = record { next = at; index = run .index; coerce = run .coerce; events = now .events; used = now .used; end = 1 }
 
 -- 'alternatives in turn until one succeeds'
 unfoldable pub tryAll : Env → List Seq → ℕ → State → Out
@@ -78,21 +78,21 @@ try-off env a rest i st st′ n z e = rw (e, ne-eqb n 1 z) (go (eqb n 0) (eqb n 
     go false false = refl
 
 -- the loop over alternatives: the whole gives what the alternatives that are left give from here
-pub record AltsLoop (s vendor class : Bytes) (found : List ℕ) (answers : Bytes) (depth : ℕ) (env : Env) (cmd : Cmd) (to : ℕ) (run : Run) (whole : Out) (slots : Bytes) (words : List ℕ) (trace : Bytes) (p k : ℕ) (now : Run) : Type 0 where
+pub record AltsLoop (s vendor class : Bytes) (assigned : List ℕ) (answers : Bytes) (depth : ℕ) (env : Env) (cmd : Cmd) (to : ℕ) (run : Run) (whole : Out) (slots : Bytes) (params : List ℕ) (trace : Bytes) (p k : ℕ) (now : Run) : Type 0 where
   pub alts : Alts
   pub is : cmd ≡ try alts
-  pub kept : Kept env s vendor class found answers slots words trace (run .index)
+  pub kept : Kept env s vendor class assigned answers slots params trace (run .index)
   pub place : AltsAt s (length (env .ids)) depth (now .events) k p to
-  pub goes : whole ≡ tryAll env (place .seqs) (run .index) (stateOf s (length (env .ids)) words slots trace now)
+  pub goes : whole ≡ tryAll env (place .seqs) (run .index) (stateOf s (length (env .ids)) params slots trace now)
   pub final : k ≡ 0 → 0 < now .events
 
 -- what a command that held sequences leaves
-holds-sequences : (s : Bytes) (env : Env) (cmd : Cmd) (to : ℕ) (run : Run) (slots : Bytes) (words : List ℕ) (trace : Bytes) (at : ℕ) (r : Run) (slots′ : Bytes) (words′ : List ℕ) (trace′ : Bytes) →
-    outOf s (length (env .ids)) words′ slots′ trace′ r ≡ runCmd env cmd (run .index) (stateOf s (length (env .ids)) words slots trace run) →
-    FitAll s (length (env .ids)) words′ → (0 < r .stop → 0 < r .events) → (r .stop ≡ 0 → at ≡ to) → run .index < length (env .ids) →
+holds-sequences : (s : Bytes) (env : Env) (cmd : Cmd) (to : ℕ) (run : Run) (slots : Bytes) (params : List ℕ) (trace : Bytes) (at : ℕ) (r : Run) (slots′ : Bytes) (words′ : List ℕ) (trace′ : Bytes) →
+    outOf s (length (env .ids)) words′ slots′ trace′ r ≡ runCmd env cmd (run .index) (stateOf s (length (env .ids)) params slots trace run) →
+    FitAll s (length (env .ids)) words′ → (0 < r .end → 0 < r .events) → (r .end ≡ 0 → at ≡ to) → run .index < length (env .ids) →
     ((i : ℕ) → indexAfter cmd i ≡ i) → ((c : Bool) → coerceAfter cmd c ≡ c) →
-    CommandRan s env cmd to run slots words trace (left run at r) slots′ words′ trace′
-holds-sequences s env cmd to run slots words trace at r slots′ words′ trace′ goes fit late next inside index coerce =
+    CommandRan s env cmd to run slots params trace (left run at r) slots′ words′ trace′
+holds-sequences s env cmd to run slots params trace at r slots′ words′ trace′ goes fit late next inside index coerce =
     record {
       goes = goes;
       fit = fit;
@@ -103,16 +103,16 @@ holds-sequences s env cmd to run slots words trace at r slots′ words′ trace�
       coerce = sym (coerce _);
     }
 
-ran-as : (s : Bytes) (env : Env) (cmd cmd′ : Cmd) (to to′ : ℕ) (run : Run) (slots : Bytes) (words : List ℕ) (trace : Bytes) (r : Run) (slots′ : Bytes) (words′ : List ℕ) (trace′ : Bytes) →
-    cmd ≡ cmd′ → to′ ≡ to → CommandRan s env cmd′ to′ run slots words trace r slots′ words′ trace′ → CommandRan s env cmd to run slots words trace r slots′ words′ trace′
-ran-as s env cmd cmd′ to to′ run slots words trace r slots′ words′ trace′ e e′ ran = rw (e, ← e′) ran
+ran-as : (s : Bytes) (env : Env) (cmd cmd′ : Cmd) (to to′ : ℕ) (run : Run) (slots : Bytes) (params : List ℕ) (trace : Bytes) (r : Run) (slots′ : Bytes) (words′ : List ℕ) (trace′ : Bytes) →
+    cmd ≡ cmd′ → to′ ≡ to → CommandRan s env cmd′ to′ run slots params trace r slots′ words′ trace′ → CommandRan s env cmd to run slots params trace r slots′ words′ trace′
+ran-as s env cmd cmd′ to to′ run slots params trace r slots′ words′ trace′ e e′ ran = rw (e, ← e′) ran
 
-module _ (s : Bytes) (depth : ℕ) (run : Run) (vendor class : Bytes) (found : List ℕ) (answers slots : Bytes) (words : List ℕ) (trace : Bytes)
-    (j : CommandJob s depth run vendor class found answers slots words trace) where
+module _ (s : Bytes) (depth : ℕ) (run : Run) (vendor class : Bytes) (assigned : List ℕ) (answers slots : Bytes) (params : List ℕ) (trace : Bytes)
+    (j : CommandJob s depth run vendor class assigned answers slots params trace) where
   abbrev pub its-code : Coded s (length (j .ready .env .ids)) depth (run .events) (run .next) (j .place)
   its-code = coded s (length (j .ready .env .ids)) depth (run .events) (run .next) (j .place)
 
-  abbrev pub command-head : Headed s (run .next)
+  abbrev pub command-head : HeadAt s (run .next)
   command-head = number-headed s (j .place .e) (run .next) (its-code .code) (its-code .from) (j .place .fits) (its-code .reads)
 
   module _ (v p : ℕ) (q : (v ≡ its-code .code) × (p ≡ its-code .from)) where
@@ -121,14 +121,14 @@ module _ (s : Bytes) (depth : ℕ) (run : Run) (vendor class : Bytes) (found : L
       abbrev pub sub-at : Sub s (length (j .ready .env .ids)) depth (run .events) (run .next) (j .place) p
       sub-at = its-sequence s (length (j .ready .env .ids)) depth (run .events) (run .next) (j .place) its-code p (q .1) (sym (q .0) ∙ z)
 
-      abbrev pub sub-head : Headed s p
-      sub-head = item-headed s BYTES 0 (limits .number) (j .place .e) p (sub-at .inside .head) (j .place .fits) (omega arith) (sub-at .inside .item)
+      abbrev pub sub-head : HeadAt s p
+      sub-head = item-headed s BYTES 0 (limits .largest) (j .place .e) p (sub-at .inside .head) (j .place .fits) (omega arith) (sub-at .inside .item)
 
       pub sub-fits : sub-at .inside .head .next + sub-at .inside .head .num ≤ length s
       sub-fits = omega (arith, sub-at .inside .fits, j .place .fits)
 
       module _ (w from : ℕ) (o : (w ≡ sub-at .inside .head .num) × (from ≡ sub-at .inside .head .next)) where
-        abbrev pub sub-job : SequenceJob s depth (entered run from run) vendor class found answers slots words trace
+        abbrev pub sub-job : SequenceJob s depth (entered run from run) vendor class assigned answers slots params trace
         sub-job =
             record {
               ready = j .ready;
@@ -145,50 +145,50 @@ module _ (s : Bytes) (depth : ℕ) (run : Run) (vendor class : Bytes) (found : L
                   };
             }
 
-        pub sub-ran : (r : Run) (slots′ : Bytes) (words′ : List ℕ) (trace′ : Bytes) → SequenceRan s (j .ready .env) (sub-at .seq) true (entered run from run) slots words trace r slots′ words′ trace′ →
-            CommandRan s (j .ready .env) (j .place .cmd) (j .place .to) run slots words trace (left run (from + w) r) slots′ words′ trace′
+        pub sub-ran : (r : Run) (slots′ : Bytes) (words′ : List ℕ) (trace′ : Bytes) → SequenceRan s (j .ready .env) (sub-at .seq) true (entered run from run) slots params trace r slots′ words′ trace′ →
+            CommandRan s (j .ready .env) (j .place .cmd) (j .place .to) run slots params trace (left run (from + w) r) slots′ words′ trace′
         unfolding runSeq
         sub-ran r slots′ words′ trace′ ran =
-            holds-sequences s (j .ready .env) (j .place .cmd) (j .place .to) run slots words trace (from + w) r slots′ words′ trace′
-            (ran .goes ∙ ap (λ (c : Cmd). runCmd (j .ready .env) c (run .index) (stateOf s (length (j .ready .env .ids)) words slots trace run)) (sym (sub-at .is)))
+            holds-sequences s (j .ready .env) (j .place .cmd) (j .place .to) run slots params trace (from + w) r slots′ words′ trace′
+            (ran .goes ∙ ap (λ (c : Cmd). runCmd (j .ready .env) c (run .index) (stateOf s (length (j .ready .env .ids)) params slots trace run)) (sym (sub-at .is)))
             (ran .fit) (ran .late) (λ x. omega (arith, o .0, o .1, sub-at .to)) (j .ready .inside) (λ i. rw (sub-at .is)) (λ c. rw (sub-at .is))
 
     -- any other but 15
     module _ (z : v ≡ 30 → ⊥) (z′ : v ≡ 15 → ⊥) where
       abbrev pub OneAt : Type 0
       OneAt =
-          (x : One s v p) × (x .n ≡ length (j .ready .env .ids)) × (j .place .cmd ≡ one (run .next) (x .op) (x .coerce)) × (x .to ≡ j .place .to)
+          (x : ArgumentAt s v p) × (x .n ≡ length (j .ready .env .ids)) × (j .place .cmd ≡ one (run .next) (x .op) (x .coerce)) × (x .to ≡ j .place .to)
           × (j .place .m < limits .commands)
 
       pub one-at : OneAt
       one-at =
           command-one s (length (j .ready .env .ids)) (j .place .section) depth (j .place .m) (j .place .e) (run .next) (j .place .cmd) (j .place .to) (j .place .fits) (j .place .reads) v p (rw (q .0, q .1) (its-code .reads)) z z′
 
-      abbrev pub leaf-job : LeafJob s v p run vendor class found answers slots words trace
+      abbrev pub leaf-job : LeafJob s v p run vendor class assigned answers slots params trace
       leaf-job = record { ready = j .ready; argument = one-at .0; among = one-at .1; few = omega (arith, j .place .few, one-at .4) }
 
       pub leaf-ran : (r : Run) (slots′ : Bytes) (words′ : List ℕ) (trace′ : Bytes) →
-          CommandRan s (j .ready .env) (one (run .next) (one-at .0 .op) (one-at .0 .coerce)) (one-at .0 .to) run slots words trace r slots′ words′ trace′ →
-          CommandRan s (j .ready .env) (j .place .cmd) (j .place .to) run slots words trace r slots′ words′ trace′
-      leaf-ran r slots′ words′ trace′ ran = ran-as s (j .ready .env) _ _ _ _ run slots words trace r slots′ words′ trace′ (one-at .2) (one-at .3) ran
+          CommandRan s (j .ready .env) (one (run .next) (one-at .0 .op) (one-at .0 .coerce)) (one-at .0 .to) run slots params trace r slots′ words′ trace′ →
+          CommandRan s (j .ready .env) (j .place .cmd) (j .place .to) run slots params trace r slots′ words′ trace′
+      leaf-ran r slots′ words′ trace′ ran = ran-as s (j .ready .env) _ _ _ _ run slots params trace r slots′ words′ trace′ (one-at .2) (one-at .3) ran
 
     -- 15
     module _ (z : v ≡ 15) where
       abbrev pub tries-at : Tries s (length (j .ready .env .ids)) depth (run .events) (run .next) (j .place) p
       tries-at = its-alternatives s (length (j .ready .env .ids)) depth (run .events) (run .next) (j .place) its-code p (q .1) (sym (q .0) ∙ z)
 
-      abbrev pub tries-head : Headed s p
+      abbrev pub tries-head : HeadAt s p
       tries-head = item-headed s ARRAY 1 (limits .alternatives) (j .place .e) p (tries-at .head) (j .place .fits) (omega arith) (tries-at .item)
 
       pub tries-start : (w from : ℕ) → (w ≡ tries-at .head .num) × (from ≡ tries-at .head .next) →
-          AltsLoop s vendor class found answers depth (j .ready .env) (j .place .cmd) (j .place .to) run (runCmd (j .ready .env) (j .place .cmd) (run .index) (stateOf s (length (j .ready .env .ids)) words slots trace run)) slots words trace from w run
+          AltsLoop s vendor class assigned answers depth (j .ready .env) (j .place .cmd) (j .place .to) run (runCmd (j .ready .env) (j .place .cmd) (run .index) (stateOf s (length (j .ready .env .ids)) params slots trace run)) slots params trace from w run
       unfolding runSeq
       tries-start w from o =
           let (l, size) = alternatives-law s (sequenceAt s (length (j .ready .env .ids)) (j .place .section) depth) (tries-at .head .num - 1) (j .place .m + 1) (j .place .e) (tries-at .head .next) (tries-at .alts) (j .place .to) (tries-at .reads) in
           record {
             alts = tries-at .alts;
             is = tries-at .is;
-            kept = kept-of s vendor class found answers slots words trace (run .index) (j .ready);
+            kept = kept-of s vendor class assigned answers slots params trace (run .index) (j .ready);
             place =
                 record {
                   section = j .place .section;
@@ -200,19 +200,19 @@ module _ (s : Bytes) (depth : ℕ) (run : Run) (vendor class : Bytes) (found : L
                   reads = rw (o .1) l;
                   few = omega (arith, j .place .few);
                 };
-            goes = ap (λ (c : Cmd). runCmd (j .ready .env) c (run .index) (stateOf s (length (j .ready .env .ids)) words slots trace run)) (tries-at .is) ∙ try-law (j .ready .env) (tries-at .alts) (run .index) (stateOf s (length (j .ready .env .ids)) words slots trace run);
+            goes = ap (λ (c : Cmd). runCmd (j .ready .env) c (run .index) (stateOf s (length (j .ready .env .ids)) params slots trace run)) (tries-at .is) ∙ try-law (j .ready .env) (tries-at .alts) (run .index) (stateOf s (length (j .ready .env .ids)) params slots trace run);
             final = λ x. absurd (omega (arith, o .0, tries-at .some-of));
           }
 
-module _ (s vendor class : Bytes) (found : List ℕ) (answers : Bytes) (depth : ℕ) (env : Env) (cmd : Cmd) (to : ℕ) (run : Run) (slots₀ : Bytes) (words₀ : List ℕ) (trace₀ : Bytes) (slots : Bytes) (words : List ℕ) (trace : Bytes) (p k : ℕ) (now : Run)
-    (l : AltsLoop s vendor class found answers depth env cmd to run (runCmd env cmd (run .index) (stateOf s (length (env .ids)) words₀ slots₀ trace₀ run)) slots words trace p k now) where
+module _ (s vendor class : Bytes) (assigned : List ℕ) (answers : Bytes) (depth : ℕ) (env : Env) (cmd : Cmd) (to : ℕ) (run : Run) (slots₀ : Bytes) (words₀ : List ℕ) (trace₀ : Bytes) (slots : Bytes) (params : List ℕ) (trace : Bytes) (p k : ℕ) (now : Run)
+    (l : AltsLoop s vendor class assigned answers depth env cmd to run (runCmd env cmd (run .index) (stateOf s (length (env .ids)) words₀ slots₀ trace₀ run)) slots params trace p k now) where
   -- none succeeded
-  pub tries-failed : k ≡ 0 → CommandRan s env cmd to run slots₀ words₀ trace₀ (failed run p now) slots words trace
+  pub tries-failed : k ≡ 0 → CommandRan s env cmd to run slots₀ words₀ trace₀ (failed run p now) slots params trace
   unfolding tryAll
   tries-failed z =
       let (none, at) = no-choice s (length (env .ids)) depth (now .events) k p to (l .place) z in
-      let st : State = stateOf s (length (env .ids)) words slots trace now in
-      holds-sequences s env cmd to run slots₀ words₀ trace₀ p (failed run p now) slots words trace
+      let st : State = stateOf s (length (env .ids)) params slots trace now in
+      holds-sequences s env cmd to run slots₀ words₀ trace₀ p (failed run p now) slots params trace
       (sym (l .goes ∙ ap (λ (a : List Seq). tryAll env a (run .index) st) none))
       (l .kept .lent .fit) (λ x. l .final z) (λ x. at) (l .kept .inside) (λ i. rw (l .is)) (λ c. rw (l .is))
 
@@ -220,17 +220,17 @@ module _ (s vendor class : Bytes) (found : List ℕ) (answers : Bytes) (depth : 
     abbrev pub its-choice : Choice s (length (env .ids)) depth (now .events) k p to (l .place)
     its-choice = choice s (length (env .ids)) depth (now .events) k p to (l .place) h
 
-    abbrev pub choice-head : Headed s p
-    choice-head = item-headed s BYTES 0 (limits .number) (l .place .e) p (its-choice .inside .head) (l .place .fits) (omega arith) (its-choice .inside .item)
+    abbrev pub choice-head : HeadAt s p
+    choice-head = item-headed s BYTES 0 (limits .largest) (l .place .e) p (its-choice .inside .head) (l .place .fits) (omega arith) (its-choice .inside .item)
 
     pub choice-fits : its-choice .inside .head .next + its-choice .inside .head .num ≤ length s
     choice-fits = omega (arith, its-choice .inside .fits, l .place .fits)
 
     module _ (w from : ℕ) (o : (w ≡ its-choice .inside .head .num) × (from ≡ its-choice .inside .head .next)) where
-      abbrev pub choice-job : SequenceJob s depth (entered run from now) vendor class found answers slots words trace
+      abbrev pub choice-job : SequenceJob s depth (entered run from now) vendor class assigned answers slots params trace
       choice-job =
           record {
-            ready = ready-of s vendor class found answers env slots words trace (run .index) (l .kept);
+            ready = ready-of s vendor class assigned answers env slots params trace (run .index) (l .kept);
             place =
                 record {
                   section = l .place .section;
@@ -254,26 +254,26 @@ module _ (s vendor class : Bytes) (found : List ℕ) (answers : Bytes) (depth : 
           }
 
       module _ (r : Run) (slots′ : Bytes) (words′ : List ℕ) (trace′ : Bytes)
-          (ran : SequenceRan s env (its-choice .first) false (entered run from now) slots words trace r slots′ words′ trace′) where
-        pub tries-end : (r .stop ≡ 1 → ⊥) → (at : ℕ) → at ≡ to → CommandRan s env cmd to run slots₀ words₀ trace₀ (left run at r) slots′ words′ trace′
+          (ran : SequenceRan s env (its-choice .first) false (entered run from now) slots params trace r slots′ words′ trace′) where
+        pub tries-end : (r .end ≡ 1 → ⊥) → (at : ℕ) → at ≡ to → CommandRan s env cmd to run slots₀ words₀ trace₀ (left run at r) slots′ words′ trace′
         tries-end z at e =
-            let st : State = stateOf s (length (env .ids)) words slots trace now in
+            let st : State = stateOf s (length (env .ids)) params slots trace now in
             holds-sequences s env cmd to run slots₀ words₀ trace₀ at r slots′ words′ trace′
-            (sym (l .goes ∙ ap (λ (a : List Seq). tryAll env a (run .index) st) (its-choice .seqs) ∙ try-off env (its-choice .first) (its-choice .rest .seqs) (run .index) st (stateOf s (length (env .ids)) words′ slots′ trace′ r) (r .stop) z (sym (ran .goes))))
+            (sym (l .goes ∙ ap (λ (a : List Seq). tryAll env a (run .index) st) (its-choice .seqs) ∙ try-off env (its-choice .first) (its-choice .rest .seqs) (run .index) st (stateOf s (length (env .ids)) words′ slots′ trace′ r) (r .end) z (sym (ran .goes))))
             (ran .fit) (ran .late) (λ x. e) (l .kept .inside) (λ i. rw (l .is)) (λ c. rw (l .is))
 
-        pub tries-on : r .stop ≡ 1 →
-            AltsLoop s vendor class found answers depth env cmd to run (runCmd env cmd (run .index) (stateOf s (length (env .ids)) words₀ slots₀ trace₀ run)) slots′ words′ trace′ (from + w) (k - 1) r
+        pub tries-on : r .end ≡ 1 →
+            AltsLoop s vendor class assigned answers depth env cmd to run (runCmd env cmd (run .index) (stateOf s (length (env .ids)) words₀ slots₀ trace₀ run)) slots′ words′ trace′ (from + w) (k - 1) r
         tries-on z =
             let t = its-choice in
-            let st : State = stateOf s (length (env .ids)) words slots trace now in
+            let st : State = stateOf s (length (env .ids)) params slots trace now in
             let m : Moves st (runSeq env (t .first) false (run .index) false st .state) (count (t .first)) = moves-seq env (t .first) false (run .index) false st in
             let few : r .events ≤ l .place .m + count (t .first) =
-            events-after s vendor class found answers (length (env .ids)) words slots trace (entered run from now) _ _ (l .place .m) m (l .place .few) r slots′ words′ trace′ (ran .goes) in
+            events-after s vendor class assigned answers (length (env .ids)) params slots trace (entered run from now) _ _ (l .place .m) m (l .place .few) r slots′ words′ trace′ (ran .goes) in
             record {
               alts = l .alts;
               is = l .is;
-              kept = kept-after s vendor class found answers env slots words trace (run .index) (l .kept) (entered run from now) _ _ m r slots′ words′ trace′ (ran .goes) (ran .fit) (run .index) (l .kept .inside);
+              kept = kept-after s vendor class assigned answers env slots params trace (run .index) (l .kept) (entered run from now) _ _ m r slots′ words′ trace′ (ran .goes) (ran .fit) (run .index) (l .kept .inside);
               place =
                   record {
                     section = t .rest .section;
@@ -287,6 +287,6 @@ module _ (s vendor class : Bytes) (found : List ℕ) (answers : Bytes) (depth : 
                   };
               goes =
                   l .goes ∙ ap (λ (a : List Seq). tryAll env a (run .index) st) (t .seqs)
-                  ∙ try-on env (t .first) (t .rest .seqs) (run .index) st (stateOf s (length (env .ids)) words′ slots′ trace′ r) (r .stop) z (sym (ran .goes));
+                  ∙ try-on env (t .first) (t .rest .seqs) (run .index) st (stateOf s (length (env .ids)) words′ slots′ trace′ r) (r .end) z (sym (ran .goes));
               final = λ x. ran .late (omega (arith, z));
             }

@@ -14,60 +14,60 @@ use Rattle.rules.specs.Run.{runSeq, runCmd, indexAfter, coerceAfter}
 use Rattle.run_sequence.specs.declared.Run.{Run}
 use Rattle.run_slots.specs.Params.{FitAll}
 use Rattle.run_commands.specs.Machine.{stateAt, Lent}
-use Rattle.manifest_accessors.specs.Arguments.{isTrue, One}
+use Rattle.manifest_accessors.specs.Arguments.{isTrue, ArgumentAt}
 use Rattle.manifest_accessors.specs.Places.{CommandAt, SequenceAt}
 
 -- the state and the outcome that a run has reached
 abbrev pub stateOf : Bytes → ℕ → List ℕ → Bytes → Bytes → Run → State
-stateOf s n words slots trace r = stateAt s n words slots trace (r .events) (r .used)
+stateOf s n params slots trace r = stateAt s n params slots trace (r .events) (r .used)
 
 abbrev pub outOf : Bytes → ℕ → List ℕ → Bytes → Bytes → Run → Out
-outOf s n words slots trace r = out (endOf (r .stop)) (stateOf s n words slots trace r)
+outOf s n params slots trace r = out (endOf (r .end)) (stateOf s n params slots trace r)
 
 -- a run over lent memory, at one of the components
-pub record Ready (s vendor class : Bytes) (found : List ℕ) (answers slots : Bytes) (words : List ℕ) (trace : Bytes) (index : ℕ) : Type 0 where
+pub record Ready (s vendor class : Bytes) (assigned : List ℕ) (answers slots : Bytes) (params : List ℕ) (trace : Bytes) (index : ℕ) : Type 0 where
   pub env : Env
-  pub lent : Lent env s vendor class found answers slots words trace
+  pub lent : Lent env s vendor class assigned answers slots params trace
   pub inside : index < length (env .ids)
 
-pub record CommandJob (s : Bytes) (depth : ℕ) (run : Run) (vendor class : Bytes) (found : List ℕ) (answers slots : Bytes) (words : List ℕ) (trace : Bytes) : Type 0 where
-  pub ready : Ready s vendor class found answers slots words trace (run .index)
+pub record CommandJob (s : Bytes) (depth : ℕ) (run : Run) (vendor class : Bytes) (assigned : List ℕ) (answers slots : Bytes) (params : List ℕ) (trace : Bytes) : Type 0 where
+  pub ready : Ready s vendor class assigned answers slots params trace (run .index)
   pub place : CommandAt s (length (ready .env .ids)) depth (run .events) (run .next)
 
-pub record SequenceJob (s : Bytes) (depth : ℕ) (run : Run) (vendor class : Bytes) (found : List ℕ) (answers slots : Bytes) (words : List ℕ) (trace : Bytes) : Type 0 where
-  pub ready : Ready s vendor class found answers slots words trace (run .index)
+pub record SequenceJob (s : Bytes) (depth : ℕ) (run : Run) (vendor class : Bytes) (assigned : List ℕ) (answers slots : Bytes) (params : List ℕ) (trace : Bytes) : Type 0 where
+  pub ready : Ready s vendor class assigned answers slots params trace (run .index)
   pub place : SequenceAt s (length (ready .env .ids)) depth (run .events) (run .next)
 
 -- a command that holds no sequence, by its code and argument
-pub record LeafJob (s : Bytes) (code at : ℕ) (run : Run) (vendor class : Bytes) (found : List ℕ) (answers slots : Bytes) (words : List ℕ) (trace : Bytes) : Type 0 where
-  pub ready : Ready s vendor class found answers slots words trace (run .index)
-  pub argument : One s code at
+pub record LeafJob (s : Bytes) (code at : ℕ) (run : Run) (vendor class : Bytes) (assigned : List ℕ) (answers slots : Bytes) (params : List ℕ) (trace : Bytes) : Type 0 where
+  pub ready : Ready s vendor class assigned answers slots params trace (run .index)
+  pub argument : ArgumentAt s code at
   pub among : argument .n ≡ length (ready .env .ids)
   pub few : run .events < limits .commands
 
 -- 'a condition failure inside, while that sequence's coerce is true, is a success'
 abbrev pub caughtBy : Bool → ℕ → Run → Run
-caughtBy own coerce r =
+caughtBy coercible coerce r =
     record {
       next = r .next;
       index = r .index;
       coerce = r .coerce;
       events = r .events;
       used = r .used;
-      stop = cond (own && isTrue coerce && eqb (r .stop) 1) 0 (r .stop);
+      end = cond (coercible && isTrue coerce && eqb (r .end) 1) 0 (r .end);
     }
 
 -- what was left in memory is what the rule gives; where the command went well, the next one's place, index and coerce are known
-pub record CommandRan (s : Bytes) (env : Env) (cmd : Cmd) (to : ℕ) (run : Run) (slots : Bytes) (words : List ℕ) (trace : Bytes) (r : Run) (slots′ : Bytes) (words′ : List ℕ) (trace′ : Bytes) : Type 0 where
-  pub goes : outOf s (length (env .ids)) words′ slots′ trace′ r ≡ runCmd env cmd (run .index) (stateOf s (length (env .ids)) words slots trace run)
+pub record CommandRan (s : Bytes) (env : Env) (cmd : Cmd) (to : ℕ) (run : Run) (slots : Bytes) (params : List ℕ) (trace : Bytes) (r : Run) (slots′ : Bytes) (words′ : List ℕ) (trace′ : Bytes) : Type 0 where
+  pub goes : outOf s (length (env .ids)) words′ slots′ trace′ r ≡ runCmd env cmd (run .index) (stateOf s (length (env .ids)) params slots trace run)
   pub fit : FitAll s (length (env .ids)) words′
-  pub late : 0 < r .stop → 0 < r .events
-  pub next : r .stop ≡ 0 → r .next ≡ to
-  pub index : r .stop ≡ 0 → r .index ≡ indexAfter cmd (run .index)
-  pub inside : r .stop ≡ 0 → r .index < length (env .ids)
+  pub late : 0 < r .end → 0 < r .events
+  pub next : r .end ≡ 0 → r .next ≡ to
+  pub index : r .end ≡ 0 → r .index ≡ indexAfter cmd (run .index)
+  pub inside : r .end ≡ 0 → r .index < length (env .ids)
   pub coerce : isTrue (r .coerce) ≡ coerceAfter cmd (isTrue (run .coerce))
 
-pub record SequenceRan (s : Bytes) (env : Env) (seq : Seq) (own : Bool) (run : Run) (slots : Bytes) (words : List ℕ) (trace : Bytes) (r : Run) (slots′ : Bytes) (words′ : List ℕ) (trace′ : Bytes) : Type 0 where
-  pub goes : outOf s (length (env .ids)) words′ slots′ trace′ r ≡ runSeq env seq own (run .index) false (stateOf s (length (env .ids)) words slots trace run)
+pub record SequenceRan (s : Bytes) (env : Env) (seq : Seq) (coercible : Bool) (run : Run) (slots : Bytes) (params : List ℕ) (trace : Bytes) (r : Run) (slots′ : Bytes) (words′ : List ℕ) (trace′ : Bytes) : Type 0 where
+  pub goes : outOf s (length (env .ids)) words′ slots′ trace′ r ≡ runSeq env seq coercible (run .index) false (stateOf s (length (env .ids)) params slots trace run)
   pub fit : FitAll s (length (env .ids)) words′
-  pub late : 0 < r .stop → 0 < r .events
+  pub late : 0 < r .end → 0 < r .events

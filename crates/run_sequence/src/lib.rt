@@ -7,6 +7,9 @@ ghost use Rattle.run_sequence.specs.Cycle.{LeafJob, CommandJob, Sequence
 use manifest_accessors::arguments::read_one;
 use manifest_accessors::heads::open;
 use manifest_accessors::heads::skip;
+use rules::controller::AllParameters;
+use rules::controller::Sixteen;
+use rules::controller::SlotNumbers;
 use run_commands::perform::perform;
 use run_slots::params::Params;
 use run_slots::params::either;
@@ -19,7 +22,7 @@ pub struct Run {
     pub coerce: usize,
     pub events: usize,
     pub used: usize,
-    pub stop: usize,
+    pub end: usize,
 }
 
 // The component of the command of that code: for 12 its value, the new index.
@@ -38,16 +41,16 @@ fn leaf(
     code: usize,
     at: usize,
     run: Run,
-    vendor: &[u8; 16],
-    class: &[u8; 16],
-    found: &[usize; 8],
+    vendor: &Sixteen,
+    class: &Sixteen,
+    assigned: &SlotNumbers,
     answers: &[u8],
     slots: &mut [u8],
-    words: &mut [usize; 40],
+    params: &mut AllParameters,
     trace: &mut [u8],
 ) -> Run
-    requires { ⌜ LeafJob (now s) code at run (now vendor) (now class) (now found) (now answers) (now slots) (now words) (now trace) ⌝ }
-    ensures { λ r. ⌜ ((j : LeafJob (now (s .entry)) code at run (now (vendor .entry)) (now (class .entry)) (now (found .entry)) (now (answers .entry)) (now (slots .entry)) (now (words .entry)) (now (trace .entry))) → CommandRan (now (s .entry)) (j .ready .env) (one (run .next) (j .argument .op) (j .argument .coerce)) (j .argument .to) run (now (slots .entry)) (now (words .entry)) (now (trace .entry)) r (now (slots .exit)) (now (words .exit)) (now (trace .exit))) ⌝ }
+    requires { ⌜ LeafJob (now s) code at run (now vendor) (now class) (now assigned) (now answers) (now slots) (now params) (now trace) ⌝ }
+    ensures { λ r. ⌜ ((j : LeafJob (now (s .entry)) code at run (now (vendor .entry)) (now (class .entry)) (now (assigned .entry)) (now (answers .entry)) (now (slots .entry)) (now (params .entry)) (now (trace .entry))) → CommandRan (now (s .entry)) (j .ready .env) (one (run .next) (j .argument .op) (j .argument .coerce)) (j .argument .to) run (now (slots .entry)) (now (params .entry)) (now (trace .entry)) r (now (slots .exit)) (now (params .exit)) (now (trace .exit))) ⌝ }
 {
     let a = read_one(s, code, at);
     let index = component(code, a.value, run.index);
@@ -67,10 +70,10 @@ fn leaf(
         run.next,
         vendor,
         class,
-        found,
+        assigned,
         answers,
         slots,
-        words,
+        params,
         trace,
         run.events,
         run.used,
@@ -81,13 +84,13 @@ fn leaf(
         coerce: either(a.coerce, a.coerce, run.coerce),
         events: d.events,
         used: d.used,
-        stop: d.stop,
+        end: d.end,
     }
 }
 
 // The run at the start of the sequence at `at`, with what `now` has done.
 fn enter(run: Run, at: usize, now: Run) -> Run
-    ensures { λ r. ⌜ r ≡ record { next = at; index = run .index; coerce = run .coerce; events = now .events; used = now .used; stop = 0 } ⌝ }
+    ensures { λ r. ⌜ r ≡ record { next = at; index = run .index; coerce = run .coerce; events = now .events; used = now .used; end = 0 } ⌝ }
 {
     Run {
         next: at,
@@ -95,13 +98,13 @@ fn enter(run: Run, at: usize, now: Run) -> Run
         coerce: run.coerce,
         events: now.events,
         used: now.used,
-        stop: 0,
+        end: 0,
     }
 }
 
 // The run after a command that held sequences: its caller's index and coerce, with what `now` has done.
 fn leave(caller: Run, at: usize, now: Run) -> Run
-    ensures { λ r. ⌜ r ≡ record { next = at; index = caller .index; coerce = caller .coerce; events = now .events; used = now .used; stop = now .stop } ⌝ }
+    ensures { λ r. ⌜ r ≡ record { next = at; index = caller .index; coerce = caller .coerce; events = now .events; used = now .used; end = now .end } ⌝ }
 {
     Run {
         next: at,
@@ -109,13 +112,13 @@ fn leave(caller: Run, at: usize, now: Run) -> Run
         coerce: caller.coerce,
         events: now.events,
         used: now.used,
-        stop: now.stop,
+        end: now.end,
     }
 }
 
 // The run after a try each of which no alternative succeeded.
 fn all_failed(outer: Run, at: usize, now: Run) -> Run
-    ensures { λ r. ⌜ r ≡ record { next = at; index = outer .index; coerce = outer .coerce; events = now .events; used = now .used; stop = 1 } ⌝ }
+    ensures { λ r. ⌜ r ≡ record { next = at; index = outer .index; coerce = outer .coerce; events = now .events; used = now .used; end = 1 } ⌝ }
 {
     Run {
         next: at,
@@ -123,26 +126,26 @@ fn all_failed(outer: Run, at: usize, now: Run) -> Run
         coerce: outer.coerce,
         events: now.events,
         used: now.used,
-        stop: 1,
+        end: 1,
     }
 }
 
-// The sequence at run.next. `own`: code 30 runs it, so that its coerce makes a failed condition a success.
+// The sequence at run.next. `coercible`: code 30 runs it, so that its coerce makes a failed condition a success.
 pub fn run_sequence(
     s: &[u8],
     depth: usize,
-    own: bool,
+    coercible: bool,
     run: Run,
-    vendor: &[u8; 16],
-    class: &[u8; 16],
-    found: &[usize; 8],
+    vendor: &Sixteen,
+    class: &Sixteen,
+    assigned: &SlotNumbers,
     answers: &[u8],
     slots: &mut [u8],
-    words: &mut [usize; 40],
+    params: &mut AllParameters,
     trace: &mut [u8],
 ) -> Run
-    requires { ⌜ SequenceJob (now s) depth run (now vendor) (now class) (now found) (now answers) (now slots) (now words) (now trace) ⌝ }
-    ensures { λ r. ⌜ ((j : SequenceJob (now (s .entry)) depth run (now (vendor .entry)) (now (class .entry)) (now (found .entry)) (now (answers .entry)) (now (slots .entry)) (now (words .entry)) (now (trace .entry))) → SequenceRan (now (s .entry)) (j .ready .env) (j .place .seq) own run (now (slots .entry)) (now (words .entry)) (now (trace .entry)) r (now (slots .exit)) (now (words .exit)) (now (trace .exit))) ⌝ }
+    requires { ⌜ SequenceJob (now s) depth run (now vendor) (now class) (now assigned) (now answers) (now slots) (now params) (now trace) ⌝ }
+    ensures { λ r. ⌜ ((j : SequenceJob (now (s .entry)) depth run (now (vendor .entry)) (now (class .entry)) (now (assigned .entry)) (now (answers .entry)) (now (slots .entry)) (now (params .entry)) (now (trace .entry))) → SequenceRan (now (s .entry)) (j .ready .env) (j .place .seq) coercible run (now (slots .entry)) (now (params .entry)) (now (trace .entry)) r (now (slots .exit)) (now (params .exit)) (now (trace .exit))) ⌝ }
 {
     let h = open(s, run.next);
     let mut left = h.value / 2;
@@ -152,7 +155,7 @@ pub fn run_sequence(
         coerce: 1,
         events: run.events,
         used: run.used,
-        stop: 0,
+        end: 0,
     };
     while 0 < left {
         let coerce = now.coerce;
@@ -162,15 +165,15 @@ pub fn run_sequence(
             now,
             vendor,
             class,
-            found,
+            assigned,
             answers,
             slots,
-            words,
+            params,
             trace,
         );
-        let stop = now.stop;
-        if stop != 0 {
-            return caught(now, own, coerce);
+        let end = now.end;
+        if end != 0 {
+            return caught(now, coercible, coerce);
         }
         left -= 1;
     }
@@ -178,15 +181,15 @@ pub fn run_sequence(
 }
 
 // Where a condition failed in a sequence that code 30 runs and coerce is true, a success.
-fn caught(run: Run, own: bool, coerce: usize) -> Run
-    ensures { λ r. ⌜ r ≡ caughtBy own coerce run ⌝ }
+fn caught(run: Run, coercible: bool, coerce: usize) -> Run
+    ensures { λ r. ⌜ r ≡ caughtBy coercible coerce run ⌝ }
 {
-    let stop = run.stop;
-    if own {
+    let end = run.end;
+    if coercible {
         if coerce == 2 {
-            if stop == 1 {
+            if end == 1 {
                 let mut r = run;
-                r.stop = 0;
+                r.end = 0;
                 return r;
             }
         }
@@ -199,16 +202,16 @@ pub fn run_command(
     s: &[u8],
     depth: usize,
     run: Run,
-    vendor: &[u8; 16],
-    class: &[u8; 16],
-    found: &[usize; 8],
+    vendor: &Sixteen,
+    class: &Sixteen,
+    assigned: &SlotNumbers,
     answers: &[u8],
     slots: &mut [u8],
-    words: &mut [usize; 40],
+    params: &mut AllParameters,
     trace: &mut [u8],
 ) -> Run
-    requires { ⌜ CommandJob (now s) depth run (now vendor) (now class) (now found) (now answers) (now slots) (now words) (now trace) ⌝ }
-    ensures { λ r. ⌜ ((j : CommandJob (now (s .entry)) depth run (now (vendor .entry)) (now (class .entry)) (now (found .entry)) (now (answers .entry)) (now (slots .entry)) (now (words .entry)) (now (trace .entry))) → CommandRan (now (s .entry)) (j .ready .env) (j .place .cmd) (j .place .to) run (now (slots .entry)) (now (words .entry)) (now (trace .entry)) r (now (slots .exit)) (now (words .exit)) (now (trace .exit))) ⌝ }
+    requires { ⌜ CommandJob (now s) depth run (now vendor) (now class) (now assigned) (now answers) (now slots) (now params) (now trace) ⌝ }
+    ensures { λ r. ⌜ ((j : CommandJob (now (s .entry)) depth run (now (vendor .entry)) (now (class .entry)) (now (assigned .entry)) (now (answers .entry)) (now (slots .entry)) (now (params .entry)) (now (trace .entry))) → CommandRan (now (s .entry)) (j .ready .env) (j .place .cmd) (j .place .to) run (now (slots .entry)) (now (params .entry)) (now (trace .entry)) r (now (slots .exit)) (now (params .exit)) (now (trace .exit))) ⌝ }
 {
     let c = open(s, run.next);
     let code = c.value;
@@ -221,10 +224,10 @@ pub fn run_command(
             enter(run, b.next, run),
             vendor,
             class,
-            found,
+            assigned,
             answers,
             slots,
-            words,
+            params,
             trace,
         );
         return leave(run, b.next + b.value, inner);
@@ -243,16 +246,16 @@ pub fn run_command(
                 enter(run, b.next, now),
                 vendor,
                 class,
-                found,
+                assigned,
                 answers,
                 slots,
-                words,
+                params,
                 trace,
             );
             p = b.next + b.value;
             left -= 1;
-            let stop = now.stop;
-            if stop != 1 {
+            let end = now.end;
+            if end != 1 {
                 return leave(run, skip(s, left, p), now);
             }
         }
@@ -265,10 +268,10 @@ pub fn run_command(
         run,
         vendor,
         class,
-        found,
+        assigned,
         answers,
         slots,
-        words,
+        params,
         trace,
     )
 }

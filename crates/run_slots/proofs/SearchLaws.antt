@@ -153,7 +153,7 @@ names-length b =
     length-map (map (slotAt b) (numbers (length b / slotBytes) 0)) (λ x. x .id) ∙ length-map (numbers (length b / slotBytes) 0) (slotAt b)
     ∙ numbers-length (length b / slotBytes) 0
 
--- a slot that is not found, and one that is
+-- a slot that is not assigned, and one that is
 pub none-named : (x b : Bytes) → slotOf x b ≡ length b / slotBytes → member x (slotNames b) ≡ false
 unfolding slotOf
 none-named x b q = index-out x (slotNames b) (q ∙ sym (names-length b))
@@ -192,7 +192,7 @@ module _ (s : Bytes) (a : List ℕ) where
   pub names-count : (n : ℕ) → length (namesAt s a n) ≡ n
   names-count n = length-map (numbers n 0) (λ k. bytesAt s (spanAt a k)) ∙ numbers-length n 0
 
--- after i of the n identifiers: the slots of these are found
+-- after i of the n identifiers: the slots of these are assigned
 pub record Sofar (s : Bytes) (a : List ℕ) (n : ℕ) (slots : Bytes) (before after : List ℕ) (i : ℕ) : Type 0 where
   pub rest : allIn (namesAt s a n) (slotNames slots) ≡ allIn (leftAt s a i n) (slotNames slots)
   pub number : (j : ℕ) → j < i → getD after j 0 ≡ slotOf (bytesAt s (spanAt a j)) slots

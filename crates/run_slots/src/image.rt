@@ -5,17 +5,17 @@ ghost use lib.ListN.{length};
 ghost use Rattle.rules.specs.Bytes.{part};
 ghost use Rattle.rules.specs.Slots.{imageAt, putImage};
 ghost use Rattle.run_slots.specs.Slot.{Holds};
-use crate::slot::IMAGE;
-use crate::slot::SLOT_BYTES;
-
-pub const IMAGE_BYTES: usize = 37;
+use rules::slot_format::IMAGE;
+use rules::slot_format::IMAGE_BYTES;
+use rules::slot_format::Image;
+use rules::slot_format::SLOT_BYTES;
 
 // The 37 bytes at `at`.
-pub fn take(b: &[u8], at: usize) -> [u8; 37]
+pub fn take(b: &[u8], at: usize) -> Image
     requires { ⌜ at + 37 ≤ length (now b) ⌝ }
     ensures { λ r. ⌜ r ≡ part (now (b .entry)) at 37 ⌝ }
 {
-    let mut image = [0u8; 37];
+    let mut image = [0u8; IMAGE_BYTES];
     let mut k = 0;
     while k < IMAGE_BYTES {
         image[k] = b[at + k];
@@ -24,7 +24,7 @@ pub fn take(b: &[u8], at: usize) -> [u8; 37]
     image
 }
 
-pub fn image(slots: &[u8], k: usize) -> [u8; 37]
+pub fn image(slots: &[u8], k: usize) -> Image
     requires { ⌜ Holds (now slots) k ⌝ }
     ensures { λ r. ⌜ r ≡ imageAt (now (slots .entry)) k ⌝ }
 {
@@ -32,7 +32,7 @@ pub fn image(slots: &[u8], k: usize) -> [u8; 37]
 }
 
 // Puts the image into the slot of number k.
-pub fn put_image(slots: &mut [u8], k: usize, image: [u8; 37])
+pub fn put_image(slots: &mut [u8], k: usize, image: Image)
     requires { ⌜ Holds (now slots) k ⌝ }
     ensures { λ _. ⌜ now (slots .exit) ≡ putImage (now (slots .entry)) k image ⌝ }
 {

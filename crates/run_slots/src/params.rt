@@ -17,30 +17,30 @@ pub struct Params {
 
 const WORDS: usize = 5;
 
-pub fn load(words: &[usize; 40], i: usize) -> Params
+pub fn load(params: &AllParameters, i: usize) -> Params
     requires { ⌜ i < 8 ⌝ }
-    ensures { λ r. ⌜ r ≡ wordsAt (now (words .entry)) i ⌝ }
+    ensures { λ r. ⌜ r ≡ wordsAt (now (params .entry)) i ⌝ }
 {
     let at = WORDS * i;
     Params {
-        uri: words[at],
-        length: words[at + 1],
-        source: words[at + 2],
-        digest: words[at + 3],
-        size: words[at + 4],
+        uri: params[at],
+        length: params[at + 1],
+        source: params[at + 2],
+        digest: params[at + 3],
+        size: params[at + 4],
     }
 }
 
-pub fn store(words: &mut [usize], i: usize, p: Params)
-    requires { ⌜ 5 * i + 5 ≤ length (now words) ⌝ }
-    ensures { λ _. ⌜ now (words .exit) ≡ stored (now (words .entry)) i p ⌝ }
+pub fn store(params: &mut [usize], i: usize, p: Params)
+    requires { ⌜ 5 * i + 5 ≤ length (now params) ⌝ }
+    ensures { λ _. ⌜ now (params .exit) ≡ stored (now (params .entry)) i p ⌝ }
 {
     let at = WORDS * i;
-    words[at] = p.uri;
-    words[at + 1] = p.length;
-    words[at + 2] = p.source;
-    words[at + 3] = p.digest;
-    words[at + 4] = p.size;
+    params[at] = p.uri;
+    params[at + 1] = p.length;
+    params[at + 2] = p.source;
+    params[at + 3] = p.digest;
+    params[at + 4] = p.size;
 }
 
 // x where `test` is set, else y.
@@ -54,6 +54,8 @@ pub fn either(test: usize, x: usize, y: usize) -> usize
 }
 
 // Those of a, and those of b that a leaves unset.
+use rules::controller::AllParameters;
+
 pub fn over(a: Params, b: Params) -> Params
     ensures { λ r. ⌜ r ≡ overWords a b ⌝ }
 {

@@ -1,4 +1,4 @@
-// Slots are found by identifier, never by position.
+// Slots are assigned by identifier, never by position.
 ghost use mathlib.Core.Path.{_≡_};
 ghost use mathlib.Core.Bool.{true};
 ghost use Prim.Native.Nat.{ℕ, _+_, _-_, _*_, _≤_, _<_};
@@ -8,7 +8,9 @@ ghost use Rattle.rules.specs.Limits.{limits};
 ghost use Rattle.rules.specs.Slots.{slotBytes, slotAt, slotOf, slotNames};
 ghost use Rattle.run_slots.specs.Slot.{Holds, Short, namesAt, Found};
 use crate::bytes::same_parts;
-use crate::slot::SLOT_BYTES;
+use rules::controller::Places;
+use rules::controller::SlotNumbers;
+use rules::slot_format::SLOT_BYTES;
 
 // Whether the slot of number k has the identifier of n bytes at `at`.
 pub fn named(s: &[u8], at: usize, n: usize, slots: &[u8], k: usize) -> bool
@@ -41,15 +43,15 @@ pub fn slot_of(s: &[u8], at: usize, n: usize, slots: &[u8]) -> usize
 // The slots of n components, whose identifiers stand at the places `ids` of s; false if one of them has none.
 pub fn find_slots(
     s: &[u8],
-    ids: &[usize; 16],
+    ids: &Places,
     n: usize,
     slots: &[u8],
-    found: &mut [usize; 8],
+    assigned: &mut SlotNumbers,
 ) -> bool
     requires { ⌜ (n ≤ 8) × ((k : ℕ) → k < n → (spanAt (now ids) k .from ≤ spanAt (now ids) k .to) × (spanAt (now ids) k .to ≤ length (now s))) × Short (now slots) ⌝ }
-    ensures { λ r. ⌜ (r ≡ allIn (namesAt (now (s .entry)) (now (ids .entry)) n) (slotNames (now (slots .entry)))) × (r ≡ true → Found (namesAt (now (s .entry)) (now (ids .entry)) n) (now (slots .entry)) (now (found .entry)) (now (found .exit))) ⌝ }
+    ensures { λ r. ⌜ (r ≡ allIn (namesAt (now (s .entry)) (now (ids .entry)) n) (slotNames (now (slots .entry)))) × (r ≡ true → Found (namesAt (now (s .entry)) (now (ids .entry)) n) (now (slots .entry)) (now (assigned .entry)) (now (assigned .exit))) ⌝ }
 {
-    let numbers: &mut [usize] = found;
+    let numbers: &mut [usize] = assigned;
     let count = slots.len() / SLOT_BYTES;
     let mut i = 0;
     while i < n {

@@ -8,16 +8,11 @@ ghost use Rattle.rules.specs.Slots.{slotAt, goodSlot};
 ghost use Rattle.run_slots.specs.Slot.{Holds};
 use byte_buffer::four;
 use rules::controller::Controller;
-
-pub const SLOT_BYTES: usize = 74;
-
-const CAPACITY: usize = 33;
-
-pub const IMAGE: usize = 37;
-
-const SIZE: usize = 38;
-
-pub const DIGEST: usize = 42;
+use rules::slot_format::CAPACITY;
+use rules::slot_format::IMAGE;
+use rules::slot_format::SLOT_BYTES;
+use rules::slot_format::SLOT_DIGEST;
+use rules::slot_format::SLOT_SIZE;
 
 pub fn capacity(slots: &[u8], k: usize) -> usize
     requires { ⌜ Holds (now slots) k ⌝ }
@@ -37,7 +32,7 @@ pub fn size(slots: &[u8], k: usize) -> usize
     requires { ⌜ Holds (now slots) k ⌝ }
     ensures { λ r. ⌜ r ≡ slotAt (now (slots .entry)) k .size ⌝ }
 {
-    four(slots, SLOT_BYTES * k + SIZE)
+    four(slots, SLOT_BYTES * k + SLOT_SIZE)
 }
 
 // 85, of one slot.

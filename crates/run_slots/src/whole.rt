@@ -7,9 +7,9 @@ ghost use Rattle.rules.specs.Bytes.{member, repeats};
 ghost use Rattle.rules.specs.Slots.{slotBytes, slotAt, allGood, goodSlots};
 ghost use Rattle.run_slots.specs.Slot.{Short, slotsFrom, namesFrom};
 use crate::search::named;
-use crate::slot::SLOT_BYTES;
 use crate::slot::good_slot;
 use rules::controller::Controller;
+use rules::slot_format::SLOT_BYTES;
 
 // Whether each of the n slots is good.
 pub fn all_good(slots: &[u8], n: usize) -> bool

@@ -9,14 +9,15 @@ use Rattle.rules.specs.declared.answers.Group.{Group}
 use Rattle.rules.specs.Bytes.{Bytes, put, bytesAt}
 use Rattle.rules.specs.Manifest.{Seq}
 use Rattle.rules.specs.Run.{planOf}
-use Rattle.rules.specs.Program.{Rec, NONE, size, flatSeq, flatAll, programOf}
+use Rattle.rules.specs.Program.{Rec, size, flatSeq, flatAll, programOf}
+use Rattle.rules.specs.ProgramFormat.{NONE}
 use Rattle.rules.specs.ProgramSize.{argSize, sizeAll, argSizeAll}
 use Rattle.rules_theorems.proofs.ManifestLaws.{Sound, sound}
 use Rattle.rules_theorems.proofs.RoundTrip.{GoodProgram}
 use Rattle.rules_theorems.proofs.FlatLaws.{well-formed, program-size, length-all}
 use Rattle.rules_theorems.proofs.RunLaws.{length-seq}
 use Rattle.translate_size.specs.declared.sizes.Size.{Size}
-use Rattle.translate_record.specs.declared.record.Pen.{Pen}
+use Rattle.translate_record.specs.declared.record.WriteState.{WriteState}
 use Rattle.translate_size.specs.Size.{most, SequenceHere, SequenceSized}
 use Rattle.translate_record.specs.Record.{written, Wrote}
 use Rattle.translate_sequence.specs.Write.{SequenceJob}
@@ -118,8 +119,8 @@ module _ (s : Bytes) (group : Group) (places : List ℕ) (h : SectionsHere s pla
       sizing-adds = (omega (arith, sizing-on .records, plan-small), omega (arith, sizing-on .arguments, plan-small))
 
   -- what is written and the sections that are left make the whole
-  module _ (pen : Pen) (room₀ : Bytes) where
-    pub record Writing (room : Bytes) (k : ℕ) (now : Pen) : Type 0 where
+  module _ (pen : WriteState) (room₀ : Bytes) where
+    pub record Writing (room : Bytes) (k : ℕ) (now : WriteState) : Type 0 where
       pub at : PlanAt s components group places k
       pub done : List Rec
       pub wrote : Wrote done pen room₀ now room
@@ -140,13 +141,13 @@ module _ (s : Bytes) (group : Group) (places : List ℕ) (h : SectionsHere s pla
           small = l;
         }
 
-    pub writing-done : (room : Bytes) (k : ℕ) (now : Pen) → Writing room k now → 6 ≤ k → room ≡ put room₀ (pen .to) (written (flatAll plan 0))
+    pub writing-done : (room : Bytes) (k : ℕ) (now : WriteState) → Writing room k now → 6 ≤ k → room ≡ put room₀ (pen .to) (written (flatAll plan 0))
     writing-done room k now z l =
         let e = plan-end s components group places k (z .at) l in
         let f : flatAll plan 0 ≡ z .done = z .goes ∙ ap (λ (x : List Seq). z .done ++ flatAll x (now .n)) e ∙ ap (λ (x : List Rec). z .done ++ x) (flat-none (now .n)) ∙ append-nil (z .done) in
         z .wrote .filled ∙ ap (λ (x : List Rec). put room₀ (pen .to) (written x)) (sym f)
 
-    module _ (room : Bytes) (k : ℕ) (now : Pen) (z : Writing room k now) (l : k < 6) (w : Bool) (e : Wanted group places k w) where
+    module _ (room : Bytes) (k : ℕ) (now : WriteState) (z : Writing room k now) (l : k < 6) (w : Bool) (e : Wanted group places k w) where
       its : w ≡ true → Taken s components group places k (z .at)
       its t = take s components group places k (z .at) l (sym t ∙ e)
 
@@ -162,7 +163,7 @@ module _ (s : Bytes) (group : Group) (places : List ℕ) (h : SectionsHere s pla
             small = z .small;
           }
 
-      module _ (r : Pen) (room′ : Bytes)
+      module _ (r : WriteState) (room′ : Bytes)
           (whole : w ≡ true → (j : SequenceJob s 4 (startOf (getD places (2 * k) 0) now) room) → Wrote (flatSeq (j .place .seq) false 0 false NONE 0 (now .n)) now room r room′)
           (none : w ≡ false → (r ≡ now) × (room′ ≡ room)) where
         pub writing-on : Writing room′ (k + 1) r

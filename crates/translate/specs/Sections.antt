@@ -12,7 +12,7 @@ use Rattle.rules.specs.Run.{planOf}
 use Rattle.rules.specs.ProgramSize.{sizeAll, argSizeAll}
 use Rattle.check_manifest.specs.Sections.{placed}
 use Rattle.translate_size.specs.declared.sizes.Size.{Size}
-use Rattle.translate_record.specs.declared.record.Pen.{Pen}
+use Rattle.translate_record.specs.declared.record.WriteState.{WriteState}
 use Rattle.translate_size.specs.Size.{most}
 
 -- the places of the sections of an accepted envelope
@@ -32,5 +32,5 @@ pub record SectionsJob (s : Bytes) (group : Group) (sections : List ℕ) (to : �
   pub small : length room ≤ most
 
 -- the pen at the start of the sequence at `from`, where `now` writes
-abbrev pub startOf : ℕ → Pen → Pen
+abbrev pub startOf : ℕ → WriteState → WriteState
 startOf from now = record { next = from; index = 0; coerce = 1; n = now .n; to = now .to }

@@ -9,9 +9,11 @@ use names::size_names;
 use names::write_names;
 use rules::answers::Group;
 use rules::answers::Refusal;
+use rules::controller::Places;
+use rules::controller::SectionPlaces;
+use rules::program_format::START_BYTES;
 use sections::size_sections;
 use sections::write_sections;
-use start::START_BYTES;
 use start::put_start;
 
 pub mod names;
@@ -30,8 +32,8 @@ fn translate_checked(
     group: Group,
     number: usize,
     n: usize,
-    ids: &[usize; 16],
-    sections: &[usize; 12],
+    ids: &Places,
+    sections: &SectionPlaces,
     room: &mut [u8],
 ) -> Translated
     requires { ⌜ Accepted (now s) number n (now ids) (now sections) ⌝ }

@@ -8,12 +8,13 @@ ghost use Rattle.rules.specs.Program.{idBytes};
 ghost use Rattle.run_slots.specs.Slot.{namesAt};
 ghost use Rattle.component_ids.specs.Identifiers.{InBytes};
 ghost use Rattle.translate_record.specs.Record.{Filled};
+use rules::controller::Places;
 use translate_record::bytes::copy;
 
 const NAME_BYTES: usize = 4;
 
 // How many bytes the records of the n identifiers have.
-pub fn size_names(ids: &[usize; 16], n: usize) -> usize
+pub fn size_names(ids: &Places, n: usize) -> usize
     requires { ⌜ (n ≤ 8) × InBytes (now ids) n 65536 ⌝ }
     ensures { λ r. ⌜ ((s : Bytes) → InBytes (now (ids .entry)) n (length s) → r ≡ length (flat (map idBytes (namesAt s (now (ids .entry)) n)))) ⌝ }
 {
@@ -40,7 +41,7 @@ fn put_name(s: &[u8], from: usize, n: usize, room: &mut [u8], to: usize) -> usiz
 }
 
 // The records of the n identifiers at the places `ids` of s, written from `at` on: the place after them.
-pub fn write_names(s: &[u8], ids: &[usize; 16], n: usize, room: &mut [u8], at: usize) -> usize
+pub fn write_names(s: &[u8], ids: &Places, n: usize, room: &mut [u8], at: usize) -> usize
     requires { ⌜ (n ≤ 8) × InBytes (now ids) n (length (now s)) × ((k : ℕ) → k < n → spanAt (now ids) k .to - spanAt (now ids) k .from < 256) × (at + length (flat (map idBytes (namesAt (now s) (now ids) n))) ≤ length (now room)) ⌝ }
     ensures { λ r. ⌜ Filled (flat (map idBytes (namesAt (now (s .entry)) (now (ids .entry)) n))) at (now (room .entry)) r (now (room .exit)) ⌝ }
 {

@@ -2,7 +2,8 @@
 ghost use mathlib.Core.Path.{_≡_};
 ghost use mathlib.Core.Bool.{true, false};
 ghost use Rattle.rules.specs.Bytes.{put};
-ghost use Rattle.rules.specs.Program.{NONE, flatSeq, flatAll};
+ghost use Rattle.rules.specs.Program.{flatSeq, flatAll};
+ghost use Rattle.rules.specs.ProgramFormat.{NONE};
 ghost use Rattle.rules.specs.Run.{planOf};
 ghost use Rattle.translate_size.specs.Size.{SequenceHere, SequenceSized};
 ghost use Rattle.translate_record.specs.Record.{written, Wrote};
@@ -11,8 +12,9 @@ ghost use Rattle.translate.specs.Sections.{SectionsHere, SectionsSized, 
 use manifest_accessors::sections::wanted;
 use rules::answers::Group;
 use rules::controller::Controller;
-use translate_record::record::NO_TARGET;
-use translate_record::record::Pen;
+use rules::controller::SectionPlaces;
+use rules::program_format::NO_TARGET;
+use translate_record::record::WriteState;
 use translate_sequence::write::write_sequence;
 use translate_size::sizes::Size;
 use translate_size::sizes::size_sequence;
@@ -33,7 +35,7 @@ fn size_section(s: &[u8], wanted: bool, from: usize) -> Size
 }
 
 // The size of the group's sections, from the places that check reported.
-pub fn size_sections(s: &[u8], group: Group, sections: &[usize; 12]) -> Size
+pub fn size_sections(s: &[u8], group: Group, sections: &SectionPlaces) -> Size
     requires { ⌜ SectionsHere (now s) (now sections) ⌝ }
     ensures { λ r. ⌜ ((j : SectionsHere (now (s .entry)) (now (sections .entry))) → SectionsSized (planOf group (j .manifest)) r) ⌝ }
 {
@@ -58,7 +60,13 @@ pub fn size_sections(s: &[u8], group: Group, sections: &[usize; 12]) -> Size
 }
 
 // The sequence at `from`, written at the pen; nothing where it is not wanted.
-fn write_section(s: &[u8], wanted: bool, from: usize, pen: Pen, room: &mut [u8]) -> Pen
+fn write_section(
+    s: &[u8],
+    wanted: bool,
+    from: usize,
+    pen: WriteState,
+    room: &mut [u8],
+) -> WriteState
     requires { ⌜ (wanted ≡ true → SequenceJob (now s) 4 (startOf from pen) (now room)) ⌝ }
     ensures { λ r. ⌜ (wanted ≡ true → (j : SequenceJob (now (s .entry)) 4 (startOf from pen) (now (room .entry))) → Wrote (flatSeq (j .place .seq) false 0 false NONE 0 (pen .n)) pen (now (room .entry)) r (now (room .exit))) × (wanted ≡ false → (r ≡ pen) × (now (room .exit) ≡ now (room .entry))) ⌝ }
 {
@@ -71,7 +79,7 @@ fn write_section(s: &[u8], wanted: bool, from: usize, pen: Pen, room: &mut [u8])
         false,
         NO_TARGET,
         0,
-        Pen {
+        WriteState {
             next: from,
             index: 0,
             coerce: 1,
@@ -83,11 +91,11 @@ fn write_section(s: &[u8], wanted: bool, from: usize, pen: Pen, room: &mut [u8])
 }
 
 // The records of the group's sections, written from `to` on.
-pub fn write_sections(s: &[u8], group: Group, sections: &[usize; 12], to: usize, room: &mut [u8])
+pub fn write_sections(s: &[u8], group: Group, sections: &SectionPlaces, to: usize, room: &mut [u8])
     requires { ⌜ SectionsJob (now s) group (now sections) to (now room) ⌝ }
     ensures { λ _. ⌜ ((j : SectionsJob (now (s .entry)) group (now (sections .entry)) to (now (room .entry))) → now (room .exit) ≡ put (now (room .entry)) to (written (flatAll (planOf group (j .here .manifest)) 0))) ⌝ }
 {
-    let mut now = Pen {
+    let mut now = WriteState {
         next: 0,
         index: 0,
         coerce: 1,

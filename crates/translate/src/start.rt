@@ -5,8 +5,7 @@ ghost use lib.ListN.{length};
 ghost use Rattle.rules.specs.Bytes.{put};
 ghost use Rattle.translate.specs.Start.{startBytes};
 use rules::answers::Group;
-
-pub const START_BYTES: usize = 11;
+use rules::program_format::START_BYTES;
 
 // `53 50 fe`, group, sequence number in 4, component count, record count in 2.
 pub fn put_start(room: &mut [u8], group: Group, number: usize, components: usize, records: usize)

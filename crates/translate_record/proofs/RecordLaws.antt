@@ -5,10 +5,11 @@ use mathlib.Core.List.{[], _∷_, _++_, append-nil}
 use mathlib.Core.Bool.{cond}
 use mathlib.Core.Logic.{_⊎_, inl, inr}
 use native.Mathlib.Omega.{arith}
-use lib.Dec.{eqb, leb}
+use lib.Dec.{eqb}
 use lib.ListN.{length, length-append}
 use Rattle.rules.specs.Bytes.{Bytes, put, part, be4}
 use Rattle.rules.specs.Commands as Rules
+use Rattle.rules.specs.ProgramFormat.{NONE}
 use Rattle.rules.specs.Commands.{Op, vendor, class, imageMatch, setIndex, abort, setParams, overrideParams, fetch, copy, run, swap, code}
 use Rattle.rules.specs.Manifest.{one}
 use Rattle.rules.specs.Program.{does, jump, targetOf, entry, paramBytes, argBytes, recBytes, flatCmd, flatSeq}
@@ -16,10 +17,10 @@ use Rattle.run_slots.specs.declared.params.Params.{Params}
 use Rattle.run_slots.specs.Params.{optional, meaning, Fit}
 use Rattle.run_commands.specs.Op.{opOf, IsCode}
 use Rattle.manifest_accessors.specs.declared.arguments.Args.{Args}
-use Rattle.manifest_accessors.specs.Arguments.{paramsOf, ReadAs}
+use Rattle.manifest_accessors.specs.Arguments.{paramsOf, ArgumentRead}
 use Rattle.rules_theorems.proofs.OpLaws.{code-small}
 use Rattle.manifest_accessors.proofs.OneLaws.{one-plain, coerce-after}
-use Rattle.translate_record.specs.declared.record.Pen.{Pen}
+use Rattle.translate_record.specs.declared.record.WriteState.{WriteState}
 use Rattle.translate_record.specs.Record.{Filled, headBytes, written, JumpWrote, LeafJob, CommandWrote}
 use Rattle.rules.proofs.BytesLaws.{length-part}
 use Rattle.translate_record.proofs.FillLaws.{put-before, filled-then}
@@ -99,7 +100,7 @@ flat-one : (p : ℕ) (op : Op) (b : _) (i t n : ℕ) → flatCmd (one p op b) i 
 unfolding flatSeq
 flat-one p op b i t n = refl
 
-pub jump-wrote : (target : ℕ) (pen : Pen) (room room′ : Bytes) → room′ ≡ put room (pen .to) (headBytes 0xff 0 0 target 0) →
+pub jump-wrote : (target : ℕ) (pen : WriteState) (room room′ : Bytes) → room′ ≡ put room (pen .to) (headBytes 0xff 0 0 target 0) →
     JumpWrote target pen room (record { next = pen .next; index = pen .index; coerce = pen .coerce; n = pen .n + 1; to = pen .to + 10 }) room′
 jump-wrote target pen room room′ e =
     record {
@@ -109,7 +110,7 @@ jump-wrote target pen room room′ e =
       coerce = refl;
     }
 
-module _ (s : Bytes) (c at : ℕ) (pen : Pen) (room : Bytes) (j : LeafJob s c at pen room) (a : Args) (r : ReadAs s c at (j .argument) a) where
+module _ (s : Bytes) (c at : ℕ) (pen : WriteState) (room : Bytes) (j : LeafJob s c at pen room) (a : Args) (r : ArgumentRead s c at (j .argument) a) where
   is-code : code (j .argument .op) ≡ c
   is-code = one-plain s c at (j .argument) .0
 
@@ -132,7 +133,7 @@ module _ (s : Bytes) (c at : ℕ) (pen : Pen) (room : Bytes) (j : LeafJob s c at
     pub leaf-inside : i < j .argument .n
     leaf-inside = omega (arith, leaf-component, r .inside (pen .index) (j .inside))
 
-    pub leaf-wrote : (target t : ℕ) → t ≡ cond (leb c 3) target 0xffff → (to : ℕ) (room₁ : Bytes) → Filled (argBytes (opOf s c (a .value) (paramsOf a))) (pen .to + 10) room to room₁ →
+    pub leaf-wrote : (target t : ℕ) → t ≡ cond (Rules.conditionIn (Rules.rowOf c Rules.commands)) target NONE → (to : ℕ) (room₁ : Bytes) → Filled (argBytes (opOf s c (a .value) (paramsOf a))) (pen .to + 10) room to room₁ →
         (room₂ : Bytes) → room₂ ≡ put room₁ (pen .to) (headBytes c i (pen .next) t (to - (pen .to + 10))) → (b : ℕ) → b ≡ cond (eqb (a .coerce) 0) (pen .coerce) (a .coerce) →
         CommandWrote (one (pen .next) (j .argument .op) (j .argument .coerce)) (j .argument .to) (j .argument .n) target pen room
         (record { next = a .next; index = i; coerce = b; n = pen .n + 1; to = to }) room₂

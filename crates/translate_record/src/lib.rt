@@ -1,4 +1,4 @@
-// One record of a program, written to lent room.
+// ArgumentAt record of a program, written to lent room.
 pub mod argument;
 pub mod bytes;
 pub mod record;

@@ -1,24 +1,24 @@
-// One record, written to lent room.
+// ArgumentAt record, written to lent room.
 ghost use mathlib.Core.Path.{_≡_};
 ghost use mathlib.Core.Bool.{cond};
 ghost use Prim.Native.Nat.{_+_, _≤_, _<_};
-ghost use lib.Dec.{eqb, leb};
+ghost use lib.Dec.{eqb};
 ghost use lib.ListN.{length};
 ghost use Rattle.rules.specs.Bytes.{put};
+ghost use Rattle.rules.specs.Commands.{commands, rowOf, conditionIn};
 ghost use Rattle.rules.specs.Manifest.{one};
+ghost use Rattle.rules.specs.ProgramFormat.{NONE};
 ghost use Rattle.translate_record.specs.Record.{headBytes, JumpWrote, LeafJob, CommandWrote};
 use crate::argument::put_argument;
 use manifest_accessors::arguments::read_one;
+use rules::program_format::JUMP;
+use rules::program_format::NO_TARGET;
+use rules::program_format::RECORD_BYTES;
+use rules_tables::condition_of;
 use run_slots::params::either;
 
-const HEAD_BYTES: usize = 10;
-
-pub const NO_TARGET: usize = 0xffff;
-
-const JUMP: usize = 0xff;
-
 // Where the next command is, the index and coerce of the sequence (1 false, 2 true), the number of the next record, and its place in the room.
-pub struct Pen {
+pub struct WriteState {
     pub next: usize,
     pub index: usize,
     pub coerce: usize,
@@ -63,26 +63,26 @@ fn component(code: usize, value: usize, index: usize) -> usize
 
 // Only a condition has a target.
 fn target_of(code: usize, target: usize) -> usize
-    ensures { λ r. ⌜ r ≡ cond (leb code 3) target 0xffff ⌝ }
+    ensures { λ r. ⌜ r ≡ cond (conditionIn (rowOf code commands)) target NONE ⌝ }
 {
-    if code <= 3 {
+    if condition_of(code) {
         return target;
     }
     NO_TARGET
 }
 
 // A jump to the record of that number.
-pub fn put_jump(target: usize, pen: Pen, room: &mut [u8]) -> Pen
+pub fn put_jump(target: usize, pen: WriteState, room: &mut [u8]) -> WriteState
     requires { ⌜ (pen .to + 10 ≤ length (now room)) × (pen .n < 1024) ⌝ }
     ensures { λ r. ⌜ JumpWrote target pen (now (room .entry)) r (now (room .exit)) ⌝ }
 {
     put_head(room, pen.to, JUMP, 0, 0, target, 0);
-    Pen {
+    WriteState {
         next: pen.next,
         index: pen.index,
         coerce: pen.coerce,
         n: pen.n + 1,
-        to: pen.to + HEAD_BYTES,
+        to: pen.to + RECORD_BYTES,
     }
 }
 
@@ -92,15 +92,15 @@ pub fn put_command(
     code: usize,
     at: usize,
     target: usize,
-    pen: Pen,
+    pen: WriteState,
     room: &mut [u8],
-) -> Pen
+) -> WriteState
     requires { ⌜ LeafJob (now s) code at pen (now room) ⌝ }
     ensures { λ r. ⌜ ((j : LeafJob (now (s .entry)) code at pen (now (room .entry))) → CommandWrote (one (pen .next) (j .argument .op) (j .argument .coerce)) (j .argument .to) (j .argument .n) target pen (now (room .entry)) r (now (room .exit))) ⌝ }
 {
     let a = read_one(s, code, at);
     let index = component(code, a.value, pen.index);
-    let start = pen.to + HEAD_BYTES;
+    let start = pen.to + RECORD_BYTES;
     let end = put_argument(s, code, a, room, start);
     put_head(
         room,
@@ -111,7 +111,7 @@ pub fn put_command(
         target_of(code, target),
         end - start,
     );
-    Pen {
+    WriteState {
         next: a.next,
         index,
         coerce: either(a.coerce, a.coerce, pen.coerce),

@@ -18,15 +18,15 @@ use Rattle.rules.specs.Program.{Rec, jump, argBytes, size, sizeCmd, sizeAlts, f
 use Rattle.rules.specs.ProgramSize.{argSize, argSizeCmd, argSizeAlts}
 use Rattle.rules_theorems.proofs.RunLaws.{length-seq, length-cmd}
 use Rattle.rules_theorems.proofs.FlatLaws.{bytes, sum-seq, sum-cmd}
-use Rattle.manifest_accessors.specs.Heads.{Headed}
-use Rattle.manifest_accessors.specs.Arguments.{isTrue, One}
+use Rattle.manifest_accessors.specs.Heads.{HeadAt}
+use Rattle.manifest_accessors.specs.Arguments.{isTrue, ArgumentAt}
 use Rattle.manifest_accessors.specs.Places.{SequenceAt}
 use Rattle.manifest_accessors.proofs.HeadLaws.{item-headed, number-headed}
 use Rattle.manifest_accessors.proofs.ArgumentLaws.{command-one}
 use Rattle.manifest_accessors.proofs.SequencePlaces.{CommandsAt, Start, start, Turn, turn, no-more}
 use Rattle.manifest_accessors.proofs.CommandPlaces.{Coded, coded, Sub, its-sequence, Tries, its-alternatives, listOf, Alternatives, alternatives-law}
 use Rattle.manifest_accessors.proofs.TryPlaces.{AltsAt, Choice, choice}
-use Rattle.translate_record.specs.declared.record.Pen.{Pen}
+use Rattle.translate_record.specs.declared.record.WriteState.{WriteState}
 use Rattle.translate_size.specs.Size.{most, SequenceHere, CommandHere}
 use Rattle.translate_record.specs.Record.{written, LeafJob, Wrote, CommandWrote, JumpWrote}
 use Rattle.translate_sequence.specs.Write.{SequenceJob, CommandJob}
@@ -44,21 +44,21 @@ bytes-jump t = refl
 length-written : (a b : List Rec) → length (written (a ++ b)) ≡ length (written a) + length (written b)
 length-written a b = ap length (written-append a b) ∙ length-append (written a) (written b)
 
-pub bytes-seq : (a : Seq) (own : Bool) (i : ℕ) (c : Bool) (t z k : ℕ) → length (written (flatSeq a own i c t z k)) ≡ 10 * size a + argSize a
+pub bytes-seq : (a : Seq) (coercible : Bool) (i : ℕ) (c : Bool) (t z k : ℕ) → length (written (flatSeq a coercible i c t z k)) ≡ 10 * size a + argSize a
 unfolding written bytes
-bytes-seq a own i c t z k = sum-seq a own i c t z k .1
+bytes-seq a coercible i c t z k = sum-seq a coercible i c t z k .1
 
 bytes-cmd : (x : Cmd) (i t k : ℕ) → length (written (flatCmd x i t k)) ≡ 10 * sizeCmd x + argSizeCmd x
 unfolding written bytes
 bytes-cmd x i t k = sum-cmd x i t k .1
 
 -- nothing written
-pub wrote-none : (pen now : Pen) (room : Bytes) → now .to ≡ pen .to → now .n ≡ pen .n → Wrote [] pen room now room
+pub wrote-none : (pen now : WriteState) (room : Bytes) → now .to ≡ pen .to → now .n ≡ pen .n → Wrote [] pen room now room
 unfolding written
 wrote-none pen now room e e′ = record { filled = refl; to = omega (arith, e); n = omega (arith, e′) }
 
 -- one after the other
-pub wrote-then : (a b : List Rec) (pen : Pen) (room : Bytes) (now : Pen) (room′ : Bytes) (at : Pen) (r : Pen) (room″ : Bytes) → at .to ≡ now .to → at .n ≡ now .n →
+pub wrote-then : (a b : List Rec) (pen : WriteState) (room : Bytes) (now : WriteState) (room′ : Bytes) (at : WriteState) (r : WriteState) (room″ : Bytes) → at .to ≡ now .to → at .n ≡ now .n →
     Wrote a pen room now room′ → Wrote b at room′ r room″ → Wrote (a ++ b) pen room r room″
 wrote-then a b pen room now room′ at r room″ e e′ w v =
     record {
@@ -67,11 +67,11 @@ wrote-then a b pen room now room′ at r room″ e e′ w v =
       n = omega (arith, v .n, e′, w .n, length-append a b);
     }
 
-pub same-room : (a : List Rec) (pen : Pen) (room : Bytes) (now : Pen) (room′ : Bytes) → Wrote a pen room now room′ → length room′ ≡ length room
+pub same-room : (a : List Rec) (pen : WriteState) (room : Bytes) (now : WriteState) (room′ : Bytes) → Wrote a pen room now room′ → length room′ ≡ length room
 same-room a pen room now room′ w = ap length (w .filled) ∙ length-sets room (pen .to) (written a)
 
 -- some commands as check read them, and room for their records
-pub record CommandsJob (s : Bytes) (depth k : ℕ) (pen : Pen) (room : Bytes) : Type 0 where
+pub record CommandsJob (s : Bytes) (depth k : ℕ) (pen : WriteState) (room : Bytes) : Type 0 where
   pub n : ℕ
   pub place : CommandsAt s n depth 0 k (pen .next)
   pub inside : pen .index < n
@@ -81,21 +81,21 @@ pub record CommandsJob (s : Bytes) (depth k : ℕ) (pen : Pen) (room : Bytes) : 
   pub small : length room ≤ most
 
 -- the loop over commands: the records of the whole are those written and those of the commands that are left
-pub record Loop (s : Bytes) (depth : ℕ) (own : Bool) (target beyond components : ℕ) (whole : List Rec) (pen : Pen) (room₀ room : Bytes) (left : ℕ) (now : Pen) : Type 0 where
+pub record Loop (s : Bytes) (depth : ℕ) (coercible : Bool) (target beyond components : ℕ) (whole : List Rec) (pen : WriteState) (room₀ room : Bytes) (left : ℕ) (now : WriteState) : Type 0 where
   pub job : CommandsJob s depth left now room
   pub same : job .n ≡ components
   pub done : List Rec
   pub wrote : Wrote done pen room₀ now room
-  pub goes : whole ≡ done ++ flatSeq (job .place .cmds) own (now .index) (isTrue (now .coerce)) target beyond (now .n)
+  pub goes : whole ≡ done ++ flatSeq (job .place .cmds) coercible (now .index) (isTrue (now .coerce)) target beyond (now .n)
 
-flat-then : (x : Cmd) (xs : Seq) (own : Bool) (i : ℕ) (c : Bool) (t z n : ℕ) →
-    flatSeq (then x xs) own i c t z n ≡ flatCmd x i (cond (own && c) z t) n ++ flatSeq xs own (indexAfter x i) (coerceAfter x c) t z (n + sizeCmd x)
+flat-then : (x : Cmd) (xs : Seq) (coercible : Bool) (i : ℕ) (c : Bool) (t z n : ℕ) →
+    flatSeq (then x xs) coercible i c t z n ≡ flatCmd x i (cond (coercible && c) z t) n ++ flatSeq xs coercible (indexAfter x i) (coerceAfter x c) t z (n + sizeCmd x)
 unfolding flatSeq
-flat-then x xs own i c t z n = refl
+flat-then x xs coercible i c t z n = refl
 
-flat-end : (own : Bool) (i : ℕ) (c : Bool) (t z n : ℕ) → flatSeq end own i c t z n ≡ []
+flat-end : (coercible : Bool) (i : ℕ) (c : Bool) (t z n : ℕ) → flatSeq end coercible i c t z n ≡ []
 unfolding flatSeq
-flat-end own i c t z n = refl
+flat-end coercible i c t z n = refl
 
 size-then : (x : Cmd) (xs : Seq) → size (then x xs) ≡ sizeCmd x + size xs
 unfolding size
@@ -105,19 +105,19 @@ arg-size-then : (x : Cmd) (xs : Seq) → argSize (then x xs) ≡ argSizeCmd x + 
 unfolding argSize
 arg-size-then x xs = refl
 
-module _ (s : Bytes) (depth : ℕ) (own : Bool) (target beyond : ℕ) where
-  pub loop-starts : (left : ℕ) (now : Pen) (room : Bytes) (x : CommandsJob s depth left now room) →
-      Loop s depth own target beyond (x .n) (flatSeq (x .place .cmds) own (now .index) (isTrue (now .coerce)) target beyond (now .n)) now room room left now
+module _ (s : Bytes) (depth : ℕ) (coercible : Bool) (target beyond : ℕ) where
+  pub loop-starts : (left : ℕ) (now : WriteState) (room : Bytes) (x : CommandsJob s depth left now room) →
+      Loop s depth coercible target beyond (x .n) (flatSeq (x .place .cmds) coercible (now .index) (isTrue (now .coerce)) target beyond (now .n)) now room room left now
   loop-starts left now room x = record { job = x; same = refl; done = []; wrote = wrote-none now now room refl refl; goes = refl }
 
-  module _ (components : ℕ) (whole : List Rec) (pen : Pen) (room₀ room : Bytes) (left : ℕ) (now : Pen)
-      (l : Loop s depth own target beyond components whole pen room₀ room left now) where
+  module _ (components : ℕ) (whole : List Rec) (pen : WriteState) (room₀ room : Bytes) (left : ℕ) (now : WriteState)
+      (l : Loop s depth coercible target beyond components whole pen room₀ room left now) where
     pub loop-done : left ≡ 0 → Wrote whole pen room₀ now room
     loop-done z =
         let e : whole ≡ l .done =
         l .goes
-        ∙ ap (λ (a : Seq). l .done ++ flatSeq a own (now .index) (isTrue (now .coerce)) target beyond (now .n)) (no-more s (l .job .n) depth 0 left (now .next) (l .job .place) z)
-        ∙ ap (λ (a : List Rec). l .done ++ a) (flat-end own (now .index) (isTrue (now .coerce)) target beyond (now .n))
+        ∙ ap (λ (a : Seq). l .done ++ flatSeq a coercible (now .index) (isTrue (now .coerce)) target beyond (now .n)) (no-more s (l .job .n) depth 0 left (now .next) (l .job .place) z)
+        ∙ ap (λ (a : List Rec). l .done ++ a) (flat-end coercible (now .index) (isTrue (now .coerce)) target beyond (now .n))
         ∙ append-nil (l .done) in
         rw e (l .wrote)
 
@@ -143,9 +143,9 @@ module _ (s : Bytes) (depth : ℕ) (own : Bool) (target beyond : ℕ) where
             small = l .job .small;
           }
 
-      pub loop-goes-on : (t : ℕ) → t ≡ cond (own && isTrue (now .coerce)) beyond target → (r : Pen) (room′ : Bytes) →
+      pub loop-goes-on : (t : ℕ) → t ≡ cond (coercible && isTrue (now .coerce)) beyond target → (r : WriteState) (room′ : Bytes) →
           CommandWrote (its-turn .first .cmd) (its-turn .first .to) (l .job .n) t now room r room′ →
-          Loop s depth own target beyond components whole pen room₀ room′ (left - 1) r
+          Loop s depth coercible target beyond components whole pen room₀ room′ (left - 1) r
       loop-goes-on t e r room′ w =
           let x : Cmd = its-turn .first .cmd in
           let xs : Seq = its-turn .rest .cmds in
@@ -180,22 +180,22 @@ module _ (s : Bytes) (depth : ℕ) (own : Bool) (target beyond : ℕ) where
             wrote = wrote-then (l .done) f pen room₀ now room now r room′ refl refl (l .wrote) (w .wrote);
             goes =
                 l .goes
-                ∙ ap (λ (a : Seq). l .done ++ flatSeq a own (now .index) (isTrue (now .coerce)) target beyond (now .n)) (its-turn .cmds)
-                ∙ ap (λ (a : List Rec). l .done ++ a) (flat-then x xs own (now .index) (isTrue (now .coerce)) target beyond (now .n))
-                ∙ sym (append-assoc (l .done) (flatCmd x (now .index) (cond (own && isTrue (now .coerce)) beyond target) (now .n)) (flatSeq xs own (indexAfter x (now .index)) (coerceAfter x (isTrue (now .coerce))) target beyond (now .n + sizeCmd x)))
+                ∙ ap (λ (a : Seq). l .done ++ flatSeq a coercible (now .index) (isTrue (now .coerce)) target beyond (now .n)) (its-turn .cmds)
+                ∙ ap (λ (a : List Rec). l .done ++ a) (flat-then x xs coercible (now .index) (isTrue (now .coerce)) target beyond (now .n))
+                ∙ sym (append-assoc (l .done) (flatCmd x (now .index) (cond (coercible && isTrue (now .coerce)) beyond target) (now .n)) (flatSeq xs coercible (indexAfter x (now .index)) (coerceAfter x (isTrue (now .coerce))) target beyond (now .n + sizeCmd x)))
                 ∙ rw (e, w .index, w .coerce, nn);
           }
 
 -- the records of a sequence, from its job
-module _ (s : Bytes) (depth : ℕ) (pen : Pen) (room : Bytes) (j : SequenceJob s depth pen room) where
+module _ (s : Bytes) (depth : ℕ) (pen : WriteState) (room : Bytes) (j : SequenceJob s depth pen room) where
   abbrev began : Start s (j .n) depth 0 (pen .next) (j .place)
   began = start s (j .n) depth 0 (pen .next) (j .place)
 
   pub sequence-deep : 0 < depth
   sequence-deep = began .deep
 
-  abbrev pub sequence-head : Headed s (pen .next)
-  sequence-head = item-headed s ARRAY 0 (limits .pairs + limits .pairs) (j .place .e) (pen .next) (began .head) (j .place .fits) (omega arith) (began .item)
+  abbrev pub sequence-head : HeadAt s (pen .next)
+  sequence-head = item-headed s ARRAY 0 (limits .sequence + limits .sequence) (j .place .e) (pen .next) (began .head) (j .place .fits) (omega arith) (began .item)
 
   abbrev pub commands-job : (v p : ℕ) → (v ≡ sequence-head .head .num) × (p ≡ sequence-head .head .next) →
       CommandsJob s (depth - 1) (v / 2) (record { next = p; index = pen .index; coerce = 1; n = pen .n; to = pen .to }) room
@@ -221,16 +221,16 @@ module _ (s : Bytes) (depth : ℕ) (pen : Pen) (room : Bytes) (j : SequenceJob s
       }
 
 -- the same place in the room
-pub wrote-at : (rs : List Rec) (pen pen′ : Pen) (room : Bytes) (r r′ : Pen) (room′ : Bytes) → pen .to ≡ pen′ .to → pen .n ≡ pen′ .n → r .to ≡ r′ .to → r .n ≡ r′ .n →
+pub wrote-at : (rs : List Rec) (pen pen′ : WriteState) (room : Bytes) (r r′ : WriteState) (room′ : Bytes) → pen .to ≡ pen′ .to → pen .n ≡ pen′ .n → r .to ≡ r′ .to → r .n ≡ r′ .n →
     Wrote rs pen room r room′ → Wrote rs pen′ room r′ room′
 wrote-at rs pen pen′ room r r′ room′ a b d e w = record { filled = w .filled ∙ ap (λ (k : ℕ). put room k (written rs)) a; to = omega (arith, a, d, w .to); n = omega (arith, b, e, w .n) }
 
 -- the pen where a sequence starts, and after a command that held sequences
-abbrev pub entered : Pen → ℕ → Pen → Pen
+abbrev pub entered : WriteState → ℕ → WriteState → WriteState
 entered pen at now = record { next = at; index = pen .index; coerce = pen .coerce; n = now .n; to = now .to }
 
 -- what a command that held sequences leaves
-holds-sequences : (cmd : Cmd) (to components target : ℕ) (pen : Pen) (room : Bytes) (at : ℕ) (r : Pen) (room′ : Bytes) →
+holds-sequences : (cmd : Cmd) (to components target : ℕ) (pen : WriteState) (room : Bytes) (at : ℕ) (r : WriteState) (room′ : Bytes) →
     Wrote (flatCmd cmd (pen .index) target (pen .n)) pen room r room′ → at ≡ to → pen .index < components →
     ((i : ℕ) → indexAfter cmd i ≡ i) → ((c : Bool) → coerceAfter cmd c ≡ c) →
     CommandWrote cmd to components target pen room (entered pen at r) room′
@@ -243,7 +243,7 @@ holds-sequences cmd to components target pen room at r room′ w e inside index 
       coerce = sym (coerce _);
     }
 
-wrote-as : (cmd cmd′ : Cmd) (to to′ components components′ target : ℕ) (pen : Pen) (room : Bytes) (r : Pen) (room′ : Bytes) →
+wrote-as : (cmd cmd′ : Cmd) (to to′ components components′ target : ℕ) (pen : WriteState) (room : Bytes) (r : WriteState) (room′ : Bytes) →
     cmd ≡ cmd′ → to′ ≡ to → components′ ≡ components → CommandWrote cmd′ to′ components′ target pen room r room′ → CommandWrote cmd to components target pen room r room′
 wrote-as cmd cmd′ to to′ components components′ target pen room r room′ e e′ e″ w = rw (e, ← e′, ← e″) w
 
@@ -313,7 +313,7 @@ first-fits (last y) x xs e = let n : y ≡ x = cc in let (p, q) = size-last y in
 first-fits (or y b) x xs e = let n : y ≡ x = cc in let (p, q) = size-or y b in (omega (arith, p, ap size n), omega (arith, q, ap argSize n))
 
 -- the loop over alternatives: the records of the command are those written and those of the alternatives that are left
-pub record AltsLoop (s : Bytes) (depth components : ℕ) (cmd : Cmd) (to target : ℕ) (pen : Pen) (room₀ : Bytes) (z : ℕ) (room : Bytes) (k p : ℕ) (now : Pen) : Type 0 where
+pub record AltsLoop (s : Bytes) (depth components : ℕ) (cmd : Cmd) (to target : ℕ) (pen : WriteState) (room₀ : Bytes) (z : ℕ) (room : Bytes) (k p : ℕ) (now : WriteState) : Type 0 where
   pub whole : Alts
   pub is : cmd ≡ try whole
   pub inside : pen .index < components
@@ -329,11 +329,11 @@ pub record AltsLoop (s : Bytes) (depth components : ℕ) (cmd : Cmd) (to target 
   pub few : now .n + sizeAlts alts ≤ 1024
   pub small : length room ≤ most
 
-module _ (s : Bytes) (depth : ℕ) (pen : Pen) (room : Bytes) (j : CommandJob s depth pen room) where
+module _ (s : Bytes) (depth : ℕ) (pen : WriteState) (room : Bytes) (j : CommandJob s depth pen room) where
   abbrev pub its-code : Coded s (j .n) depth 0 (pen .next) (j .place)
   its-code = coded s (j .n) depth 0 (pen .next) (j .place)
 
-  abbrev pub command-head : Headed s (pen .next)
+  abbrev pub command-head : HeadAt s (pen .next)
   command-head = number-headed s (j .place .e) (pen .next) (its-code .code) (its-code .from) (j .place .fits) (its-code .reads)
 
   abbrev pub command-here : CommandHere s depth (pen .next)
@@ -345,8 +345,8 @@ module _ (s : Bytes) (depth : ℕ) (pen : Pen) (room : Bytes) (j : CommandJob s 
       abbrev pub sub-at : Sub s (j .n) depth 0 (pen .next) (j .place) p
       sub-at = its-sequence s (j .n) depth 0 (pen .next) (j .place) its-code p (q .1) (sym (q .0) ∙ z)
 
-      abbrev pub sub-head : Headed s p
-      sub-head = item-headed s BYTES 0 (limits .number) (j .place .e) p (sub-at .inside .head) (j .place .fits) (omega arith) (sub-at .inside .item)
+      abbrev pub sub-head : HeadAt s p
+      sub-head = item-headed s BYTES 0 (limits .largest) (j .place .e) p (sub-at .inside .head) (j .place .fits) (omega arith) (sub-at .inside .item)
 
       pub sub-fits : sub-at .inside .head .next + sub-at .inside .head .num ≤ length s
       sub-fits = omega (arith, sub-at .inside .fits, j .place .fits)
@@ -389,7 +389,7 @@ module _ (s : Bytes) (depth : ℕ) (pen : Pen) (room : Bytes) (j : CommandJob s 
               small = j .small;
             }
 
-        pub sub-wrote : (target k : ℕ) → k ≡ size (sub-at .seq) → (r : Pen) (room′ : Bytes) →
+        pub sub-wrote : (target k : ℕ) → k ≡ size (sub-at .seq) → (r : WriteState) (room′ : Bytes) →
             Wrote (flatSeq (sub-at .seq) true (pen .index) false target (pen .n + k) (pen .n)) (entered pen from pen) room r room′ →
             CommandWrote (j .place .cmd) (j .place .to) (j .n) target pen room (entered pen (from + w) r) room′
         sub-wrote target k e r room′ wrote =
@@ -405,7 +405,7 @@ module _ (s : Bytes) (depth : ℕ) (pen : Pen) (room : Bytes) (j : CommandJob s 
     module _ (z : v ≡ 30 → ⊥) (z′ : v ≡ 15 → ⊥) where
       abbrev pub OneAt : Type 0
       OneAt =
-          (x : One s v p) × (x .n ≡ j .n) × (j .place .cmd ≡ one (pen .next) (x .op) (x .coerce)) × (x .to ≡ j .place .to)
+          (x : ArgumentAt s v p) × (x .n ≡ j .n) × (j .place .cmd ≡ one (pen .next) (x .op) (x .coerce)) × (x .to ≡ j .place .to)
           × (j .place .m < limits .commands)
 
       pub one-at : OneAt
@@ -421,7 +421,7 @@ module _ (s : Bytes) (depth : ℕ) (pen : Pen) (room : Bytes) (j : CommandJob s 
             count = omega (arith, j .few, ap sizeCmd (one-at .2), size-one (pen .next) (one-at .0 .op) (one-at .0 .coerce));
           }
 
-      pub leaf-wrote : (target : ℕ) (r : Pen) (room′ : Bytes) →
+      pub leaf-wrote : (target : ℕ) (r : WriteState) (room′ : Bytes) →
           CommandWrote (one (pen .next) (one-at .0 .op) (one-at .0 .coerce)) (one-at .0 .to) (one-at .0 .n) target pen room r room′ →
           CommandWrote (j .place .cmd) (j .place .to) (j .n) target pen room r room′
       leaf-wrote target r room′ w = wrote-as _ _ _ _ _ _ target pen room r room′ (one-at .2) (one-at .3) (one-at .1) w
@@ -431,7 +431,7 @@ module _ (s : Bytes) (depth : ℕ) (pen : Pen) (room : Bytes) (j : CommandJob s 
       abbrev pub tries-at : Tries s (j .n) depth 0 (pen .next) (j .place) p
       tries-at = its-alternatives s (j .n) depth 0 (pen .next) (j .place) its-code p (q .1) (sym (q .0) ∙ y)
 
-      abbrev pub tries-head : Headed s p
+      abbrev pub tries-head : HeadAt s p
       tries-head = item-headed s ARRAY 1 (limits .alternatives) (j .place .e) p (tries-at .head) (j .place .fits) (omega arith) (tries-at .item)
 
       pub tries-start : (target w from z : ℕ) → (w ≡ tries-at .head .num) × (from ≡ tries-at .head .next) → (k : ℕ) → k ≡ sizeCmd (j .place .cmd) → z ≡ pen .n + k →
@@ -471,13 +471,13 @@ module _ (s : Bytes) (depth : ℕ) (pen : Pen) (room : Bytes) (j : CommandJob s 
             small = j .small;
           }
 
-module _ (s : Bytes) (depth components : ℕ) (cmd : Cmd) (to target : ℕ) (pen : Pen) (room₀ : Bytes) (z : ℕ) (room : Bytes) (k p : ℕ) (now : Pen)
+module _ (s : Bytes) (depth components : ℕ) (cmd : Cmd) (to target : ℕ) (pen : WriteState) (room₀ : Bytes) (z : ℕ) (room : Bytes) (k p : ℕ) (now : WriteState)
     (l : AltsLoop s depth components cmd to target pen room₀ z room k p now) where
   abbrev pub its-choice : Choice s components depth 0 k p to (l .place)
   its-choice = choice s components depth 0 k p to (l .place) (l .some-left)
 
-  abbrev pub choice-head : Headed s p
-  choice-head = item-headed s BYTES 0 (limits .number) (l .place .e) p (its-choice .inside .head) (l .place .fits) (omega arith) (its-choice .inside .item)
+  abbrev pub choice-head : HeadAt s p
+  choice-head = item-headed s BYTES 0 (limits .largest) (l .place .e) p (its-choice .inside .head) (l .place .fits) (omega arith) (its-choice .inside .item)
 
   pub choice-fits : its-choice .inside .head .next + its-choice .inside .head .num ≤ length s
   choice-fits = omega (arith, its-choice .inside .fits, l .place .fits)
@@ -525,7 +525,7 @@ module _ (s : Bytes) (depth components : ℕ) (cmd : Cmd) (to target : ℕ) (pen
         }
 
     -- an alternative but the last
-    module _ (h : 1 < k) (t : ℕ) (r : Pen) (room′ : Bytes)
+    module _ (h : 1 < k) (t : ℕ) (r : WriteState) (room′ : Bytes)
         (wrote : Wrote (flatSeq (its-choice .first) false (pen .index) false t z (now .n)) (entered pen from now) room r room′) where
       pub jump-room : r .to + 10 ≤ length room′
       jump-room =
@@ -539,7 +539,7 @@ module _ (s : Bytes) (depth components : ℕ) (cmd : Cmd) (to target : ℕ) (pen
           let (b, a, _) = more h in
           omega (arith, l .few, ap sizeAlts a, size-or (its-choice .first) b .0, wrote .n, length-seq (its-choice .first) false (pen .index) false t z (now .n))
 
-      pub tries-on : t ≡ now .n + size (its-choice .first) + 1 → (r′ : Pen) (room″ : Bytes) → JumpWrote z r room′ r′ room″ →
+      pub tries-on : t ≡ now .n + size (its-choice .first) + 1 → (r′ : WriteState) (room″ : Bytes) → JumpWrote z r room′ r′ room″ →
           AltsLoop s depth components cmd to target pen room₀ z room″ (k - 1) (from + w) r′
       tries-on e r′ room″ jumped =
           let (b, a, rest) = more h in
@@ -588,7 +588,7 @@ module _ (s : Bytes) (depth components : ℕ) (cmd : Cmd) (to target : ℕ) (pen
           }
 
     -- the last
-    pub tries-last : k ≡ 1 → (r : Pen) (room′ : Bytes) → Wrote (flatSeq (its-choice .first) false (pen .index) false target z (now .n)) (entered pen from now) room r room′ →
+    pub tries-last : k ≡ 1 → (r : WriteState) (room′ : Bytes) → Wrote (flatSeq (its-choice .first) false (pen .index) false target z (now .n)) (entered pen from now) room r room′ →
         CommandWrote cmd to components target pen room₀ (entered pen (from + w) r) room′
     tries-last h r room′ wrote =
         let x : Seq = its-choice .first in

@@ -6,10 +6,10 @@ use Rattle.rules.specs.Program.{size, sizeCmd}
 use Rattle.rules.specs.ProgramSize.{argSize, argSizeCmd}
 use Rattle.manifest_accessors.specs.Places.{CommandAt, SequenceAt}
 use Rattle.translate_size.specs.Size.{most}
-use Rattle.translate_record.specs.declared.record.Pen.{Pen}
+use Rattle.translate_record.specs.declared.record.WriteState.{WriteState}
 
 -- the sequence at the pen's place as check read it, and room for its records
-pub record SequenceJob (s : Bytes) (depth : ℕ) (pen : Pen) (room : Bytes) : Type 0 where
+pub record SequenceJob (s : Bytes) (depth : ℕ) (pen : WriteState) (room : Bytes) : Type 0 where
   pub n : ℕ
   pub place : SequenceAt s n depth 0 (pen .next)
   pub inside : pen .index < n
@@ -18,7 +18,7 @@ pub record SequenceJob (s : Bytes) (depth : ℕ) (pen : Pen) (room : Bytes) : Ty
   pub few : pen .n + size (place .seq) ≤ 1024
   pub small : length room ≤ most
 
-pub record CommandJob (s : Bytes) (depth : ℕ) (pen : Pen) (room : Bytes) : Type 0 where
+pub record CommandJob (s : Bytes) (depth : ℕ) (pen : WriteState) (room : Bytes) : Type 0 where
   pub n : ℕ
   pub place : CommandAt s n depth 0 (pen .next)
   pub inside : pen .index < n

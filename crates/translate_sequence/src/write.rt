@@ -7,17 +7,17 @@ ghost use Rattle.manifest_accessors.specs.Arguments.{isTrue};
 ghost use Rattle.translate_record.specs.Record.{Wrote, CommandWrote};
 ghost use Rattle.translate_sequence.specs.Write.{SequenceJob, CommandJob};
 use manifest_accessors::heads::open;
-use translate_record::record::Pen;
+use translate_record::record::WriteState;
 use translate_record::record::put_command;
 use translate_record::record::put_jump;
 use translate_size::sizes::size_command;
 use translate_size::sizes::size_sequence;
 
 // The target of a failed condition: `beyond` in a sequence that code 30 runs, where coerce is true.
-fn caught(own: bool, coerce: usize, beyond: usize, target: usize) -> usize
-    ensures { λ r. ⌜ r ≡ cond (own && isTrue coerce) beyond target ⌝ }
+fn caught(coercible: bool, coerce: usize, beyond: usize, target: usize) -> usize
+    ensures { λ r. ⌜ r ≡ cond (coercible && isTrue coerce) beyond target ⌝ }
 {
-    if own {
+    if coercible {
         if coerce == 2 {
             return beyond;
         }
@@ -34,10 +34,10 @@ fn record_after(n: usize, records: usize) -> usize
 }
 
 // The pen at the start of the sequence at `at`, where `now` writes.
-fn enter(pen: Pen, at: usize, now: Pen) -> Pen
+fn enter(pen: WriteState, at: usize, now: WriteState) -> WriteState
     ensures { λ r. ⌜ r ≡ record { next = at; index = pen .index; coerce = pen .coerce; n = now .n; to = now .to } ⌝ }
 {
-    Pen {
+    WriteState {
         next: at,
         index: pen.index,
         coerce: pen.coerce,
@@ -46,21 +46,21 @@ fn enter(pen: Pen, at: usize, now: Pen) -> Pen
     }
 }
 
-// The sequence at pen.next: a failed condition goes on at `target`, or at `beyond` where `own` holds and coerce is true.
+// The sequence at pen.next: a failed condition goes on at `target`, or at `beyond` where `coercible` holds and coerce is true.
 pub fn write_sequence(
     s: &[u8],
     depth: usize,
-    own: bool,
+    coercible: bool,
     target: usize,
     beyond: usize,
-    pen: Pen,
+    pen: WriteState,
     room: &mut [u8],
-) -> Pen
+) -> WriteState
     requires { ⌜ SequenceJob (now s) depth pen (now room) ⌝ }
-    ensures { λ r. ⌜ ((j : SequenceJob (now (s .entry)) depth pen (now (room .entry))) → Wrote (flatSeq (j .place .seq) own (pen .index) false target beyond (pen .n)) pen (now (room .entry)) r (now (room .exit))) ⌝ }
+    ensures { λ r. ⌜ ((j : SequenceJob (now (s .entry)) depth pen (now (room .entry))) → Wrote (flatSeq (j .place .seq) coercible (pen .index) false target beyond (pen .n)) pen (now (room .entry)) r (now (room .exit))) ⌝ }
 {
     let h = open(s, pen.next);
-    let mut now = Pen {
+    let mut now = WriteState {
         next: h.next,
         index: pen.index,
         coerce: 1,
@@ -69,7 +69,7 @@ pub fn write_sequence(
     };
     let mut left = h.value / 2;
     while 0 < left {
-        let t = caught(own, now.coerce, beyond, target);
+        let t = caught(coercible, now.coerce, beyond, target);
         now = write_command(s, depth - 1, t, now, room);
         left -= 1;
     }
@@ -77,7 +77,13 @@ pub fn write_sequence(
 }
 
 // The command at pen.next: a failed condition goes on at `target`.
-pub fn write_command(s: &[u8], depth: usize, target: usize, pen: Pen, room: &mut [u8]) -> Pen
+pub fn write_command(
+    s: &[u8],
+    depth: usize,
+    target: usize,
+    pen: WriteState,
+    room: &mut [u8],
+) -> WriteState
     requires { ⌜ CommandJob (now s) depth pen (now room) ⌝ }
     ensures { λ r. ⌜ ((j : CommandJob (now (s .entry)) depth pen (now (room .entry))) → CommandWrote (j .place .cmd) (j .place .to) (j .n) target pen (now (room .entry)) r (now (room .exit))) ⌝ }
 {

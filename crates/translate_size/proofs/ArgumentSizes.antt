@@ -17,7 +17,7 @@ use Rattle.rules_tables.proofs.KindLaws.{Other}
 use Rattle.run_slots.specs.Params.{optional, meaning, Fit}
 use Rattle.run_commands.specs.Op.{opOf}
 use Rattle.manifest_accessors.specs.declared.arguments.Args.{Args}
-use Rattle.manifest_accessors.specs.Arguments.{paramsOf, One, ReadAs, Within}
+use Rattle.manifest_accessors.specs.Arguments.{paramsOf, ArgumentAt, ArgumentRead, Within}
 use Rattle.translate_size.specs.Size.{parametersSize, argumentSize}
 
 -- a parameter of n bytes that is set
@@ -87,7 +87,7 @@ module _ (s : Bytes) (c v n : ℕ) (a : Args) (f : Fit s n (paramsOf a)) (w : Wi
           go true e = p (eqb-true c k e)
           go false e = q (eqb-false c k e)
 
-pub argument-is : (s : Bytes) (c at : ℕ) (x : One s c at) (a : Args) → ReadAs s c at x a → argumentSize c a ≡ length (argBytes (x .op))
+pub argument-is : (s : Bytes) (c at : ℕ) (x : ArgumentAt s c at) (a : Args) → ArgumentRead s c at x a → argumentSize c a ≡ length (argBytes (x .op))
 argument-is s c at x a r = op-size s c (a .value) (x .n) a (r .fit) (r .within) (r .sixteen) ∙ ap (λ y. length (argBytes y)) (r .op)
 
 -- by the codes of each kind

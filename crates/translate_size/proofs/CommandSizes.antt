@@ -11,8 +11,8 @@ use Rattle.rules.specs.Check.{sequenceAt}
 use Rattle.rules.specs.Program.{size, sizeCmd, sizeAlts}
 use Rattle.rules.specs.ProgramSize.{argSize, argSizeCmd, argSizeAlts, sizeAll, argSizeAll}
 use Rattle.manifest_accessors.specs.declared.arguments.Args.{Args}
-use Rattle.manifest_accessors.specs.Arguments.{One, ReadAs}
-use Rattle.manifest_accessors.specs.Heads.{Headed}
+use Rattle.manifest_accessors.specs.Arguments.{ArgumentAt, ArgumentRead}
+use Rattle.manifest_accessors.specs.Heads.{HeadAt}
 use Rattle.manifest_accessors.proofs.HeadLaws.{item-headed, number-headed}
 use Rattle.manifest_accessors.proofs.ArgumentLaws.{command-one}
 use Rattle.manifest_accessors.proofs.CommandPlaces.{Coded, coded, Sub, its-sequence, Tries, its-alternatives, listOf, alternatives-law}
@@ -43,7 +43,7 @@ module _ (s : Bytes) (depth at : ℕ) (j : CommandHere s depth at) where
   abbrev its-code : Coded s (j .n) depth 0 at (j .place)
   its-code = coded s (j .n) depth 0 at (j .place)
 
-  abbrev pub command-head : Headed s at
+  abbrev pub command-head : HeadAt s at
   command-head = number-headed s (j .place .e) at (its-code .code) (its-code .from) (j .place .fits) (its-code .reads)
 
   module _ (v p : ℕ) (q : (v ≡ its-code .code) × (p ≡ its-code .from)) where
@@ -52,8 +52,8 @@ module _ (s : Bytes) (depth at : ℕ) (j : CommandHere s depth at) where
       abbrev sub-at : Sub s (j .n) depth 0 at (j .place) p
       sub-at = its-sequence s (j .n) depth 0 at (j .place) its-code p (q .1) (sym (q .0) ∙ z)
 
-      abbrev pub sub-head : Headed s p
-      sub-head = item-headed s BYTES 0 (limits .number) (j .place .e) p (sub-at .inside .head) (j .place .fits) (omega arith) (sub-at .inside .item)
+      abbrev pub sub-head : HeadAt s p
+      sub-head = item-headed s BYTES 0 (limits .largest) (j .place .e) p (sub-at .inside .head) (j .place .fits) (omega arith) (sub-at .inside .item)
 
       pub sub-fits : sub-at .inside .head .next + sub-at .inside .head .num ≤ length s
       sub-fits = omega (arith, sub-at .inside .fits, j .place .fits)
@@ -100,16 +100,16 @@ module _ (s : Bytes) (depth at : ℕ) (j : CommandHere s depth at) where
     -- any other but 15
     module _ (z : v ≡ 30 → ⊥) (z′ : v ≡ 15 → ⊥) where
       abbrev pub OneAt : Type 0
-      OneAt = (x : One s v p) × (x .n ≡ j .n) × (j .place .cmd ≡ one at (x .op) (x .coerce)) × (x .to ≡ j .place .to) × (j .place .m < limits .commands)
+      OneAt = (x : ArgumentAt s v p) × (x .n ≡ j .n) × (j .place .cmd ≡ one at (x .op) (x .coerce)) × (x .to ≡ j .place .to) × (j .place .m < limits .commands)
 
       pub one-at : OneAt
       one-at =
           command-one s (j .n) (j .place .section) depth (j .place .m) (j .place .e) at (j .place .cmd) (j .place .to) (j .place .fits) (j .place .reads) v p (rw (q .0, q .1) (its-code .reads)) z z′
 
-      abbrev pub one-here : One s v p
+      abbrev pub one-here : ArgumentAt s v p
       one-here = one-at .0
 
-      module _ (a : Args) (r : ReadAs s v p one-here a) where
+      module _ (a : Args) (r : ArgumentRead s v p one-here a) where
         one-weight : argSizeCmd (j .place .cmd) ≡ argumentSize v a
         unfolding argSize
         one-weight = ap argSizeCmd (one-at .2) ∙ sym (argument-is s v p one-here a r)
@@ -131,7 +131,7 @@ module _ (s : Bytes) (depth at : ℕ) (j : CommandHere s depth at) where
       abbrev tries-at : Tries s (j .n) depth 0 at (j .place) p
       tries-at = its-alternatives s (j .n) depth 0 at (j .place) its-code p (q .1) (sym (q .0) ∙ z)
 
-      abbrev pub tries-head : Headed s p
+      abbrev pub tries-head : HeadAt s p
       tries-head = item-headed s ARRAY 1 (limits .alternatives) (j .place .e) p (tries-at .head) (j .place .fits) (omega arith) (tries-at .item)
 
       tries-size : sizeCmd (j .place .cmd) ≡ sizeAlts (tries-at .alts)
@@ -178,8 +178,8 @@ module _ (s : Bytes) (depth : ℕ) (cmd : Cmd) (to k : ℕ) (now : Size) (l : Ch
     abbrev its-choice : Choice s (l .n) depth 0 k (now .next) to (l .place)
     its-choice = choice s (l .n) depth 0 k (now .next) to (l .place) h
 
-    abbrev pub choice-head : Headed s (now .next)
-    choice-head = item-headed s BYTES 0 (limits .number) (l .place .e) (now .next) (its-choice .inside .head) (l .place .fits) (omega arith) (its-choice .inside .item)
+    abbrev pub choice-head : HeadAt s (now .next)
+    choice-head = item-headed s BYTES 0 (limits .largest) (l .place .e) (now .next) (its-choice .inside .head) (l .place .fits) (omega arith) (its-choice .inside .item)
 
     pub choice-fits : its-choice .inside .head .next + its-choice .inside .head .num ≤ length s
     choice-fits = omega (arith, its-choice .inside .fits, l .place .fits)

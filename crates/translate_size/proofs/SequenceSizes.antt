@@ -8,7 +8,7 @@ use Rattle.rules.specs.Limits.{limits}
 use Rattle.rules.specs.Manifest.{Seq}
 use Rattle.rules.specs.Program.{size, sizeCmd}
 use Rattle.rules.specs.ProgramSize.{argSize, argSizeCmd}
-use Rattle.manifest_accessors.specs.Heads.{Headed}
+use Rattle.manifest_accessors.specs.Heads.{HeadAt}
 use Rattle.manifest_accessors.proofs.HeadLaws.{item-headed}
 use Rattle.manifest_accessors.proofs.SequencePlaces.{CommandsAt, Start, start, Turn, turn, no-more}
 use Rattle.translate_size.specs.declared.sizes.Size.{Size}
@@ -29,8 +29,8 @@ module _ (s : Bytes) (depth at : ℕ) (j : SequenceHere s depth at) where
   pub sequence-deep : 0 < depth
   sequence-deep = began .deep
 
-  abbrev pub sequence-head : Headed s at
-  sequence-head = item-headed s ARRAY 0 (limits .pairs + limits .pairs) (j .place .e) at (began .head) (j .place .fits) (omega arith) (began .item)
+  abbrev pub sequence-head : HeadAt s at
+  sequence-head = item-headed s ARRAY 0 (limits .sequence + limits .sequence) (j .place .e) at (began .head) (j .place .fits) (omega arith) (began .item)
 
   pub commands-start : (v p : ℕ) → (v ≡ sequence-head .head .num) × (p ≡ sequence-head .head .next) →
       Commands s (depth - 1) (j .place .seq) (v / 2) (record { next = p; records = 0; arguments = 0 })

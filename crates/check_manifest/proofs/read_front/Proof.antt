@@ -10,10 +10,10 @@ use Rattle.check_manifest.proofs.read_front.Statement.{statement}
 use Rattle.check_manifest.proofs.read_front.Tie as tie
 
 abbrev front : ℕ → ℕ → ℕ → ℕ → Front
-front stop at k n = record { stop = stop; at = at; entries = k; number = n }
+front refusal at k n = record { refusal = refusal; at = at; entries = k; number = n }
 
 abbrev fault : ℕ → ℕ → Front
-fault stop at = front stop at 0 0
+fault refusal at = front refusal at 0 0
 
 module _ (c : tie.After-item) where
   abbrev s : Bytes

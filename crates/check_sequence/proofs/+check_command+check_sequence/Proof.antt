@@ -66,10 +66,10 @@ abbrev check-sequence-callees : ℕ → check-sequence-lts.Claims
 check-sequence-callees t = (item-reads.Asked, item-reads.Learnt, refuse-reads.Asked, refuse-reads.Learnt, check-command-below t, check-command.Post)
 
 abbrev check-command-Inv-loop : check-command-lts.InvT-loop
-check-command-Inv-loop s table n section depth m e at stop p₀ so-far₀ left₀ p so-far left = reading (λ c. m + countCmd c) (command s (sequenceAt s n section depth) n section m e at) ≡ reading (λ c. c) (nested s (sequenceAt s n section depth) left so-far e p)
+check-command-Inv-loop s table n section depth m e at refusal p₀ so-far₀ left₀ p so-far left = reading (λ c. m + countCmd c) (command s (sequenceAt s n section depth) n section m e at) ≡ reading (λ c. c) (nested s (sequenceAt s n section depth) left so-far e p)
 
 abbrev check-command-μ-loop : check-command-lts.MeasureT-loop
-check-command-μ-loop s table n section depth m e at stop p₀ so-far₀ left₀ p so-far left = left
+check-command-μ-loop s table n section depth m e at refusal p₀ so-far₀ left₀ p so-far left = left
 
 check-command-open-command-requires : (t : ℕ) → check-command-lts.Need-open-command-requires (check-command-callees t) (check-command-at t) check-command.Post check-command-Inv-loop check-command-μ-loop
 check-command-open-command-requires t c κs = search needs
@@ -117,10 +117,10 @@ check-command-returns-5 : (t : ℕ) → check-command-lts.Need-returns-5 (check-
 check-command-returns-5 t c = nested-none _ _ _ _ _ _ (omega arith) ∙ sym (c .before .loop .inv)
 
 abbrev check-sequence-Inv-loop : check-sequence-lts.InvT-loop
-check-sequence-Inv-loop s table n section depth m e at stop v p₀ so-far₀ left₀ p so-far left = reading (λ a. m + count a) (sequenceAt s n section depth m e at) ≡ reading (λ a. so-far + count a) (commandsAt s (sequenceAt s n section (depth - 1)) n section left so-far e p)
+check-sequence-Inv-loop s table n section depth m e at refusal v p₀ so-far₀ left₀ p so-far left = reading (λ a. m + count a) (sequenceAt s n section depth m e at) ≡ reading (λ a. so-far + count a) (commandsAt s (sequenceAt s n section (depth - 1)) n section left so-far e p)
 
 abbrev check-sequence-μ-loop : check-sequence-lts.MeasureT-loop
-check-sequence-μ-loop s table n section depth m e at stop v p₀ so-far₀ left₀ p so-far left = left
+check-sequence-μ-loop s table n section depth m e at refusal v p₀ so-far₀ left₀ p so-far left = left
 
 check-sequence-mul-item : (t : ℕ) → check-sequence-lts.Need-mul-item (check-sequence-callees t) (check-sequence-at t) check-sequence.Post check-sequence-Inv-loop check-sequence-μ-loop
 check-sequence-mul-item t c = search needs

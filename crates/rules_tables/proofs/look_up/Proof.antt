@@ -3,13 +3,13 @@ use mathlib.Core.Path.{refl, sym, ap}
 use borrow.Author.Needs.{needs}
 use borrow.Author.Tests.{eq-eqb, ne-eqb}
 use Rattle.rules.specs.Commands.{commands}
-use Rattle.rules.specs.Tables.{listed}
+use Rattle.rules.specs.Tables.{codes, listed}
 use Rattle.rules_tables.proofs.LookUpLaws.{no-row, listed-at}
 use Rattle.rules_tables.proofs.look_up.Statement.{statement}
 use Rattle.rules_tables.proofs.look_up.Tie as tie
 
 returns : tie.Need-returns
-returns c = sym (ap listed (no-row 33 commands (c .before .args .code) refl (c .if1 .taken)))
+returns c = sym (ap listed (no-row codes commands (c .before .args .code) refl (c .if1 .taken)))
 
 mul-entry : tie.Need-mul-entry
 mul-entry c = search needs
@@ -28,8 +28,8 @@ cast-t9 c = search needs
 argument-at-requires : tie.Need-argument-at-requires
 argument-at-requires c κs = search needs
 
-cast-t12 : tie.Need-cast-t12
-cast-t12 c = search needs
+cast-t14 : tie.Need-cast-t14
+cast-t14 c = search needs
 
 returns-3 : tie.Need-returns-3
 returns-3 c =
@@ -47,5 +47,5 @@ look-up-spec =
     returns-2
     cast-t9
     argument-at-requires
-    cast-t12
+    cast-t14
     returns-3)

@@ -1,14 +1,14 @@
 -- The loop stores each row at its code. Its invariant: what it has stored, with the rows that are left, makes the rule's table.
-use Prim.Native.Nat.{ℕ, _-_, _≤_}
+use Prim.Native.Nat.{ℕ, _+_, _-_, _≤_}
 use mathlib.Core.Path.{_≡_, sym, _∙_}
 use mathlib.Core.List.{[]}
 use native.Mathlib.Omega.{arith}
 use borrow.Author.Needs.{needs}
-use lib.ListN.{drop}
+use lib.ListN.{length, drop}
 use Rattle.rules.specs.declared.tables.Command.{Command}
 use Rattle.rules.specs.declared.tables.Listed.the-variants as L
 use Rattle.rules.specs.Commands.{commands}
-use Rattle.rules.specs.Tables.{packed, tableOf}
+use Rattle.rules.specs.Tables.{codes, keys, packed, tableOf}
 use Rattle.rules_tables.proofs.LookUpLaws.{below, stored, turn}
 use Rattle.rules_tables.proofs.with_commands.Statement.{statement}
 use Rattle.rules_tables.proofs.with_commands.Tie as tie
@@ -20,10 +20,10 @@ abbrev value : Command → ℕ
 value r = packed (L.Command r)
 
 abbrev Inv-loop : tie.InvT-loop
-Inv-loop rows table₀ i₀ table i = (i ≤ 13) × (stored place value (drop i rows) table ≡ tableOf commands [])
+Inv-loop rows table₀ i₀ table i = (i ≤ length commands) × (stored place value (drop i rows) table ≡ tableOf commands [])
 
 abbrev μ-loop : tie.MeasureT-loop
-μ-loop rows table₀ i₀ table i = 13 - i
+μ-loop rows table₀ i₀ table i = length commands - i
 
 loop-holds : tie.Need-loop-holds Inv-loop μ-loop
 unfolding tableOf
@@ -47,7 +47,7 @@ mul-table c = search needs
 array-write-table : tie.Need-array-write-table Inv-loop μ-loop
 array-write-table c =
     let l = c .before .before .before .before in
-    below place 46 (l .before .args .t1) (l .loop .i) _ (rw (l .before .pre)) (search needs)
+    below place (codes + keys) (l .before .args .t1) (l .loop .i) _ (rw (l .before .pre)) (search needs)
 
 add-i : tie.Need-add-i Inv-loop μ-loop
 add-i c = search needs
@@ -61,7 +61,7 @@ loop-again c =
     (search needs, rw (c .before .entry .ensures) (sym (turn place value _ (l .table) (l .i) _ (search needs)) ∙ l .inv .1))
 
 returns : tie.Need-returns Inv-loop μ-loop
-returns c = let e : c .before .loop .i ≡ 13 = omega arith in rw (c .before .before .pre, e) at (c .before .loop .inv .1)
+returns c = let e : c .before .loop .i ≡ length commands = omega arith in rw (c .before .before .pre, e) at (c .before .loop .inv .1)
 
 pub with-commands-spec : {M : Type 1} → statement M
 with-commands-spec =

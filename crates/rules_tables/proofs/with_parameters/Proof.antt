@@ -5,22 +5,23 @@ use native.Mathlib.Omega.{arith}
 use borrow.Author.Needs.{needs}
 use lib.ListN.{drop}
 use Rattle.rules.specs.declared.tables.ParameterRow.{ParameterRow}
-use Rattle.rules.specs.Tables.{parameterNumber, tableOf, byNumber}
+use Rattle.rules.specs.Limits.{limits}
+use Rattle.rules.specs.Tables.{codes, keys, parameterNumber, tableOf, byNumber}
 use Rattle.rules_tables.proofs.LookUpLaws.{below, stored, turn}
 use Rattle.rules_tables.proofs.with_parameters.Statement.{statement}
 use Rattle.rules_tables.proofs.with_parameters.Tie as tie
 
 abbrev place : ParameterRow → ℕ
-place r = 33 + r .key
+place r = codes + r .key
 
 abbrev value : ParameterRow → ℕ
 value r = parameterNumber (r .parameter)
 
 abbrev Inv-loop : tie.InvT-loop
-Inv-loop table₀ rows i₀ table i = (i ≤ 5) × (stored place value (drop i rows) table ≡ byNumber)
+Inv-loop table₀ rows i₀ table i = (i ≤ limits .parameters) × (stored place value (drop i rows) table ≡ byNumber)
 
 abbrev μ-loop : tie.MeasureT-loop
-μ-loop table₀ rows i₀ table i = 5 - i
+μ-loop table₀ rows i₀ table i = limits .parameters - i
 
 loop-holds : tie.Need-loop-holds Inv-loop μ-loop
 unfolding tableOf byNumber
@@ -47,7 +48,7 @@ mul-table c = search needs
 array-write-table : tie.Need-array-write-table Inv-loop μ-loop
 array-write-table c =
     let l = c .before .before .before .before in
-    below place 46 (l .before .args .t2) (l .loop .i) _ (rw (l .before .pre .1)) (search needs)
+    below place (codes + keys) (l .before .args .t2) (l .loop .i) _ (rw (l .before .pre .1)) (search needs)
 
 add-i : tie.Need-add-i Inv-loop μ-loop
 add-i c = search needs
@@ -61,7 +62,7 @@ loop-again c =
     (search needs, rw (c .before .parameter-number .ensures) (sym (turn place value _ (l .table) (l .i) _ (search needs)) ∙ l .inv .1))
 
 returns : tie.Need-returns Inv-loop μ-loop
-returns c = let e : c .before .loop .i ≡ 5 = omega arith in rw (c .before .before .pre .1, e) at (c .before .loop .inv .1)
+returns c = let e : c .before .loop .i ≡ limits .parameters = omega arith in rw (c .before .before .pre .1, e) at (c .before .loop .inv .1)
 
 pub with-parameters-spec : {M : Type 1} → statement M
 with-parameters-spec =

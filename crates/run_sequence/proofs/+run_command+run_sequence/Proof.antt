@@ -61,12 +61,12 @@ abbrev run-sequence-callees : ℕ → run-sequence-lts.Claims
 run-sequence-callees t = (open-reads.Asked, open-reads.Learnt, run-command-below t, run-command.Post, caught-reads.Asked, caught-reads.Learnt)
 
 abbrev run-command-Inv-loop : run-command-lts.InvT-loop
-run-command-Inv-loop s depth run vendor class found answers slots₀ words₀ trace₀ code p₀ left₀ now₀ slots words trace p left now =
-    (length slots ≡ length slots₀) × (length trace ≡ length trace₀) × ((j : CommandJob s depth run vendor class found answers slots₀ words₀ trace₀) →
-    AltsLoop s vendor class found answers depth (j .ready .env) (j .place .cmd) (j .place .to) run (runCmd (j .ready .env) (j .place .cmd) (run .index) (stateOf s (length (j .ready .env .ids)) words₀ slots₀ trace₀ run)) slots words trace p left now)
+run-command-Inv-loop s depth run vendor class assigned answers slots₀ words₀ trace₀ code p₀ left₀ now₀ slots params trace p left now =
+    (length slots ≡ length slots₀) × (length trace ≡ length trace₀) × ((j : CommandJob s depth run vendor class assigned answers slots₀ words₀ trace₀) →
+    AltsLoop s vendor class assigned answers depth (j .ready .env) (j .place .cmd) (j .place .to) run (runCmd (j .ready .env) (j .place .cmd) (run .index) (stateOf s (length (j .ready .env .ids)) words₀ slots₀ trace₀ run)) slots params trace p left now)
 
 abbrev run-command-μ-loop : run-command-lts.MeasureT-loop
-run-command-μ-loop s depth run vendor class found answers slots₀ words₀ trace₀ code p₀ left₀ now₀ slots words trace p left now = left
+run-command-μ-loop s depth run vendor class assigned answers slots₀ words₀ trace₀ code p₀ left₀ now₀ slots params trace p left now = left
 
 run-command-open-requires : (t : ℕ) → run-command-lts.Need-open-requires (run-command-callees t) (run-command-at t) run-command.Post run-command-Inv-loop run-command-μ-loop
 run-command-open-requires t c κs = command-head _ _ _ _ _ _ _ _ _ _ (c .before .before .before .before .pre .1)
@@ -162,12 +162,12 @@ run-command-returns-4 : (t : ℕ) → run-command-lts.Need-returns-4 (run-comman
 run-command-returns-4 t c = λ j. leaf-ran _ _ _ _ _ _ _ _ _ _ j _ _ (c .before .before .before .before .before .before .before .before .before .before .«open» .ensures (command-head _ _ _ _ _ _ _ _ _ _ j)) (c .before .before .before .before .before .before .before .before .before .if1 .left) (c .before .before .before .before .before .before .before .before .if2 .left) _ _ _ _ (c .before .before .before .before .leaf .ensures (leaf-job _ _ _ _ _ _ _ _ _ _ j _ _ (c .before .before .before .before .before .before .before .before .before .before .«open» .ensures (command-head _ _ _ _ _ _ _ _ _ _ j)) (c .before .before .before .before .before .before .before .before .before .if1 .left) (c .before .before .before .before .before .before .before .before .if2 .left)))
 
 abbrev run-sequence-Inv-loop : run-sequence-lts.InvT-loop
-run-sequence-Inv-loop s depth own vendor class found answers slots₀ words₀ trace₀ left₀ now₀ slots words trace left now =
-    (length slots ≡ length slots₀) × (length trace ≡ length trace₀) × ((x : CommandsJob s (depth - 1) left₀ now₀ vendor class found answers slots₀ words₀ trace₀) →
-    Loop s vendor class found answers (depth - 1) own (x .ready .env) (runSeq (x .ready .env) (x .place .cmds) own (now₀ .index) (isTrue (now₀ .coerce)) (stateOf s (length (x .ready .env .ids)) words₀ slots₀ trace₀ now₀)) slots words trace left now)
+run-sequence-Inv-loop s depth coercible vendor class assigned answers slots₀ words₀ trace₀ left₀ now₀ slots params trace left now =
+    (length slots ≡ length slots₀) × (length trace ≡ length trace₀) × ((x : CommandsJob s (depth - 1) left₀ now₀ vendor class assigned answers slots₀ words₀ trace₀) →
+    Loop s vendor class assigned answers (depth - 1) coercible (x .ready .env) (runSeq (x .ready .env) (x .place .cmds) coercible (now₀ .index) (isTrue (now₀ .coerce)) (stateOf s (length (x .ready .env .ids)) words₀ slots₀ trace₀ now₀)) slots params trace left now)
 
 abbrev run-sequence-μ-loop : run-sequence-lts.MeasureT-loop
-run-sequence-μ-loop s depth own vendor class found answers slots₀ words₀ trace₀ left₀ now₀ slots words trace left now = left
+run-sequence-μ-loop s depth coercible vendor class assigned answers slots₀ words₀ trace₀ left₀ now₀ slots params trace left now = left
 
 run-sequence-open-requires : (t : ℕ) → run-sequence-lts.Need-open-requires (run-sequence-callees t) (run-sequence-at t) run-sequence.Post run-sequence-Inv-loop run-sequence-μ-loop
 run-sequence-open-requires t c κs = sequence-head _ _ _ _ _ _ _ _ _ _ (c .before .before .before .before .pre .1)

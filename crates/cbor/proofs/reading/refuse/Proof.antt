@@ -6,4 +6,4 @@ returns : tie.Need-returns
 returns c = rw (c .number .ensures)
 
 pub refuse-spec : {M : Type 1} → statement M
-refuse-spec = tie.close (tie.spec (λ c κs. search needs) (λ c. search needs) returns)
+refuse-spec = tie.close (tie.spec (λ c κs. search needs) returns)

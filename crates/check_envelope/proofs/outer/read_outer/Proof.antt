@@ -4,8 +4,8 @@ use Rattle.check_envelope.proofs.OuterLaws.{outer-stop, outer-no-key, o
 use Rattle.check_envelope.proofs.outer.read_outer.Statement.{statement}
 use Rattle.check_envelope.proofs.outer.read_outer.Tie as tie
 
-stop : tie.Need-returns
-stop c = outer-stop _ _ _ (item-stopped _ _ _ _ _ _ _ (c .before .item .ensures) (c .if1 .taken))
+refusal : tie.Need-returns
+refusal c = outer-stop _ _ _ (item-stopped _ _ _ _ _ _ _ (c .before .item .ensures) (c .if1 .taken))
 
 no-key : tie.Need-returns-2
 no-key c = outer-no-key _ _ _ _ (item-went _ _ _ _ _ _ _ (c .before .before .before .item .ensures) (c .before .before .if1 .left)) _ (item-stopped _ _ _ _ _ _ _ (c .before .item2 .ensures) (c .if2 .taken))
@@ -24,7 +24,7 @@ read-outer-spec =
     tie.close
     (tie.spec
     (λ c κs. search needs)
-    stop
+    refusal
     (λ c κs. search needs)
     no-key
     (λ c κs. search needs)

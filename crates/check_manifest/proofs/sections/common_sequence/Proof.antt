@@ -7,8 +7,8 @@ use Rattle.check_manifest.proofs.sections.common_sequence.Tie as tie
 none : tie.Need-returns
 none c = common-none _ _ _ _ _ (c .if1 .taken) _
 
-stop : tie.Need-returns-2
-stop c = common-stop _ _ _ _ _ _ (above _ (c .before .before .if1 .left)) _ _ _ (item-stopped _ _ _ _ _ _ _ (c .before .item .ensures) (c .if2 .taken))
+refusal : tie.Need-returns-2
+refusal c = common-stop _ _ _ _ _ _ (above _ (c .before .before .if1 .left)) _ _ _ (item-stopped _ _ _ _ _ _ _ (c .before .item .ensures) (c .if2 .taken))
 
 one : tie.Need-returns-3
 one c =
@@ -16,4 +16,4 @@ one c =
     _ _ _ (c .section .ensures)
 
 pub common-sequence-spec : {M : Type 1} → statement M
-common-sequence-spec = tie.close (tie.spec none (λ c κs. search needs) stop (λ c κs. search needs) one)
+common-sequence-spec = tie.close (tie.spec none (λ c κs. search needs) refusal (λ c κs. search needs) one)

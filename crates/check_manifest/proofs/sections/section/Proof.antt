@@ -8,8 +8,8 @@ use Rattle.check_manifest.proofs.SectionLaws.{stopped-promise, section-
 use Rattle.check_manifest.proofs.sections.section.Statement.{statement}
 use Rattle.check_manifest.proofs.sections.section.Tie as tie
 
-stop : tie.Need-returns
-stop c = stopped-promise _ _ _ _ _ _ (section-stop _ _ _ _ _ _ _ (item-stopped _ _ _ _ _ _ _ (c .before .item .ensures) (c .if1 .taken)))
+refusal : tie.Need-returns
+refusal c = stopped-promise _ _ _ _ _ _ (section-stop _ _ _ _ _ _ _ (item-stopped _ _ _ _ _ _ _ (c .before .item .ensures) (c .if1 .taken)))
 
 bad : tie.Need-returns-2
 bad c =
@@ -34,7 +34,7 @@ section-spec =
     tie.close
     (tie.spec
     (λ c κs. search needs)
-    stop
+    refusal
     (λ c. omega (arith, string-fits _ _ _ _ _ _ _ (inl refl) (item-went _ _ _ _ _ _ _ (c .before .before .item .ensures) (c .before .if1 .left))))
     (λ c κs. let f = string-fits _ _ _ _ _ _ _ (inl refl) (item-went _ _ _ _ _ _ _ (c .before .before .item .ensures) (c .before .if1 .left)) in (omega (arith, f), search needs, search needs))
     bad

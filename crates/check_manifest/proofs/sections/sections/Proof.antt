@@ -15,8 +15,8 @@ Inv-loop s table n k m e at places₀ p₀ low₀ so-far₀ left₀ places p low
 abbrev μ-loop : tie.MeasureT-loop
 μ-loop s table n k m e at places₀ p₀ low₀ so-far₀ left₀ places p low so-far left = left
 
-stop : tie.Need-returns Inv-loop μ-loop
-stop c =
+refusal : tie.Need-returns Inv-loop μ-loop
+refusal c =
     left-stopped _ _ _ _ _ _ _ _ (c .before .before .before .loop .inv .1)
     (sections-stop _ _ _ _ _ _ _ _ (pos _ (c .before .before .loop-test .taken)) _ (item-stopped _ _ _ _ _ _ _ (c .before .item .ensures) (c .if1 .taken)))
 
@@ -52,7 +52,7 @@ sections-spec =
     μ-loop
     (λ c. (omega arith, all-left _ _ _))
     (λ c κs. search needs)
-    stop
+    refusal
     section-requires
     bad
     (λ c. let i = item-law _ _ _ _ _ _ _ (item-went _ _ _ _ _ _ _ (c .before .before .before .before .item .ensures) (c .before .before .before .if1 .left)) in omega (arith, i .high))

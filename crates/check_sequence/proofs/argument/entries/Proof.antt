@@ -16,8 +16,8 @@ Inv-loop s table n k e at p₀ low₀ left₀ p low left = placeReading (entries
 abbrev μ-loop : tie.MeasureT-loop
 μ-loop s table n k e at p₀ low₀ left₀ p low left = left
 
-stop : tie.Need-returns Inv-loop μ-loop
-stop c =
+refusal : tie.Need-returns Inv-loop μ-loop
+refusal c =
     entries-stop _ _ _ _ _ _ _ (pos _ (c .before .before .loop-test .taken)) _ (number-stopped _ _ _ _ (c .before .number .ensures) (c .if1 .taken))
     ∙ sym (c .before .before .before .loop .inv)
 
@@ -65,7 +65,7 @@ entries-spec =
     μ-loop
     (λ c. refl)
     (λ c κs. search needs)
-    stop
+    refusal
     (λ c κs. search needs)
     descending
     (λ c κs. search needs)

@@ -7,8 +7,8 @@ use Rattle.check_sequence.proofs.OpeningLaws.{open-stop, open-unknown, 
 use Rattle.check_sequence.proofs.command.open_command.Statement.{statement}
 use Rattle.check_sequence.proofs.command.open_command.Tie as tie
 
-stop : tie.Need-returns
-stop c = open-stop _ _ _ _ _ _ _ (number-stopped _ _ _ _ (c .before .number .ensures) (c .if1 .taken))
+refusal : tie.Need-returns
+refusal c = open-stop _ _ _ _ _ _ _ (number-stopped _ _ _ _ (c .before .number .ensures) (c .if1 .taken))
 
 unknown : tie.Need-returns-2
 unknown c =
@@ -47,7 +47,7 @@ open-command-spec =
     tie.close
     (tie.spec
     (λ c κs. search needs)
-    stop
+    refusal
     (λ c κs. search needs)
     (λ c. search needs)
     (λ c. search needs)

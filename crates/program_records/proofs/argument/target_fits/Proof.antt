@@ -4,16 +4,16 @@ use Rattle.program_records.proofs.argument.target_fits.Statement.{state
 use Rattle.program_records.proofs.argument.target_fits.Tie as tie
 
 none : tie.Need-returns
-none c op e = no-target op _ _ _ _ e (c .if1 .taken)
+none c = let a = c .before .args in no-target (a .condition) (a .target) (a .n) (a .total) (c .if1 .taken)
 
 command : tie.Need-returns-2
-command c op e = not-condition op _ _ _ _ e (c .before .if1 .left) (omega arith)
+command c = let a = c .before .before .args in not-condition (a .condition) (a .target) (a .n) (a .total) (c .before .if1 .left) (c .if2 .taken)
 
 back : tie.Need-returns-3
-back c op e = not-forward op _ _ _ _ e (c .before .before .if1 .left) (omega arith) (omega arith)
+back c = let a = c .before .before .before .args in not-forward (a .condition) (a .target) (a .n) (a .total) (c .before .before .if1 .left) (c .before .if2 .left) (omega arith)
 
 on : tie.Need-returns-4
-on c op e = forward op _ _ _ _ e (c .before .before .if1 .left) (omega arith) (omega arith)
+on c = let a = c .before .before .before .args in forward (a .condition) (a .target) (a .n) (a .total) (c .before .before .if1 .left) (c .before .if2 .left) (omega arith)
 
 pub target-fits-spec : {M : Type 1} → statement M
 target-fits-spec = tie.close (tie.spec none command back on)

@@ -8,7 +8,7 @@ use Rattle.run_commands.proofs.images.copy.Statement.{statement}
 use Rattle.run_commands.proofs.images.copy.Tie as tie
 
 returns : tie.Need-returns
-returns c = (search needs, λ s env i st a h. rw (copy-unset s _ env i st _ _ a (c .before .before .args .found .now) h (c .if1 .taken)))
+returns c = (search needs, λ s env i st a h. rw (copy-unset s _ env i st _ _ a (c .before .before .args .assigned .now) h (c .if1 .taken)))
 
 present-requires : tie.Need-present-requires
 present-requires c κs = c .before .before .before .before .pre .1 _ (omega (arith, c .before .before .before .before .pre .2))
@@ -17,7 +17,7 @@ returns-2 : tie.Need-returns-2
 unfolding unless
 returns-2 c = (
   search needs,
-  λ s env i st a h. rw (copy-set s _ env i st _ _ a (c .before .before .before .before .before .before .args .found .now) h (c .before .before .before .before .if1 .left), fails _ _ (c .before .present .ensures) (c .if2 .taken)),
+  λ s env i st a h. rw (copy-set s _ env i st _ _ a (c .before .before .before .before .before .before .args .assigned .now) h (c .before .before .before .before .if1 .left), fails _ _ (c .before .present .ensures) (c .if2 .taken)),
 )
 
 size-requires : tie.Need-size-requires
@@ -29,7 +29,7 @@ returns-3 c = (
   search needs,
   λ s env i st a h.
       rw (
-        copy-set s _ env i st _ _ a (c .before .before .before .before .before .before .before .before .before .before .before .args .found .now) h (c .before .before .before .before .before .before .before .before .before .if1 .left),
+        copy-set s _ env i st _ _ a (c .before .before .before .before .before .before .before .before .before .before .before .args .assigned .now) h (c .before .before .before .before .before .before .before .before .before .if1 .left),
         holds _ _ (c .before .before .before .before .before .before .present .ensures) (c .before .before .before .before .before .if2 .left),
         ← c .before .size .ensures,
         ← c .before .before .before .capacity .ensures,
@@ -46,7 +46,7 @@ returns-4 c = (
   search needs,
   λ s env i st a h.
       rw (
-        copy-set s _ env i st _ _ a (c .before .before .before .before .before .before .before .before .before .before .before .before .before .before .before .before .before .args .found .now) h (c .before .before .before .before .before .before .before .before .before .before .before .before .before .before .before .if1 .left),
+        copy-set s _ env i st _ _ a (c .before .before .before .before .before .before .before .before .before .before .before .before .before .before .before .before .before .args .assigned .now) h (c .before .before .before .before .before .before .before .before .before .before .before .before .before .before .before .if1 .left),
         holds _ _ (c .before .before .before .before .before .before .before .before .before .before .before .before .present .ensures) (c .before .before .before .before .before .before .before .before .before .before .before .if2 .left),
         ← c .before .before .before .before .before .before .before .size .ensures,
         ← c .before .before .before .before .before .before .before .before .before .capacity .ensures,

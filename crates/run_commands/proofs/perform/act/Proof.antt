@@ -76,7 +76,7 @@ unfolding opOf acts
 returns-6 c =
     rw (c .ended6 .ensures)
     (let start = c .before .before .before .before .before .before .before .before .before .before in
-    let w : length (start .args .words .now) ≡ 40 = c .before .before .before .store-arg .given .0 .1 in
+    let w : length (start .args .params .now) ≡ 40 = c .before .before .before .store-arg .given .0 .1 in
     let p = c .before .before .before .before .before .load .result in (
       refl,
       search needs,
@@ -97,7 +97,7 @@ unfolding opOf acts
 returns-7 c =
     rw (c .ended7 .ensures)
     (let start = c .before .before .before .before .before .before .before .before .before .before in
-    let w : length (start .args .words .now) ≡ 40 = c .before .before .before .store-arg2 .given .0 .1 in
+    let w : length (start .args .params .now) ≡ 40 = c .before .before .before .store-arg2 .given .0 .1 in
     let p = c .before .before .before .before .before .load .result in (
       refl,
       search needs,

@@ -1,4 +1,4 @@
--- The invariant: the slots of the first i identifiers are found, and stand in the array, which has 8 numbers.
+-- The invariant: the slots of the first i identifiers are assigned, and stand in the array, which has 8 numbers.
 use Prim.Native.Nat.{ℕ, _-_, _≤_}
 use mathlib.Core.Path.{_≡_, sym}
 use native.Mathlib.Omega.{arith}

@@ -181,12 +181,12 @@ write-command-returns-3 : (t : ℕ) → write-command-lts.Need-returns-3 (write-
 write-command-returns-3 t c = λ j. leaf-wrote _ _ _ _ j _ _ (c .before .before .before .before .before .before .«open» .ensures (command-head _ _ _ _ j)) (c .before .before .before .before .before .if1 .left) (c .before .before .before .before .if2 .left) _ _ _ (c .before .before .put-command .ensures (leaf-job _ _ _ _ j _ _ (c .before .before .before .before .before .before .«open» .ensures (command-head _ _ _ _ j)) (c .before .before .before .before .before .if1 .left) (c .before .before .before .before .if2 .left)))
 
 abbrev write-sequence-Inv-loop : write-sequence-lts.InvT-loop
-write-sequence-Inv-loop s depth own target beyond room₀ now₀ left₀ room now left =
+write-sequence-Inv-loop s depth coercible target beyond room₀ now₀ left₀ room now left =
     (length room ≡ length room₀) × ((x : CommandsJob s (depth - 1) left₀ now₀ room₀) →
-    Loop s (depth - 1) own target beyond (x .n) (flatSeq (x .place .cmds) own (now₀ .index) (isTrue (now₀ .coerce)) target beyond (now₀ .n)) now₀ room₀ room left now)
+    Loop s (depth - 1) coercible target beyond (x .n) (flatSeq (x .place .cmds) coercible (now₀ .index) (isTrue (now₀ .coerce)) target beyond (now₀ .n)) now₀ room₀ room left now)
 
 abbrev write-sequence-μ-loop : write-sequence-lts.MeasureT-loop
-write-sequence-μ-loop s depth own target beyond room₀ now₀ left₀ room now left = left
+write-sequence-μ-loop s depth coercible target beyond room₀ now₀ left₀ room now left = left
 
 write-sequence-open-requires : (t : ℕ) → write-sequence-lts.Need-open-requires (write-sequence-callees t) (write-sequence-at t) write-sequence.Post write-sequence-Inv-loop write-sequence-μ-loop
 write-sequence-open-requires t c κs = sequence-head _ _ _ _ (c .before .before .pre .1)
