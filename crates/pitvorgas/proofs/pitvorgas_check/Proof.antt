@@ -18,6 +18,5 @@ pitvorgas-check-spec =
     (λ c. search needs)
     (λ c κs. search needs)
     (λ c. search needs)
-    (λ c. search needs)
     refused
     accepted)

@@ -26,7 +26,6 @@ pitvorgas-translate-spec =
     (λ c κs. search needs)
     (λ c. search needs)
     (λ c. search needs)
-    (λ c. search needs)
     refused
     (λ c. search needs)
     program)
