@@ -18,9 +18,6 @@ returns c = wrote-counts (c .before .before .put-program .ensures)
 number-requires : tie.Need-number-requires
 number-requires c κs = search needs
 
-cast-put-refused : tie.Need-cast-put-refused
-cast-put-refused c = search needs
-
 put-refused-requires : tie.Need-put-refused-requires
 put-refused-requires c κs = search needs
 
@@ -39,7 +36,6 @@ put-listed-spec =
     same-length
     returns
     number-requires
-    cast-put-refused
     put-refused-requires
     same-length-2
     returns-2)
