@@ -12,7 +12,7 @@ use lib.Seq.{getD-append-seam, drop-cons}
 use borrow.Author.Tests.{le-leb, lt-leb}
 use Rattle.rules.specs.declared.answers.Refusal.{Refusal}
 use Rattle.rules.specs.declared.answers.Refusal.the-variants.{Malformed, RepeatedIdentifier}
-use Rattle.rules.specs.Limits.{limits}
+use Rattle.rules.specs.Limits.{limits, places}
 use Rattle.rules.specs.Bytes.{Bytes, spanAt, Span, span, part, bytesAt, same, member}
 use Rattle.rules.specs.Got.{Got, refused, got, need, _>>=_}
 use Rattle.rules.specs.Cbor.{BYTES, ARRAY, Head, after, item}
@@ -24,7 +24,7 @@ use Rattle.rules.proofs.SameLaws.{same-lengths, sameFrom, same-start}
 use Rattle.cbor.specs.declared.reading.Reading.{Reading}
 use Rattle.component_ids.specs.declared.Repeat.{Repeat}
 use Rattle.component_ids.specs.declared.Repeat.the-variants.{At, Nothing}
-use Rattle.component_ids.specs.Identifiers.{flatSpans, laid, plain, Listing, onward, listing, listedAs, listed, equal, among, searchFrom, repeated, InBytes, Components}
+use Rattle.component_ids.specs.Identifiers.{under, flatSpans, laid, plain, Listing, onward, listing, idsRead, listedAs, listed, equal, among, searchFrom, repeated, InBytes}
 use Rattle.cbor.specs.Reading.{fault, ends, view, headReading, placeReading, reading}
 use Rattle.cbor.proofs.ReadingLaws.{stopped, went, alike, bind-assoc}
 use Rattle.rules.proofs.AnswerLaws.{not-zero}
@@ -281,7 +281,7 @@ module _ (s : Bytes) (n e at : ℕ) where
       pub listing-stop : (r .refusal ≡ 0 → ⊥) → Answers (record { refusal = r .refusal; at = r .at; value = k }) a₀ a
       listing-stop t = let (x, y, u, v) = halted {A = ℕ} (λ x. x) (λ x. 0) (plain s e p) r q t in stop-as x y u v
 
-      pub listing-next : length a₀ ≡ 16 → n ≤ 8 → r .refusal ≡ 0 → Sofar s n e at (k + 1) (r .at) a₀ (set (set a (2 * k) p) (2 * k + 1) (r .at))
+      pub listing-next : length a₀ ≡ places → n ≤ limits .components → r .refusal ≡ 0 → Sofar s n e at (k + 1) (r .at) a₀ (set (set a (2 * k) p) (2 * k + 1) (r .at))
       listing-next w b z =
           let (next, g, u, v) = went {A = ℕ} (λ x. x) (λ x. 0) (plain s e p) r q z in
           let g′ : plain s e p ≡ got (r .at) = rw u g in
@@ -398,53 +398,67 @@ outcome-ids : (s : Bytes) (a : List ℕ) (w : Repeat) (ids : List Span) (end : G
 outcome-ids s a (At j) ids end ids′ p g = let z : _≡_ {A = ℕ} 0 1 = cc in absurd (omega arith)
 outcome-ids s a Nothing ids end ids′ p g = split _ end _ (ids′, p) g λ q qe g′. sym (both g′ .0)
 
+-- of an accepted component list, these are its identifiers
+pub read-all : (s : Bytes) (e at : ℕ) (ids : List Span) (p : ℕ) → components s e at ≡ got (ids, p) → idsRead s e at ≡ ids
+unfolding components idsRead
+read-all s e at ids p g =
+    split _ (item ARRAY 1 (limits .components) s e at) _ (ids, p) g λ h q g′.
+    let l = listing s (h .num) e (h .next) in
+    let a = laid (l .ids) [] in
+    rw q (sym (outcome-ids s a (repeated s a (length (l .ids))) (l .ids) (l .end) ids p (sym (identifiers-law s (h .num) e (h .next) []) ∙ g′)))
+
 -- the component list by its head, as the code read it
 module _ (s : Bytes) (e at : ℕ) (h : Reading) (q : h ≡ headReading (item ARRAY 1 (limits .components) s e at)) where
   abbrev Outcome : Reading → List ℕ → List ℕ → Type 0
-  Outcome r a b = (r ≡ reading length (components s e at)) × Components s e at a b
+  Outcome r a b = (r ≡ reading length (components s e at)) × (b ≡ laid (idsRead s e at) a)
 
-  pub components-stop : (a b : List ℕ) → (h .refusal ≡ 0 → ⊥) → Outcome h a b
+  none-read : (k : Refusal) (p : ℕ) → item ARRAY 1 (limits .components) s e at ≡ refused k p → idsRead s e at ≡ []
+  unfolding idsRead
+  none-read k p g = rw g
+
+  pub components-stop : (a : List ℕ) → (h .refusal ≡ 0 → ⊥) → Outcome h a a
   unfolding components
-  components-stop a b t = (
-    stopped (λ x. x .next) (λ x. x .num) (item ARRAY 1 (limits .components) s e at) h q (λ x. x .1) (λ x. length (x .0)) (λ x. identifiers s (x .num) [] e (x .next)) t,
-    λ ids p g. split _ (item ARRAY 1 (limits .components) s e at) _ (ids, p) g λ x gx g′. absurd (t (ap (λ (y : Reading). y .refusal) (q ∙ ap headReading gx))),
-  )
+  components-stop a t =
+      let (k, p, g, _) = halted {A = Head} (λ x. x .next) (λ x. x .num) (item ARRAY 1 (limits .components) s e at) h q t in (
+        stopped (λ x. x .next) (λ x. x .num) (item ARRAY 1 (limits .components) s e at) h q (λ x. x .1) (λ x. length (x .0)) (λ x. identifiers s (x .num) [] e (x .next)) t,
+        rw (none-read k p g),
+      )
 
   module _ (z : h .refusal ≡ 0) where
-    pub components-head : (h .value ≤ 8) × (h .at ≤ e)
+    pub components-head : (h .value ≤ limits .components) × (h .at ≤ e)
     components-head =
         let (x, g, u, v) = went {A = Head} (λ x. x .next) (λ x. x .num) (item ARRAY 1 (limits .components) s e at) h q z in
         let i : Item s ARRAY 1 (limits .components) e at x = item-law s ARRAY 1 (limits .components) e at x g in
         (omega (arith, i .high), omega (arith, i .mid, i .fits))
 
-    components-as : (x : Head) → item ARRAY 1 (limits .components) s e at ≡ got x → h .at ≡ x .next → h .value ≡ x .num → components s e at ≡ identifiers s (h .value) [] e (h .at)
-    unfolding components
-    components-as x g u v = rw (g, u, v)
+    components-as : (x : Head) → item ARRAY 1 (limits .components) s e at ≡ got x → h .at ≡ x .next → h .value ≡ x .num →
+        (components s e at ≡ identifiers s (h .value) [] e (h .at)) × (idsRead s e at ≡ listing s (h .value) e (h .at) .ids)
+    unfolding components idsRead
+    components-as x g u v = (rw (g, u, v), rw (g, u, v))
 
-    components-rest : components s e at ≡ identifiers s (h .value) [] e (h .at)
+    components-rest : (components s e at ≡ identifiers s (h .value) [] e (h .at)) × (idsRead s e at ≡ listing s (h .value) e (h .at) .ids)
     components-rest =
         let (x, g, u, v) = went {A = Head} (λ x. x .next) (λ x. x .num) (item ARRAY 1 (limits .components) s e at) h q z in components-as x g u v
 
     -- its identifiers, in the array b that was a
     module _ (a b : List ℕ) (r : Reading) (l : (r ≡ listed (listing s (h .value) e (h .at))) × (b ≡ laid (listing s (h .value) e (h .at) .ids) a)) where
-      read-all : r .value ≡ length (listing s (h .value) e (h .at) .ids)
-      read-all = ap (λ (y : Reading). y .value) (l .0) ∙ value-as (length (listing s (h .value) e (h .at) .ids)) (listing s (h .value) e (h .at) .end)
+      how-many : r .value ≡ length (listing s (h .value) e (h .at) .ids)
+      how-many = ap (λ (y : Reading). y .value) (l .0) ∙ value-as (length (listing s (h .value) e (h .at) .ids)) (listing s (h .value) e (h .at) .end)
 
-      pub components-places : e ≤ length s → (r .value ≤ 8) × InBytes b (r .value) (length s)
+      kept : b ≡ laid (idsRead s e at) a
+      kept = rw (components-rest .1) (l .1)
+
+      pub components-places : e ≤ length s → (r .value ≤ limits .components) × InBytes b (r .value) (length s)
       components-places f = (
-        omega (arith, read-all, listing-count s (h .value) e (h .at), components-head .0),
-        subst (λ (n : ℕ). InBytes b n (length s)) (sym read-all)
+        omega (arith, how-many, listing-count s (h .value) e (h .at), components-head .0),
+        subst (λ (n : ℕ). InBytes b n (length s)) (sym how-many)
             (subst (λ (y : List ℕ). InBytes y (length (listing s (h .value) e (h .at) .ids)) (length s)) (sym (l .1))
             (in-bytes s (h .value) e (h .at) a (components-head .1) f)),
       )
 
       module _ (w : Repeat) (f : w ≡ repeated s b (r .value)) where
         components-is : components s e at ≡ outcome s b w (listing s (h .value) e (h .at) .ids) (listing s (h .value) e (h .at) .end)
-        components-is = components-rest ∙ identifiers-law s (h .value) e (h .at) a ∙ rw (f, read-all, l .1)
-
-        components-kept : Components s e at a b
-        components-kept ids p g =
-            rw (outcome-ids s b w (listing s (h .value) e (h .at) .ids) (listing s (h .value) e (h .at) .end) ids p (sym components-is ∙ g)) (l .1)
+        components-is = components-rest .0 ∙ identifiers-law s (h .value) e (h .at) a ∙ rw (f, how-many, l .1)
 
         pub repeated-below : (j : ℕ) → w ≡ At j → j < r .value
         repeated-below j g = repeated-in s b (r .value) j (sym f ∙ g)
@@ -452,7 +466,7 @@ module _ (s : Bytes) (e at : ℕ) (h : Reading) (q : h ≡ headReading (item ARR
         pub components-repeated : (j : ℕ) → w ≡ At j → Outcome (fault RepeatedIdentifier (getD b (2 * j) 0)) a b
         components-repeated j g =
             let k : components s e at ≡ refused RepeatedIdentifier (getD b (2 * j) 0) = components-is ∙ rw g in
-            (ap (reading length) (sym k), components-kept)
+            (ap (reading length) (sym k), kept)
 
         module _ (g : w ≡ Nothing) where
           components-new : components s e at ≡ (listing s (h .value) e (h .at) .end >>= λ p. got (listing s (h .value) e (h .at) .ids, p))
@@ -461,11 +475,11 @@ module _ (s : Bytes) (e at : ℕ) (h : Reading) (q : h ≡ headReading (item ARR
           pub components-refused : (r .refusal ≡ 0 → ⊥) → Outcome (record { refusal = r .refusal; at = r .at; value = 0 }) a b
           components-refused t = (
             listed-stop (listing s (h .value) e (h .at) .ids) r (listing s (h .value) e (h .at) .end) (l .0) t ∙ ap (reading length) (sym components-new),
-            components-kept,
+            kept,
           )
 
           pub components-good : r .refusal ≡ 0 → Outcome r a b
           components-good z = (
             listed-went (listing s (h .value) e (h .at) .ids) r (listing s (h .value) e (h .at) .end) (l .0) z ∙ ap (reading length) (sym components-new),
-            components-kept,
+            kept,
           )

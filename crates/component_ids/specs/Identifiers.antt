@@ -10,12 +10,17 @@ use Rattle.rules.specs.Answers.{refusalNumber}
 use Rattle.rules.specs.Limits.{limits}
 use Rattle.rules.specs.Bytes.{Bytes, Span, span, bytesAt, spanAt, same}
 use Rattle.rules.specs.Got.{Got, refused, got, need, _>>=_}
-use Rattle.rules.specs.Cbor.{ARRAY, item}
-use Rattle.rules.specs.Check.{strings, components}
+use Rattle.rules.specs.Cbor.{ARRAY, Head, item}
+use Rattle.rules.specs.Check.{strings}
 use Rattle.component_ids.specs.declared.Repeat.{Repeat}
 use Rattle.component_ids.specs.declared.Repeat.the-variants.{At, Nothing}
 use Rattle.cbor.specs.declared.reading.Reading.{Reading}
 use Rattle.cbor.specs.Reading.{ends}
+
+-- what a head that was accepted leads to
+abbrev pub under : Got Head → (Head → List Span) → List Span
+under (refused r p) f = []
+under (got h) f = f h
 
 -- places one after the other
 abbrev pub flatSpans : List Span → List ℕ
@@ -48,6 +53,10 @@ module _ (s : Bytes) where
   listing zero e at = record { ids = []; end = got at }
   listing (suc n) e at = onward at (plain e at) (λ next. listing n e next)
 
+  -- the identifiers that are read of a component list: all up to the first that is malformed; none where the list's own head is refused
+  unfoldable pub idsRead : ℕ → ℕ → List Span
+  idsRead e at = under (item ARRAY 1 (limits .components) s e at) (λ h. listing (h .num) e (h .next) .ids)
+
   -- identifier j of the array equals number i
   abbrev pub equal : List ℕ → ℕ → ℕ → Bool
   equal a j i = same (bytesAt s (spanAt a j)) (bytesAt s (spanAt a i))
@@ -77,7 +86,3 @@ listed l = listedAs (length (l .ids)) (l .end)
 -- the first n places of the array lie in that many bytes
 abbrev pub InBytes : List ℕ → ℕ → ℕ → Type 0
 InBytes a n size = (k : ℕ) → k < n → (spanAt a k .from ≤ spanAt a k .to) × (spanAt a k .to ≤ size)
-
--- where the component list is accepted, its places stand in the array
-abbrev pub Components : Bytes → ℕ → ℕ → List ℕ → List ℕ → Type 0
-Components s e at before after = (ids : List Span) (q : ℕ) → components s e at ≡ got (ids, q) → after ≡ laid ids before

@@ -4,8 +4,9 @@ ghost use Prim.Native.Nat.{_+_, _≤_};
 ghost use lib.ListN.{length};
 ghost use Rattle.rules.specs.Bytes.{part, same};
 ghost use Rattle.rules.specs.Check as Check;
+ghost use Rattle.rules.specs.Limits.{limits};
 ghost use Rattle.cbor.specs.Reading.{placeReading, reading};
-ghost use Rattle.component_ids.specs.Identifiers.{plain, listing, listed, laid, repeated, InBytes, Components};
+ghost use Rattle.component_ids.specs.Identifiers.{plain, listing, listed, laid, idsRead, repeated, InBytes};
 use cbor::reading::Reading;
 use cbor::reading::item;
 use cbor::reading::refuse;
@@ -13,15 +14,15 @@ use rules::answers::Refusal;
 use rules::controller::Controller;
 use rules::controller::Places;
 
-// n byte strings: the place after them.
-pub fn strings(s: &[u8], e: usize, at: usize, n: usize) -> Reading
-    requires { ⌜ e ≤ length (now s) ⌝ }
-    ensures { λ r. ⌜ r ≡ placeReading (Check.strings (now (s .entry)) n e at) ⌝ }
+// So many byte strings: the place after them.
+fn strings(s: &[u8], end: usize, at: usize, count: usize) -> Reading
+    requires { ⌜ end ≤ length (now s) ⌝ }
+    ensures { λ r. ⌜ r ≡ placeReading (Check.strings (now (s .entry)) count end at) ⌝ }
 {
     let mut p = at;
-    let mut left = n;
+    let mut left = count;
     while 0 < left {
-        let h = item(s, e, p, cbor::BYTES, 0, Controller::LARGEST_NUMBER);
+        let h = item(s, end, p, cbor::BYTES, 0, Controller::LARGEST_NUMBER);
         if h.refusal != 0 {
             return h;
         }
@@ -36,15 +37,15 @@ pub fn strings(s: &[u8], e: usize, at: usize, n: usize) -> Reading
 }
 
 // One identifier, whatever stands before it: the place after it.
-pub fn identifier(s: &[u8], e: usize, at: usize) -> Reading
-    requires { ⌜ e ≤ length (now s) ⌝ }
-    ensures { λ r. ⌜ r ≡ placeReading (plain (now (s .entry)) e at) ⌝ }
+fn identifier(s: &[u8], end: usize, at: usize) -> Reading
+    requires { ⌜ end ≤ length (now s) ⌝ }
+    ensures { λ r. ⌜ r ≡ placeReading (plain (now (s .entry)) end at) ⌝ }
 {
-    let h = item(s, e, at, cbor::ARRAY, 1, Controller::IDENTIFIER_PARTS);
+    let h = item(s, end, at, cbor::ARRAY, 1, Controller::IDENTIFIER_PARTS);
     if h.refusal != 0 {
         return h;
     }
-    let r = strings(s, e, h.at, h.value);
+    let r = strings(s, end, h.at, h.value);
     if r.refusal != 0 {
         return r;
     }
@@ -55,16 +56,16 @@ pub fn identifier(s: &[u8], e: usize, at: usize) -> Reading
     r
 }
 
-// n identifiers, until one is refused: how many were read, and their places.
-pub fn identifiers(s: &[u8], e: usize, at: usize, n: usize, ids: &mut Places) -> Reading
-    requires { ⌜ (e ≤ length (now s)) × (n ≤ 8) ⌝ }
-    ensures { λ r. ⌜ (r ≡ listed (listing (now (s .entry)) n e at)) × (now (ids .exit) ≡ laid (listing (now (s .entry)) n e at .ids) (now (ids .entry))) ⌝ }
+// So many identifiers, until one is refused: how many were read, and their places.
+fn identifiers(s: &[u8], end: usize, at: usize, count: usize, ids: &mut Places) -> Reading
+    requires { ⌜ (end ≤ length (now s)) × (count ≤ limits .components) ⌝ }
+    ensures { λ r. ⌜ (r ≡ listed (listing (now (s .entry)) count end at)) × (now (ids .exit) ≡ laid (listing (now (s .entry)) count end at .ids) (now (ids .entry))) ⌝ }
 {
     let places: &mut [usize] = ids;
     let mut p = at;
     let mut k = 0;
-    while k < n {
-        let r = identifier(s, e, p);
+    while k < count {
+        let r = identifier(s, end, p);
         let refusal = r.refusal;
         let next = r.at;
         if refusal != 0 {
@@ -82,12 +83,12 @@ pub fn identifiers(s: &[u8], e: usize, at: usize, n: usize, ids: &mut Places) ->
     Reading {
         refusal: 0,
         at: p,
-        value: n,
+        value: count,
     }
 }
 
 // Whether the n bytes at a and the m bytes at b are equal.
-pub fn same_bytes(s: &[u8], a: usize, n: usize, b: usize, m: usize) -> bool
+fn same_bytes(s: &[u8], a: usize, n: usize, b: usize, m: usize) -> bool
     requires { ⌜ (a + n ≤ length (now s)) × (b + m ≤ length (now s)) ⌝ }
     ensures { λ r. ⌜ r ≡ same (part (now (s .entry)) a n) (part (now (s .entry)) b m) ⌝ }
 {
@@ -109,14 +110,14 @@ pub enum Repeat {
     Nothing,
 }
 
-// The first equal pair of the first n identifiers, the later one outside: the number of the later one.
-pub fn repeated_one(s: &[u8], ids: &Places, n: usize) -> Repeat
-    requires { ⌜ (n ≤ 8) × InBytes (now ids) n (length (now s)) ⌝ }
-    ensures { λ r. ⌜ r ≡ repeated (now (s .entry)) (now (ids .entry)) n ⌝ }
+// The first equal pair of the first `count` identifiers, the later one outside: the number of the later one.
+pub fn repeated_one(s: &[u8], ids: &Places, count: usize) -> Repeat
+    requires { ⌜ (count ≤ limits .components) × InBytes (now ids) count (length (now s)) ⌝ }
+    ensures { λ r. ⌜ r ≡ repeated (now (s .entry)) (now (ids .entry)) count ⌝ }
 {
     let mut j = 0;
     let found = 'pairs: loop {
-        if n <= j {
+        if count <= j {
             break 'pairs Repeat::Nothing;
         }
         let b = ids[2 * j];
@@ -136,17 +137,16 @@ pub fn repeated_one(s: &[u8], ids: &Places, n: usize) -> Repeat
 }
 
 // The component list: how many identifiers, and their places.
-pub fn components(s: &[u8], e: usize, at: usize, ids: &mut Places) -> Reading
-    requires { ⌜ e ≤ length (now s) ⌝ }
-    ensures { λ r. ⌜ (r ≡ reading length (Check.components (now (s .entry)) e at)) × Components (now (s .entry)) e at (now (ids .entry)) (now (ids .exit)) ⌝ }
+pub fn components(s: &[u8], end: usize, at: usize, ids: &mut Places) -> Reading
+    requires { ⌜ end ≤ length (now s) ⌝ }
+    ensures { λ r. ⌜ (r ≡ reading length (Check.components (now (s .entry)) end at)) × (now (ids .exit) ≡ laid (idsRead (now (s .entry)) end at) (now (ids .entry))) ⌝ }
 {
-    let h = item(s, e, at, cbor::ARRAY, 1, Controller::COMPONENTS);
+    let h = item(s, end, at, cbor::ARRAY, 1, Controller::COMPONENTS);
     if h.refusal != 0 {
         return h;
     }
-    let r = identifiers(s, e, h.at, h.value, ids);
-    let n = r.value;
-    match repeated_one(s, ids, n) {
+    let r = identifiers(s, end, h.at, h.value, ids);
+    match repeated_one(s, ids, r.value) {
         Repeat::At(j) => refuse(Refusal::RepeatedIdentifier, ids[2 * j]),
         Repeat::Nothing => {
             let refusal = r.refusal;

@@ -2,13 +2,14 @@ use Prim.Native.Nat.{ℕ, _<_}
 use mathlib.Core.Path.{_≡_, _∙_}
 use native.Mathlib.Omega.{arith}
 use borrow.Author.Needs.{needs}
+use Rattle.rules.specs.Limits.{limits}
 use Rattle.component_ids.specs.declared.Repeat.the-variants.{At}
 use Rattle.component_ids.proofs.IdentifierLaws.{components-stop, components-head, components-places, repeated-below, components-repeated, components-refused, components-good}
 use Rattle.component_ids.proofs.components.Statement.{statement}
 use Rattle.component_ids.proofs.components.Tie as tie
 
 no-head : tie.Need-returns
-no-head c = components-stop _ _ _ _ (c .before .before .item .ensures) _ _ (c .if1 .taken)
+no-head c = components-stop _ _ _ _ (c .before .before .item .ensures) _ (c .if1 .taken)
 
 few : tie.Need-identifiers-requires
 few c κs = (c .before .before .before .before .before .pre, components-head _ _ _ _ (c .before .before .before .item .ensures) (c .before .if1 .left) .0)
@@ -18,7 +19,7 @@ stand c κs =
     components-places _ _ _ _ (c .before .before .before .before .before .item .ensures) (c .before .before .before .if1 .left) _ _ _ (c .before .identifiers .ensures)
     (c .before .before .before .before .before .before .before .pre)
 
-below : (c : tie.After-repeated-one) (j : ℕ) → c .repeated-one .result ≡ At j → j < 8
+below : (c : tie.After-repeated-one) (j : ℕ) → c .repeated-one .result ≡ At j → j < limits .components
 below c j g =
     let (f, _) = components-places _ _ _ _ (c .before .before .before .before .before .before .item .ensures) (c .before .before .before .before .if1 .left) _ _ _
     (c .before .before .identifiers .ensures) (c .before .before .before .before .before .before .before .before .pre) in

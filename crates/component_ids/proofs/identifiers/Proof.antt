@@ -1,19 +1,20 @@
--- The invariant: k identifiers were read, and their places stand in the array, which has 16 numbers.
+-- The invariant: k identifiers were read, and their places stand in the array, which keeps its length.
 use Prim.Native.Nat.{_-_, _≤_}
 use mathlib.Core.Path.{_≡_}
 use native.Mathlib.Omega.{arith}
 use borrow.Author.Needs.{needs}
 use lib.ListN.{length}
 use lib.Seq.{lt-length-set}
+use Rattle.rules.specs.Limits.{places}
 use Rattle.component_ids.proofs.IdentifierLaws.{Sofar, listing-start, listing-stop, listing-next, listing-end}
 use Rattle.component_ids.proofs.identifiers.Statement.{statement}
 use Rattle.component_ids.proofs.identifiers.Tie as tie
 
 abbrev Inv-loop : tie.InvT-loop
-Inv-loop s e at n places₀ p₀ k₀ places p k = (k ≤ n) × (length places₀ ≡ 16) × (length places ≡ 16) × Sofar s n e at k p places₀ places
+Inv-loop s end at count ids₀ p₀ k₀ ids p k = (k ≤ count) × (length ids₀ ≡ places) × (length ids ≡ places) × Sofar s count end at k p ids₀ ids
 
 abbrev μ-loop : tie.MeasureT-loop
-μ-loop s e at n places₀ p₀ k₀ places p k = n - k
+μ-loop s end at count ids₀ p₀ k₀ ids p k = count - k
 
 loop-holds : tie.Need-loop-holds Inv-loop μ-loop
 loop-holds c = (omega arith, search needs, search needs, listing-start _ _ _ _ _)

@@ -9,16 +9,16 @@ use Rattle.component_ids.proofs.repeated_one.Statement.{statement}
 use Rattle.component_ids.proofs.repeated_one.Tie as tie
 
 abbrev Inv-loop : tie.InvT-loop
-Inv-loop s ids n j b m i₀ i = (i ≤ j) × (among s ids j 0 j ≡ among s ids j i (j - i))
+Inv-loop s ids count j b m i₀ i = (i ≤ j) × (among s ids j 0 j ≡ among s ids j i (j - i))
 
 abbrev μ-loop : tie.MeasureT-loop
-μ-loop s ids n j b m i₀ i = j - i
+μ-loop s ids count j b m i₀ i = j - i
 
 abbrev Inv-pairs : tie.InvT-pairs
-Inv-pairs s ids n j₀ j = repeated s ids n ≡ searchFrom s ids j (n - j)
+Inv-pairs s ids count j₀ j = repeated s ids count ≡ searchFrom s ids j (count - j)
 
 abbrev μ-pairs : tie.MeasureT-pairs
-μ-pairs s ids n j₀ j = n - j
+μ-pairs s ids count j₀ j = count - j
 
 pairs-holds : tie.Need-pairs-holds Inv-loop μ-loop Inv-pairs μ-pairs
 pairs-holds c = search-start _ _ _

@@ -11,10 +11,10 @@ use Rattle.component_ids.proofs.strings.Statement.{statement}
 use Rattle.component_ids.proofs.strings.Tie as tie
 
 abbrev Inv-loop : tie.InvT-loop
-Inv-loop s e at n p₀ left₀ p left = strings s n e at ≡ strings s left e p
+Inv-loop s end at count p₀ left₀ p left = strings s count end at ≡ strings s left end p
 
 abbrev μ-loop : tie.MeasureT-loop
-μ-loop s e at n p₀ left₀ p left = left
+μ-loop s end at count p₀ left₀ p left = left
 
 returns : tie.Need-returns Inv-loop μ-loop
 returns c =
