@@ -4,6 +4,7 @@ use Rattle.rules.specs.declared.answers.Refusal.{Refusal}
 use Rattle.rules.specs.Answers.{refusalNumber}
 use Rattle.rules.specs.Got.{Got, refused, got}
 use Rattle.rules.specs.Cbor.{Head}
+use Rattle.rules.specs.Cbor as Cbor
 use Rattle.cbor.specs.declared.reading.Reading.{Reading}
 
 abbrev pub fault : Refusal → ℕ → Reading
@@ -20,6 +21,10 @@ view place value (got a) = ends (place a) (value a)
 -- of a head: the place after it, and its number
 abbrev pub headReading : Got Head → Reading
 headReading = view (λ h. h .next) (λ h. h .num)
+
+-- of an item: the place after it
+abbrev pub itemReading : Got Head → Reading
+itemReading = view Cbor.after (λ h. 0)
 
 -- of a place alone
 abbrev pub placeReading : Got ℕ → Reading

@@ -1,3 +1,3 @@
-pub mod LeafLaws
-pub mod OpeningLaws
+pub mod ArgumentLaws
+pub mod CommandLaws
 pub mod SequenceLaws

@@ -4,7 +4,7 @@ use mathlib.Core.Path.{_≡_, refl, sym, ap, _∙_}
 use native.Mathlib.Omega.{arith}
 use native.Mathlib.Nat.{add-assoc, add-zero}
 use lib.Dec.{ltb, eqb}
-use borrow.Author.Tests.{eq-eqb, ne-eqb, ltb-true}
+use borrow.Author.Tests.{eq-eqb, ne-eqb, eqb-true}
 use Rattle.rules.specs.declared.answers.Refusal.the-variants.{NotCbor, Malformed, TooDeep, UnknownCommand, NotAllowed, TooManyCommands, NoSuchComponent}
 use Rattle.rules.specs.Limits.{limits}
 use Rattle.rules.specs.Bytes.{Bytes, Span, span}
@@ -14,14 +14,14 @@ use Rattle.rules.specs.Commands.{Form, sixteen, nil, below, alternatives, param
 use Rattle.rules.specs.Tables.{kindOf}
 use Rattle.rules.specs.Manifest.{Seq, then, Cmd, try, Alts, or, count, countCmd, countAlts}
 use Rattle.rules.specs.Check.{Read, nothing, number, inBytes, entries, alternativesAt, argument, command, commandsAt, sequenceAt}
-use Rattle.rules.proofs.GotLaws.{passed, split}
-use Rattle.rules.proofs.CheckLaws.{item-law, bytes-after}
+use Rattle.rules.proofs.GotLaws.{passed, split, split₂, both}
+use Rattle.rules.proofs.CheckLaws.{item-law}
 use Rattle.cbor.specs.Reading.{fault, ends, reading}
 use Rattle.cbor.specs.declared.reading.Reading.{Reading}
 use Rattle.cbor.proofs.ReadingLaws.{Stopped, alike, bind-assoc, reading-went}
-use Rattle.check_sequence.specs.Leaves.{componentAt, entriesAt, argumentAt}
-use Rattle.check_sequence.specs.Opening.{opening}
-use Rattle.check_sequence.proofs.LeafLaws.{forget, forget-bind, string-ends, entries-end}
+use Rattle.check_sequence.specs.Argument.{argumentStart}
+use Rattle.check_sequence.specs.Command.{commandStart}
+use Rattle.check_sequence.proofs.CommandLaws.{start-forth}
 use Rattle.check_sequence.specs.Sequences.{nested}
 
 -- f of what was read, and the place after it
@@ -36,19 +36,6 @@ counted-reading f (got a) = refl
 counted-bind : {A B : Type 0} (f : B → ℕ) (x : Got A) (k : A → Got (B × ℕ)) → counted f (x >>= k) ≡ (x >>= λ a. counted f (k a))
 counted-bind f (refused r p) k = refl
 counted-bind f (got a) k = refl
-
--- a command that counts as one
-abbrev One : Got (Cmd × ℕ) → Type 0
-One (refused r p) = Unit {0}
-One (got c) = countCmd (c .0) ≡ 1
-
-one-bind : {A : Type 0} (x : Got A) (f : A → Got (Cmd × ℕ)) → ((a : A) → One (f a)) → One (x >>= f)
-one-bind (refused r p) f h = tt
-one-bind (got a) f h = h a
-
-forget-after : {A B : Type 0} (x : Got (A × ℕ)) (f : A → B) → forget (x >>= λ a. got (f (a .0), a .1)) ≡ forget x
-forget-after (refused r p) f = refl
-forget-after (got a) f = refl
 
 module _ (s : Bytes) (deeper : ℕ → Read Seq) where
   -- one sequence in a byte string, and what follows it
@@ -74,38 +61,22 @@ module _ (s : Bytes) (deeper : ℕ → Read Seq) where
       move a (refused r p) = refl
       move a (got t) = ap (λ (c : ℕ). got (c, t .1)) (sym (add-assoc m (count a) (countAlts (t .0))))
 
-  -- a command without sequences, read by the place after it
-  leaf : (m e : ℕ) (x : Got (Cmd × ℕ)) (y : Got ℕ) → One x → forget x ≡ y →
-      counted (λ c. m + countCmd c) x ≡ (_>>=_ {A = ℕ × ℕ} (y >>= λ p. got (0, p)) λ a. nested s deeper (a .0) (m + 1) e (a .1))
-  unfolding nested
-  leaf m e (refused r p) y h q = rw (← q)
-  leaf m e (got c) y h q = rw (← q, h)
+  -- a step that a command and its start have in common
+  step : {A : Type 0} (m e : ℕ) (x : Got A) (f : A → Got (Cmd × ℕ)) (g : A → Got (ℕ × ℕ)) →
+      ((a : A) → x ≡ got a → counted (λ c. m + countCmd c) (f a) ≡ (g a >>= λ b. nested s deeper (b .0) (m + 1) e (b .1))) →
+      counted (λ c. m + countCmd c) (x >>= f) ≡ (_>>=_ {A = ℕ × ℕ} (x >>= g) λ b. nested s deeper (b .0) (m + 1) e (b .1))
+  step m e (refused r p) f g h = refl
+  step m e (got a) f g h = h a refl
 
-  -- none after what two readings give, one after the other
-  rebind : {A : Type 0} (m e : ℕ) (x : Got A) (f : A → Got ℕ) →
-      (_>>=_ {A = ℕ × ℕ} ((x >>= f) >>= λ p. got (0, p)) λ a. nested s deeper (a .0) (m + 1) e (a .1))
-      ≡ (_>>=_ {A = ℕ × ℕ} (x >>= λ h. f h >>= λ p. got (0, p)) λ a. nested s deeper (a .0) (m + 1) e (a .1))
-  rebind m e x f = ap (λ (y : Got (ℕ × ℕ)). y >>= λ a. nested s deeper (a .0) (m + 1) e (a .1)) (bind-assoc x f _)
-
-  -- an argument is what stands before the sequences that it holds, and these
+  -- an argument is its start and the sequences that it holds
   argument-law : (n m place : ℕ) (form : Form) (e at : ℕ) →
-      counted (λ c. m + countCmd c) (argument s deeper n (m + 1) place form e at) ≡ (argumentAt s n (kindOf form) e at >>= λ a. nested s deeper (a .0) (m + 1) e (a .1))
-  unfolding argument argumentAt nested countCmd componentAt
-  argument-law n m place (sixteen op) e at =
-      leaf m e (argument s deeper n (m + 1) place (sixteen op) e at) _ (one-bind (item BYTES 16 16 s e at) _ λ h. refl)
-      (forget-bind (item BYTES 16 16 s e at) _ ∙ string-ends s BYTES 16 16 e at bytes-after)
-  argument-law n m place (nil op) e at =
-      leaf m e (argument s deeper n (m + 1) place (nil op) e at) (item NIL 0 0 s e at >>= λ h. got (h .next)) (one-bind (item NIL 0 0 s e at) _ λ h. refl)
-      (forget-bind (item NIL 0 0 s e at) _)
-      ∙ rebind m e (item NIL 0 0 s e at) (λ h. got (h .next))
-  argument-law n m place (below op) e at =
-      leaf m e (argument s deeper n (m + 1) place (below op) e at) _
-      (one-bind (number s e at) _ λ a. one-bind (need (ltb (a .0) n) NoSuchComponent at) _ λ u. refl)
-      (forget-bind (number s e at) _ ∙ alike (number s e at) _ _ λ a q. forget-bind (need (ltb (a .0) n) NoSuchComponent at) _)
+      counted (λ c. m + countCmd c) (argument s deeper n (m + 1) place form e at) ≡ (argumentStart s n (kindOf form) e at >>= λ a. nested s deeper (a .0) (m + 1) e (a .1))
+  unfolding argument argumentStart nested countCmd
+  argument-law n m place (sixteen op) e at = step m e (item BYTES (limits .class) (limits .class) s e at) _ _ λ h q. refl
+  argument-law n m place (nil op) e at = step m e (item NIL 0 0 s e at) _ _ λ h q. refl
+  argument-law n m place (below op) e at = step m e (number s e at) _ _ λ a q. step m e (need (ltb (a .0) n) NoSuchComponent at) _ _ λ u q′. refl
   argument-law n m place alternatives e at =
-      counted-bind _ (item ARRAY 1 (limits .alternatives) s e at) _
-      ∙ (alike (item ARRAY 1 (limits .alternatives) s e at) _ _ λ h q. tried h (item-law s ARRAY 1 (limits .alternatives) e at h q .low))
-      ∙ sym (bind-assoc (item ARRAY 1 (limits .alternatives) s e at) _ _)
+      step m e (item ARRAY 1 (limits .alternatives) s e at) _ _ λ h q. tried h (item-law s ARRAY 1 (limits .alternatives) e at h q .low)
     where
       plus : (x : Got (Alts × ℕ)) → counted (λ c. m + countCmd c) (x >>= λ t. got (try (t .0), t .1)) ≡ counted (λ a. m + 1 + countAlts a) x
       plus (refused r p) = refl
@@ -117,27 +88,35 @@ module _ (s : Bytes) (deeper : ℕ → Read Seq) where
           let k : suc (h .num - 1) ≡ h .num = omega arith in
           plus (alternativesAt s deeper (h .num - 1) (m + 1) e (h .next)) ∙ alternatives-law (h .num - 1) (m + 1) e (h .next) ∙ ap (λ (j : ℕ). nested s deeper j (m + 1) e (h .next)) k
   argument-law n m place (parameters op) e at =
-      leaf m e (argument s deeper n (m + 1) place (parameters op) e at) _
-      (one-bind (item MAP 1 (limits .parameters) s e at) _ λ h. one-bind (entries s n (h .num) 0 nothing e (h .next)) _ λ g. refl)
-      (forget-bind (item MAP 1 (limits .parameters) s e at) _ ∙ alike (item MAP 1 (limits .parameters) s e at) _ _ λ h q.
-      forget-after (entries s n (h .num) 0 nothing e (h .next)) _ ∙ entries-end s n (h .num) 0 nothing e (h .next))
-      ∙ rebind m e (item MAP 1 (limits .parameters) s e at) (λ h. entriesAt s n (h .num) 0 e (h .next))
+      step m e (item MAP 1 (limits .parameters) s e at) _ _ λ h q. step m e (entries s n (h .num) 0 nothing e (h .next)) _ _ λ g q′. refl
   argument-law n m place sequence e at =
       counted-bind _ (inBytes s (deeper (m + 1)) e at) _ ∙ in-bytes (m + 1) e at _ _ (λ a p. ap (λ (c : ℕ). got (c, p .to)) (sym (add-assoc m 1 (count a))))
 
-  pub command-law : (n section m e at : ℕ) →
-      counted (λ c. m + countCmd c) (command s deeper n section m e at) ≡ (opening s n section m e at >>= λ a. nested s deeper (a .0) (m + 1) e (a .1))
-  unfolding command opening
+  command-law : (n section m e at : ℕ) →
+      counted (λ c. m + countCmd c) (command s deeper n section m e at) ≡ (commandStart s n section m e at >>= λ a. nested s deeper (a .0) (m + 1) e (a .1))
+  unfolding command commandStart
   command-law n section m e at =
-      counted-bind _ (number s e at) _
-      ∙ (alike (number s e at) _ _ λ a q.
-      counted-bind _ (found (rowOf (a .0) commands) UnknownCommand at) _ ∙ (alike (found (rowOf (a .0) commands) UnknownCommand at) _ _ λ row q′.
-      counted-bind _ (need (isAllowed section (row .allowed)) NotAllowed at) _ ∙ (alike (need (isAllowed section (row .allowed)) NotAllowed at) _ _ λ u q″.
-      counted-bind _ (need (ltb m (limits .commands)) TooManyCommands at) _ ∙ (alike (need (ltb m (limits .commands)) TooManyCommands at) _ _ λ w q‴.
-      argument-law n m at (row .form) e (a .1)) ∙ sym (bind-assoc (need (ltb m (limits .commands)) TooManyCommands at) _ _))
-      ∙ sym (bind-assoc (need (isAllowed section (row .allowed)) NotAllowed at) _ _))
-      ∙ sym (bind-assoc (found (rowOf (a .0) commands) UnknownCommand at) _ _))
-      ∙ sym (bind-assoc (number s e at) _ _)
+      step m e (number s e at) _ _ λ a q.
+      step m e (found (rowOf (a .0) commands) UnknownCommand at) _ _ λ row q′.
+      step m e (need (isAllowed section (row .allowed)) NotAllowed at) _ _ λ u q″.
+      step m e (need (ltb m (limits .commands)) TooManyCommands at) _ _ λ w q‴. argument-law n m at (row .form) e (a .1)
+
+  -- the place after sequences is not before them, and that after a command is behind its first byte
+  nested-forth : (k m e at c q : ℕ) → nested s deeper k m e at ≡ got (c, q) → at ≤ q
+  unfolding nested
+  nested-forth zero m e at c q w = omega (arith, both w .1)
+  nested-forth (suc k) m e at c q w =
+      split _ (item BYTES 0 (limits .largest) s e at) _ (c, q) w λ h qh w₁.
+      split₂ _ (deeper m (after h) (h .next)) _ (c, q) w₁ λ a next qd w₂.
+      let (t, w₃) = passed (eqb next (after h)) NotCbor next _ (c, q) w₂ in
+      let i = item-law s BYTES 0 (limits .largest) e at h qh in
+      omega (arith, i .up, i .mid, eqb-true next (after h) t, nested-forth k (m + count a) e next c q w₃)
+
+  pub command-forth : (n section m e at : ℕ) (c : Cmd) (q : ℕ) → command s deeper n section m e at ≡ got (c, q) → at < q
+  command-forth n section m e at c q w =
+      let g = sym (command-law n section m e at) ∙ ap (counted (λ c. m + countCmd c)) w in
+      split₂ _ (commandStart s n section m e at) _ (m + countCmd c, q) g λ k p qs w₁.
+      omega (arith, start-forth s n section m e at k p qs .1, nested-forth k (m + 1) e p (m + countCmd c) q w₁)
 
   -- the commands of a sequence, one after the other
   then-law : (n section k m e at : ℕ) →
@@ -179,24 +158,15 @@ module _ (s : Bytes) (deeper : ℕ → Read Seq) (k m e at : ℕ) where
 
 -- a command is its start and the sequences that it holds
 module _ (s : Bytes) (deeper : ℕ → Read Seq) (n section m e at : ℕ) where
-  whole : reading (λ c. m + countCmd c) (command s deeper n section m e at) ≡ reading (λ k. k) (opening s n section m e at >>= λ a. nested s deeper (a .0) (m + 1) e (a .1))
+  whole : reading (λ c. m + countCmd c) (command s deeper n section m e at) ≡ reading (λ k. k) (commandStart s n section m e at >>= λ a. nested s deeper (a .0) (m + 1) e (a .1))
   whole = counted-reading (λ c. m + countCmd c) (command s deeper n section m e at) ∙ ap (λ (x : Got (ℕ × ℕ)). reading (λ k. k) x) (command-law s deeper n section m e at)
 
-  pub command-stop : (r : Reading) → Stopped (opening s n section m e at) r → r ≡ reading (λ c. m + countCmd c) (command s deeper n section m e at)
+  pub command-stop : (r : Reading) → Stopped (commandStart s n section m e at) r → r ≡ reading (λ c. m + countCmd c) (command s deeper n section m e at)
   command-stop r x = (rw (x .was) (x .is)) ∙ sym whole
 
-  pub command-opened : (k p : ℕ) → opening s n section m e at ≡ got (k, p) →
+  pub command-opened : (k p : ℕ) → commandStart s n section m e at ≡ got (k, p) →
       reading (λ c. m + countCmd c) (command s deeper n section m e at) ≡ reading (λ c. c) (nested s deeper k (m + 1) e p)
   command-opened k p q = whole ∙ rw q
-
-pub open-few : (s : Bytes) (n section m e at : ℕ) (a : ℕ × ℕ) → opening s n section m e at ≡ got a → m < limits .commands
-unfolding opening
-open-few s n section m e at a q₀ =
-    split _ (number s e at) _ a q₀ λ c qc q₁.
-    split _ (found (rowOf (c .0) commands) UnknownCommand at) _ a q₁ λ row qr q₂.
-    let (_, q₃) = passed (isAllowed section (row .allowed)) NotAllowed at _ a q₂ in
-    let (few, q₄) = passed (ltb m (limits .commands)) TooManyCommands at _ a q₃ in
-    ltb-true _ _ few
 
 -- the commands of a sequence, one after the other
 module _ (s : Bytes) (deeper : ℕ → Read Seq) (n section k m e at : ℕ) where
@@ -246,9 +216,9 @@ module _ (s : Bytes) (n section d m e at : ℕ) where
     sequence-body o j h = rw (h, q, eq-eqb _ _ o)
 
 -- what the start of a command, a sequence and a command gave where they went on
-pub opened : (s : Bytes) (n section m e at : ℕ) (r : Reading) → r ≡ reading (λ k. k) (opening s n section m e at) → r .refusal ≡ 0 →
-    opening s n section m e at ≡ got (r .value, r .at)
-opened s n section m e at r q h = let (a, y, v) = reading-went (λ k. k) (opening s n section m e at) r q h in y ∙ (λ j. got (sym v j, r .at))
+pub opened : (s : Bytes) (n section m e at : ℕ) (r : Reading) → r ≡ reading (λ k. k) (commandStart s n section m e at) → r .refusal ≡ 0 →
+    commandStart s n section m e at ≡ got (r .value, r .at)
+opened s n section m e at r q h = let (a, y, v) = reading-went (λ k. k) (commandStart s n section m e at) r q h in y ∙ (λ j. got (sym v j, r .at))
 
 pub read : (s : Bytes) (n section d m e at : ℕ) (r : Reading) → r ≡ reading (λ a. m + count a) (sequenceAt s n section d m e at) → r .refusal ≡ 0 →
     (a : Seq) × (sequenceAt s n section d m e at ≡ got (a, r .at)) × (r .value ≡ m + count a)

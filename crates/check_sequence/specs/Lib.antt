@@ -1,3 +1,3 @@
-pub mod Leaves
-pub mod Opening
+pub mod Argument
+pub mod Command
 pub mod Sequences

@@ -12,9 +12,9 @@ use Rattle.rules.specs.Check.{Read}
 module _ (s : Bytes) where
   -- k sequences, each in a byte string, after m commands: how many commands there are then
   unfoldable pub nested : (ℕ → Read Seq) → ℕ → ℕ → ℕ → ℕ → Got (ℕ × ℕ)
-  nested deeper zero m e at = got (m, at)
-  nested deeper (suc k) m e at = do
-    h ← item BYTES 0 (limits .largest) s e at
+  nested deeper zero m end at = got (m, at)
+  nested deeper (suc k) m end at = do
+    h ← item BYTES 0 (limits .largest) s end at
     (a, next) ← deeper m (after h) (h .next)
     _ ← need (eqb next (after h)) NotCbor next
-    nested deeper k (m + count a) e next
+    nested deeper k (m + count a) end next

@@ -3,10 +3,13 @@ ghost use mathlib.Core.Path.{_≡_};
 ghost use mathlib.Core.Logic.{_⊎_};
 ghost use Prim.Native.Nat.{_≤_};
 ghost use lib.ListN.{length};
+ghost use Rattle.rules.specs.declared.tables.Parameter.the-variants.{Source};
 ghost use Rattle.rules.specs.Tables.{byNumber};
+ghost use Rattle.rules.specs.Cbor.{BYTES, TEXT};
+ghost use Rattle.rules.specs.Cbor as Cbor;
 ghost use Rattle.rules.specs.Check as Check;
-ghost use Rattle.cbor.specs.Reading.{reading, placeReading, unnumbered};
-ghost use Rattle.check_sequence.specs.Leaves.{stringAt, componentAt, parameterAt, entriesAt, argumentAt};
+ghost use Rattle.cbor.specs.Reading.{reading, after, itemReading, unnumbered};
+ghost use Rattle.check_sequence.specs.Argument.{argumentStart};
 use cbor::reading::Reading;
 use cbor::reading::item;
 use cbor::reading::one_of;
@@ -20,15 +23,15 @@ use rules_tables::Table;
 use rules_tables::look_up_parameter;
 
 // A number: the place after it, and its value.
-pub fn number(s: &[u8], e: usize, at: usize) -> Reading
-    requires { ⌜ e ≤ length (now s) ⌝ }
-    ensures { λ r. ⌜ r ≡ reading (λ k. k) (Check.number (now (s .entry)) e at) ⌝ }
+pub fn number(s: &[u8], end: usize, at: usize) -> Reading
+    requires { ⌜ end ≤ length (now s) ⌝ }
+    ensures { λ r. ⌜ r ≡ reading (λ k. k) (Check.number (now (s .entry)) end at) ⌝ }
 {
-    item(s, e, at, cbor::NUMBER, 0, Controller::LARGEST_NUMBER)
+    item(s, end, at, cbor::NUMBER, 0, Controller::LARGEST_NUMBER)
 }
 
 // The place after what was read, without its number.
-pub fn place(r: Reading) -> Reading
+fn place(r: Reading) -> Reading
     ensures { λ x. ⌜ x ≡ unnumbered r ⌝ }
 {
     Reading {
@@ -39,11 +42,11 @@ pub fn place(r: Reading) -> Reading
 }
 
 // A string of lo to hi bytes.
-pub fn string(s: &[u8], kind: usize, lo: usize, hi: usize, e: usize, at: usize) -> Reading
-    requires { ⌜ (e ≤ length (now s)) × ((kind ≡ 2) ⊎ (kind ≡ 3)) ⌝ }
-    ensures { λ r. ⌜ r ≡ placeReading (stringAt (now (s .entry)) kind lo hi e at) ⌝ }
+fn string(s: &[u8], kind: usize, lo: usize, hi: usize, end: usize, at: usize) -> Reading
+    requires { ⌜ (end ≤ length (now s)) × ((kind ≡ BYTES) ⊎ (kind ≡ TEXT)) ⌝ }
+    ensures { λ r. ⌜ r ≡ itemReading (Cbor.item kind lo hi (now (s .entry)) end at) ⌝ }
 {
-    let h = item(s, e, at, kind, lo, hi);
+    let h = item(s, end, at, kind, lo, hi);
     let refusal = h.refusal;
     if refusal != 0 {
         return h;
@@ -55,47 +58,61 @@ pub fn string(s: &[u8], kind: usize, lo: usize, hi: usize, e: usize, at: usize) 
     }
 }
 
-// A number below n.
-pub fn component(s: &[u8], n: usize, e: usize, at: usize) -> Reading
-    requires { ⌜ e ≤ length (now s) ⌝ }
-    ensures { λ r. ⌜ r ≡ placeReading (componentAt (now (s .entry)) n e at) ⌝ }
+// The index of a component.
+fn component(s: &[u8], components: usize, end: usize, at: usize) -> Reading
+    requires { ⌜ end ≤ length (now s) ⌝ }
+    ensures { λ r. ⌜ r ≡ after (Check.parameter (now (s .entry)) components Source end at) ⌝ }
 {
-    let k = number(s, e, at);
+    let k = number(s, end, at);
     let refusal = k.refusal;
     if refusal != 0 {
         return k;
     }
     let v = k.value;
-    if n <= v {
+    if components <= v {
         return refuse(Refusal::NoSuchComponent, at);
     }
     place(k)
 }
 
 // A parameter's value.
-pub fn parameter(s: &[u8], n: usize, what: Parameter, e: usize, at: usize) -> Reading
-    requires { ⌜ e ≤ length (now s) ⌝ }
-    ensures { λ r. ⌜ r ≡ placeReading (parameterAt (now (s .entry)) n what e at) ⌝ }
+fn parameter(s: &[u8], components: usize, what: Parameter, end: usize, at: usize) -> Reading
+    requires { ⌜ end ≤ length (now s) ⌝ }
+    ensures { λ r. ⌜ r ≡ after (Check.parameter (now (s .entry)) components what end at) ⌝ }
 {
     match what {
-        Parameter::Coerce => place(one_of(s, e, at, cbor::FALSE, cbor::TRUE)),
-        Parameter::Uri => string(s, cbor::TEXT, 1, Controller::URI_BYTES, e, at),
-        Parameter::Source => component(s, n, e, at),
-        Parameter::Digest => string(s, cbor::BYTES, 32, 32, e, at),
-        Parameter::Size => place(number(s, e, at)),
+        Parameter::Coerce => place(one_of(s, end, at, cbor::FALSE, cbor::TRUE)),
+        Parameter::Uri => string(s, cbor::TEXT, 1, Controller::URI_BYTES, end, at),
+        Parameter::Source => component(s, components, end, at),
+        Parameter::Digest => string(
+            s,
+            cbor::BYTES,
+            Controller::DIGEST_BYTES,
+            Controller::DIGEST_BYTES,
+            end,
+            at,
+        ),
+        Parameter::Size => place(number(s, end, at)),
     }
 }
 
-// k entries of a set or override.
-pub fn entries(s: &[u8], table: &Table, n: usize, k: usize, e: usize, at: usize) -> Reading
-    requires { ⌜ (e ≤ length (now s)) × (now table ≡ byNumber) ⌝ }
-    ensures { λ r. ⌜ r ≡ placeReading (entriesAt (now (s .entry)) n k 0 e at) ⌝ }
+// So many entries of a set or override.
+fn entries(
+    s: &[u8],
+    table: &Table,
+    components: usize,
+    count: usize,
+    end: usize,
+    at: usize,
+) -> Reading
+    requires { ⌜ (end ≤ length (now s)) × (now table ≡ byNumber) ⌝ }
+    ensures { λ r. ⌜ r ≡ after (Check.entries (now (s .entry)) components count 0 Check.nothing end at) ⌝ }
 {
     let mut p = at;
     let mut low = 0;
-    let mut left = k;
+    let mut left = count;
     while 0 < left {
-        let key = number(s, e, p);
+        let key = number(s, end, p);
         let refusal = key.refusal;
         if refusal != 0 {
             return key;
@@ -107,9 +124,9 @@ pub fn entries(s: &[u8], table: &Table, n: usize, k: usize, e: usize, at: usize)
         let Known::Parameter(what) = look_up_parameter(table, name) else {
             return refuse(Refusal::UnknownParameter, p);
         };
-        let v = parameter(s, n, what, e, key.at);
-        let bad = v.refusal;
-        if bad != 0 {
+        let v = parameter(s, components, what, end, key.at);
+        let refusal = v.refusal;
+        if refusal != 0 {
             return v;
         }
         p = v.at;
@@ -124,29 +141,36 @@ pub fn entries(s: &[u8], table: &Table, n: usize, k: usize, e: usize, at: usize)
 }
 
 // An argument: how many sequences it holds, and where the first is; of one that holds none, the place after it.
-pub fn read_argument(
+pub(crate) fn read_argument(
     s: &[u8],
     table: &Table,
-    n: usize,
+    components: usize,
     argument: Argument,
-    e: usize,
+    end: usize,
     at: usize,
 ) -> Reading
-    requires { ⌜ (e ≤ length (now s)) × (now table ≡ byNumber) ⌝ }
-    ensures { λ r. ⌜ r ≡ reading (λ k. k) (argumentAt (now (s .entry)) n argument e at) ⌝ }
+    requires { ⌜ (end ≤ length (now s)) × (now table ≡ byNumber) ⌝ }
+    ensures { λ r. ⌜ r ≡ reading (λ k. k) (argumentStart (now (s .entry)) components argument end at) ⌝ }
 {
     match argument {
-        Argument::Sixteen => string(s, cbor::BYTES, 16, 16, e, at),
-        Argument::Nil => place(item(s, e, at, cbor::NIL, 0, 0)),
-        Argument::Index => component(s, n, e, at),
-        Argument::Alternatives => item(s, e, at, cbor::ARRAY, 1, Controller::ALTERNATIVES),
+        Argument::Sixteen => string(
+            s,
+            cbor::BYTES,
+            Controller::CLASS_BYTES,
+            Controller::CLASS_BYTES,
+            end,
+            at,
+        ),
+        Argument::Nil => place(item(s, end, at, cbor::NIL, 0, 0)),
+        Argument::Index => component(s, components, end, at),
+        Argument::Alternatives => item(s, end, at, cbor::ARRAY, 1, Controller::ALTERNATIVES),
         Argument::Parameters => {
-            let h = item(s, e, at, cbor::MAP, 1, Controller::PARAMETERS);
+            let h = item(s, end, at, cbor::MAP, 1, Controller::PARAMETERS);
             let refusal = h.refusal;
             if refusal != 0 {
                 return h;
             }
-            entries(s, table, n, h.value, e, h.at)
+            entries(s, table, components, h.value, end, h.at)
         }
         Argument::Sequence => Reading {
             refusal: 0,

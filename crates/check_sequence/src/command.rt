@@ -5,46 +5,47 @@ ghost use lib.Dec.{eqb};
 ghost use lib.ListN.{length};
 ghost use Rattle.rules.specs.Tables.{byNumber, weightOf};
 ghost use Rattle.cbor.specs.Reading.{reading};
-ghost use Rattle.check_sequence.specs.Opening.{opening, Section};
+ghost use Rattle.check_sequence.specs.Command.{commandStart, Section};
 use crate::argument::number;
 use crate::argument::read_argument;
 use cbor::reading::Reading;
 use cbor::reading::refuse;
 use rules::answers::Refusal;
+use rules::codes;
 use rules::controller::Controller;
 use rules::tables::Listed;
 use rules_tables::Table;
 use rules_tables::look_up;
 
-// Whether a set of sections has the one with that key, 3 for common's sequence.
-pub fn has_section(sections: u8, section: usize) -> bool
+// Whether a set of sections has the one with that key; common's sequence goes by the key of common.
+fn has_section(sections: u8, section: usize) -> bool
     requires { ⌜ Section section ⌝ }
     ensures { λ r. ⌜ r ≡ eqb (sections / weightOf section % 2) 1 ⌝ }
 {
     match section {
-        8 => sections / 2 % 2 == 1,
-        9 => sections / 4 % 2 == 1,
-        10 => sections / 8 % 2 == 1,
-        11 => sections / 16 % 2 == 1,
-        12 => sections / 32 % 2 == 1,
-        _ => sections % 2 == 1,
+        codes::PAYLOAD_FETCH => sections / rules_tables::PAYLOAD_FETCH % 2 == 1,
+        codes::INSTALL => sections / rules_tables::INSTALL % 2 == 1,
+        codes::VALIDATE => sections / rules_tables::VALIDATE % 2 == 1,
+        codes::LOAD => sections / rules_tables::LOAD % 2 == 1,
+        codes::RUN_SECTION => sections / rules_tables::RUN % 2 == 1,
+        _ => sections / rules_tables::COMMON % 2 == 1,
     }
 }
 
 // A command's code, and what stands before the sequences that it holds: how many they are, and where the first is.
-pub fn open_command(
+pub(crate) fn open_command(
     s: &[u8],
     table: &Table,
-    n: usize,
+    components: usize,
     section: usize,
-    m: usize,
-    e: usize,
+    commands: usize,
+    end: usize,
     at: usize,
 ) -> Reading
-    requires { ⌜ (e ≤ length (now s)) × (now table ≡ byNumber) × Section section ⌝ }
-    ensures { λ r. ⌜ r ≡ reading (λ k. k) (opening (now (s .entry)) n section m e at) ⌝ }
+    requires { ⌜ (end ≤ length (now s)) × (now table ≡ byNumber) × Section section ⌝ }
+    ensures { λ r. ⌜ r ≡ reading (λ k. k) (commandStart (now (s .entry)) components section commands end at) ⌝ }
 {
-    let c = number(s, e, at);
+    let c = number(s, end, at);
     let refusal = c.refusal;
     if refusal != 0 {
         return c;
@@ -56,9 +57,9 @@ pub fn open_command(
     if !has_section(sections, section) {
         return refuse(Refusal::NotAllowed, at);
     }
-    if Controller::COMMANDS <= m {
+    if Controller::COMMANDS <= commands {
         return refuse(Refusal::TooManyCommands, at);
     }
     let argument = row.argument;
-    read_argument(s, table, n, argument, e, c.at)
+    read_argument(s, table, components, argument, end, c.at)
 }

@@ -6,7 +6,7 @@ ghost use Rattle.rules.specs.Tables.{byNumber};
 ghost use Rattle.rules.specs.Manifest.{count, countCmd};
 ghost use Rattle.rules.specs.Check as Check;
 ghost use Rattle.cbor.specs.Reading.{reading};
-ghost use Rattle.check_sequence.specs.Opening.{Section};
+ghost use Rattle.check_sequence.specs.Command.{Section};
 use cbor::reading::Reading;
 use cbor::reading::item;
 use cbor::reading::refuse;
@@ -16,23 +16,30 @@ use rules::controller::Controller;
 use rules_tables::Table;
 
 pub mod argument;
-pub mod command;
+mod command;
 
-// The sequence at `at`, after m commands; it and those in it may be `depth` deep.
+// The sequence at `at`, after so many commands; it and those in it may be `depth` deep.
 pub fn check_sequence(
     s: &[u8],
     table: &Table,
-    n: usize,
+    components: usize,
     section: usize,
     depth: usize,
-    m: usize,
-    e: usize,
+    commands: usize,
+    end: usize,
     at: usize,
 ) -> Reading
-    requires { ⌜ (e ≤ length (now s)) × (now table ≡ byNumber) × Section section ⌝ }
-    ensures { λ r. ⌜ r ≡ reading (λ a. m + count a) (Check.sequenceAt (now (s .entry)) n section depth m e at) ⌝ }
+    requires { ⌜ (end ≤ length (now s)) × (now table ≡ byNumber) × Section section ⌝ }
+    ensures { λ r. ⌜ r ≡ reading (λ a. commands + count a) (Check.sequenceAt (now (s .entry)) components section depth commands end at) ⌝ }
 {
-    let h = item(s, e, at, cbor::ARRAY, 0, 2 * Controller::SEQUENCE_COMMANDS);
+    let h = item(
+        s,
+        end,
+        at,
+        cbor::ARRAY,
+        0,
+        2 * Controller::SEQUENCE_COMMANDS,
+    );
     let refusal = h.refusal;
     if refusal != 0 {
         return h;
@@ -45,12 +52,12 @@ pub fn check_sequence(
         return refuse(Refusal::TooDeep, at);
     }
     let mut p = h.at;
-    let mut so_far = m;
+    let mut so_far = commands;
     let mut left = v / 2;
     while 0 < left {
-        let c = check_command(s, table, n, section, depth - 1, so_far, e, p);
-        let bad = c.refusal;
-        if bad != 0 {
+        let c = check_command(s, table, components, section, depth - 1, so_far, end, p);
+        let refusal = c.refusal;
+        if refusal != 0 {
             return c;
         }
         p = c.at;
@@ -64,44 +71,44 @@ pub fn check_sequence(
     }
 }
 
-// The command at `at`, after m commands; the sequences that it holds may be `depth` deep.
-pub fn check_command(
+// The command at `at`, after so many commands; the sequences that it holds may be `depth` deep.
+fn check_command(
     s: &[u8],
     table: &Table,
-    n: usize,
+    components: usize,
     section: usize,
     depth: usize,
-    m: usize,
-    e: usize,
+    commands: usize,
+    end: usize,
     at: usize,
 ) -> Reading
-    requires { ⌜ (e ≤ length (now s)) × (now table ≡ byNumber) × Section section ⌝ }
-    ensures { λ r. ⌜ r ≡ reading (λ c. m + countCmd c) (Check.command (now (s .entry)) (Check.sequenceAt (now (s .entry)) n section depth) n section m e at) ⌝ }
+    requires { ⌜ (end ≤ length (now s)) × (now table ≡ byNumber) × Section section ⌝ }
+    ensures { λ r. ⌜ r ≡ reading (λ c. commands + countCmd c) (Check.command (now (s .entry)) (Check.sequenceAt (now (s .entry)) components section depth) components section commands end at) ⌝ }
 {
-    let o = open_command(s, table, n, section, m, e, at);
+    let o = open_command(s, table, components, section, commands, end, at);
     let refusal = o.refusal;
     if refusal != 0 {
         return o;
     }
     let mut p = o.at;
-    let mut so_far = m + 1;
+    let mut so_far = commands + 1;
     let mut left = o.value;
     while 0 < left {
-        let b = item(s, e, p, cbor::BYTES, 0, Controller::LARGEST_NUMBER);
-        let bad = b.refusal;
-        if bad != 0 {
+        let b = item(s, end, p, cbor::BYTES, 0, Controller::LARGEST_NUMBER);
+        let refusal = b.refusal;
+        if refusal != 0 {
             return b;
         }
         let from = b.at;
         let to = from + b.value;
-        let r = check_sequence(s, table, n, section, depth, so_far, to, from);
-        let wrong = r.refusal;
-        if wrong != 0 {
+        let r = check_sequence(s, table, components, section, depth, so_far, to, from);
+        let refusal = r.refusal;
+        if refusal != 0 {
             return r;
         }
-        let end = r.at;
-        if end != to {
-            return refuse(Refusal::NotCbor, end);
+        let next = r.at;
+        if next != to {
+            return refuse(Refusal::NotCbor, next);
         }
         p = to;
         so_far = r.value;

@@ -2,19 +2,19 @@ use mathlib.Core.Path.{_≡_, refl, sym, _∙_}
 use native.Mathlib.Omega.{arith}
 use borrow.Author.Needs.{needs}
 use Rattle.rules.proofs.CheckLaws.{number-law}
-use Rattle.cbor.specs.Reading.{placeReading}
-use Rattle.check_sequence.specs.Leaves.{entriesAt}
-use Rattle.cbor.proofs.ReadingLaws.{number-stopped, number-went, place-stopped, place-went, pos}
-use Rattle.check_sequence.proofs.LeafLaws.{known-some, known-none, entries-none, entries-stop, entries-low, entries-unknown, entries-bad, entries-more}
+use Rattle.rules.specs.Check.{nothing, entries}
+use Rattle.cbor.specs.Reading.{after}
+use Rattle.cbor.proofs.ReadingLaws.{number-stopped, number-went, reading-stopped, reading-went, pos}
+use Rattle.check_sequence.proofs.ArgumentLaws.{known-some, known-none, entries-none, entries-stop, entries-low, entries-unknown, entries-bad, entries-more}
 use Rattle.check_sequence.proofs.argument.entries.Statement.{statement}
 use Rattle.check_sequence.proofs.argument.entries.Tie as tie
 
 -- the reading of all is the reading of what is left
 abbrev Inv-loop : tie.InvT-loop
-Inv-loop s table n k e at p₀ low₀ left₀ p low left = placeReading (entriesAt s n k 0 e at) ≡ placeReading (entriesAt s n left low e p)
+Inv-loop s table components count end at p₀ low₀ left₀ p low left = after (entries s components count 0 nothing end at) ≡ after (entries s components left low nothing end p)
 
 abbrev μ-loop : tie.MeasureT-loop
-μ-loop s table n k e at p₀ low₀ left₀ p low left = left
+μ-loop s table components count end at p₀ low₀ left₀ p low left = left
 
 refusal : tie.Need-returns Inv-loop μ-loop
 refusal c =
@@ -42,17 +42,18 @@ bad c =
     (number-went _ _ _ _ (c .before .before .before .before .before .before .before .before .number .ensures) (c .before .before .before .before .before .before .before .if1 .left))
     (c .before .before .before .before .before .before .if2 .left)
     _ (known-some _ _ (sym (c .before .before .before .before .before .look-up-parameter .ensures) ∙ c .before .before .before .what .given .1))
-    _ (place-stopped _ _ (c .before .parameter .ensures) (c .if3 .taken))
+    _ (reading-stopped (λ g. 0) _ _ (c .before .parameter .ensures) (c .if3 .taken))
     ∙ sym (c .before .before .before .before .before .before .before .before .before .before .loop .inv)
 
 again : tie.Need-loop-again Inv-loop μ-loop
 again c =
+    let v = reading-went (λ g. 0) _ _ (c .before .parameter .ensures) (c .if3 .left) in
     c .before .before .before .before .before .before .before .before .before .before .loop .inv
     ∙ entries-more _ _ _ _ _ _ _ (pos _ (c .before .before .before .before .before .before .before .before .before .loop-test .taken)) _ _
     (number-went _ _ _ _ (c .before .before .before .before .before .before .before .before .number .ensures) (c .before .before .before .before .before .before .before .if1 .left))
     (c .before .before .before .before .before .before .if2 .left)
     _ (known-some _ _ (sym (c .before .before .before .before .before .look-up-parameter .ensures) ∙ c .before .before .before .what .given .1))
-    _ (place-went _ _ (c .before .parameter .ensures) (c .if3 .left))
+    (v .0) _ (v .1)
 
 done : tie.Need-returns-5 Inv-loop μ-loop
 done c = entries-none _ _ _ _ _ _ (omega arith) ∙ sym (c .before .loop .inv)

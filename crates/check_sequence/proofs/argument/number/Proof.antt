@@ -1,7 +1,7 @@
 use mathlib.Core.Path.{_∙_}
 use borrow.Author.Needs.{needs}
 use Rattle.rules.specs.Cbor.{item}
-use Rattle.check_sequence.proofs.LeafLaws.{number-reading}
+use Rattle.check_sequence.proofs.ArgumentLaws.{number-reading}
 use Rattle.check_sequence.proofs.argument.number.Statement.{statement}
 use Rattle.check_sequence.proofs.argument.number.Tie as tie
 

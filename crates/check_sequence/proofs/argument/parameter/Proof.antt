@@ -1,8 +1,7 @@
 use mathlib.Core.Path.{refl, _∙_}
 use mathlib.Core.Logic.{inl, inr}
 use borrow.Author.Needs.{needs}
-use Rattle.check_sequence.specs.Leaves.{parameterAt}
-use Rattle.check_sequence.proofs.LeafLaws.{parameter-coerce, parameter-size}
+use Rattle.check_sequence.proofs.ArgumentLaws.{parameter-coerce, parameter-uri, parameter-digest, parameter-size}
 use Rattle.check_sequence.proofs.argument.parameter.Statement.{statement}
 use Rattle.check_sequence.proofs.argument.parameter.Tie as tie
 
@@ -10,16 +9,13 @@ coerce : tie.Need-returns
 coerce c = rw (c .before .before .enum-told .given .1) (c .place .ensures ∙ parameter-coerce _ _ _ _ _ (c .before .one-of .ensures))
 
 uri : tie.Need-returns-2
-unfolding parameterAt
-uri c = rw (c .before .enum-told2 .given .1) (c .string .ensures)
+uri c = rw (c .before .enum-told2 .given .1) (parameter-uri _ _ _ _ _ (c .string .ensures))
 
 source : tie.Need-returns-3
-unfolding parameterAt
 source c = rw (c .before .enum-told3 .given .1) (c .component .ensures)
 
 digest : tie.Need-returns-4
-unfolding parameterAt
-digest c = rw (c .before .enum-told4 .given .1) (c .string2 .ensures)
+digest c = rw (c .before .enum-told4 .given .1) (parameter-digest _ _ _ _ _ (c .string2 .ensures))
 
 size : tie.Need-returns-5
 size c = rw (c .before .before .enum-told5 .given .1) (c .place2 .ensures ∙ parameter-size _ _ _ _ _ (c .before .number .ensures))

@@ -2,7 +2,7 @@ use mathlib.Core.Path.{refl, _∙_}
 use mathlib.Core.Logic.{inl}
 use borrow.Author.Needs.{needs}
 use Rattle.cbor.proofs.ReadingLaws.{item-stopped, item-went}
-use Rattle.check_sequence.proofs.LeafLaws.{argument-sixteen, argument-nil, argument-index, argument-alternatives, argument-no-map, argument-parameters, argument-sequence}
+use Rattle.check_sequence.proofs.ArgumentLaws.{argument-sixteen, argument-nil, argument-index, argument-alternatives, argument-no-map, argument-parameters, argument-sequence}
 use Rattle.check_sequence.proofs.argument.read_argument.Statement.{statement}
 use Rattle.check_sequence.proofs.argument.read_argument.Tie as tie
 

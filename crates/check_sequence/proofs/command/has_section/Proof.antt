@@ -1,12 +1,12 @@
-use native.Mathlib.Nat.{div-one}
 use borrow.Author.Tests.{ne-eqb}
+use Rattle.rules.specs.Commands.{PAYLOAD_FETCH, INSTALL, VALIDATE, LOAD, RUN}
 use Rattle.check_sequence.proofs.command.has_section.Statement.{statement}
 use Rattle.check_sequence.proofs.command.has_section.Tie as tie
 
 common : tie.Need-returns-6
 common c =
     let (((((u, a), b), d), e), f) = c .match .rest in
-    rw (ne-eqb _ 8 a, ne-eqb _ 9 b, ne-eqb _ 10 d, ne-eqb _ 11 e, ne-eqb _ 12 f, div-one)
+    rw (ne-eqb _ PAYLOAD_FETCH a, ne-eqb _ INSTALL b, ne-eqb _ VALIDATE d, ne-eqb _ LOAD e, ne-eqb _ RUN f)
 
 pub has-section-spec : {M : Type 1} → statement M
 has-section-spec =

@@ -3,23 +3,23 @@ use native.Mathlib.Omega.{arith}
 use borrow.Author.Needs.{needs}
 use borrow.Author.Tests.{not-true, not-false}
 use Rattle.cbor.proofs.ReadingLaws.{number-stopped, number-went}
-use Rattle.check_sequence.proofs.OpeningLaws.{open-stop, open-unknown, open-not-allowed, open-many, open-argument}
+use Rattle.check_sequence.proofs.CommandLaws.{start-stop, start-unknown, start-not-allowed, start-many, start-argument}
 use Rattle.check_sequence.proofs.command.open_command.Statement.{statement}
 use Rattle.check_sequence.proofs.command.open_command.Tie as tie
 
 refusal : tie.Need-returns
-refusal c = open-stop _ _ _ _ _ _ _ (number-stopped _ _ _ _ (c .before .number .ensures) (c .if1 .taken))
+refusal c = start-stop _ _ _ _ _ _ _ (number-stopped _ _ _ _ (c .before .number .ensures) (c .if1 .taken))
 
 unknown : tie.Need-returns-2
 unknown c =
     c .refuse .ensures
-    ∙ open-unknown _ _ _ _ _ _ _ _ (number-went _ _ _ _ (c .before .before .before .before .before .number .ensures) (c .before .before .before .before .if1 .left))
+    ∙ start-unknown _ _ _ _ _ _ _ _ (number-went _ _ _ _ (c .before .before .before .before .before .number .ensures) (c .before .before .before .before .if1 .left))
     (sym (c .before .before .before .look-up .ensures) ∙ c .before .enum-told .given .1)
 
 not-allowed : tie.Need-returns-3
 not-allowed c =
     c .refuse2 .ensures
-    ∙ open-not-allowed _ _ _ _ _ _ _ _
+    ∙ start-not-allowed _ _ _ _ _ _ _ _
     (number-went _ _ _ _ (c .before .before .before .before .before .before .before .before .number .ensures) (c .before .before .before .before .before .before .before .if1 .left))
     _ (sym (c .before .before .before .before .before .before .look-up .ensures) ∙ c .before .before .before .before .row .given .1)
     (c .before .before .before .before .before .before .before .before .before .before .pre .2)
@@ -28,7 +28,7 @@ not-allowed c =
 too-many : tie.Need-returns-4
 too-many c =
     c .refuse3 .ensures
-    ∙ open-many _ _ _ _ _ _ _ _
+    ∙ start-many _ _ _ _ _ _ _ _
     (number-went _ _ _ _ (c .before .before .before .before .before .before .before .before .before .number .ensures) (c .before .before .before .before .before .before .before .before .if1 .left))
     _ (sym (c .before .before .before .before .before .before .before .look-up .ensures) ∙ c .before .before .before .before .before .row .given .1)
     (c .before .before .before .before .before .before .before .before .before .before .before .pre .2)
@@ -36,7 +36,7 @@ too-many c =
 
 argument : tie.Need-returns-5
 argument c =
-    open-argument _ _ _ _ _ _ _ _
+    start-argument _ _ _ _ _ _ _ _
     (number-went _ _ _ _ (c .before .before .before .before .before .before .before .before .before .number .ensures) (c .before .before .before .before .before .before .before .before .if1 .left))
     _ (sym (c .before .before .before .before .before .before .before .look-up .ensures) ∙ c .before .before .before .before .before .row .given .1)
     (c .before .before .before .before .before .before .before .before .before .before .before .pre .2)
