@@ -11,7 +11,9 @@ use Rattle.rules.specs.Check.{number}
 use Rattle.rules.proofs.CheckLaws.{item-law, bytes-after, text-after}
 use Rattle.rules.specs.Got.{Got, refused, got, _>>=_}
 use Rattle.cbor.specs.declared.reading.Reading.{Reading}
-use Rattle.cbor.specs.Reading.{fault, view, headReading, placeReading, reading, unnumbered}
+use Rattle.cbor.specs.Answer.{itemMeans}
+use Rattle.cbor.specs.declared.ItemRead.{ItemRead}
+use Rattle.cbor.specs.Reading.{fault, view, headReading, placeReading, reading}
 
 -- two that go on alike where the first gave a value
 pub alike : {A B : Type 0} (x : Got A) (f g : A → Got B) → ((a : A) → x ≡ got a → f a ≡ g a) → (x >>= f) ≡ (x >>= g)
@@ -31,7 +33,7 @@ module _ {A : Type 0} (p v : A → ℕ) (x : Got A) (r : Reading) (e : r ≡ vie
       go (refused k q) n = refl
       go (got a) n = absurd (n refl)
 
-  -- what did not refusal gave a value
+  -- what did not stop gave a value
   pub went : r .refusal ≡ 0 → (a : A) × (x ≡ got a) × (r .at ≡ p a) × (r .value ≡ v a)
   went h = go x e
     where
@@ -85,19 +87,14 @@ module _ {A : Type 0} (f : A → ℕ) (x : Got (A × ℕ)) (r : Reading) (q : r 
       let (a, y, p, v) = went (λ a. a .1) (λ a. f (a .0)) x r q h in
       (a .0, y ∙ (λ j. got (a .0, sym p j)), v)
 
+-- an item's answer as a reading
+pub answered : (x : Got Head) (a b : ItemRead) → itemMeans a ≡ x → a ≡ b → headReading (itemMeans b) ≡ headReading x
+answered x a b q e = ap headReading (sym (ap itemMeans e) ∙ q)
+
 -- a string lies in its container
 pub string-fits : (s : Bytes) (kind lo hi e at : ℕ) (h : Head) → (kind ≡ BYTES) ⊎ (kind ≡ TEXT) → item kind lo hi s e at ≡ got h → h .next + h .num ≤ e
 string-fits s kind lo hi e at h (inl k) q = let i = item-law s kind lo hi e at h q in omega (arith, i .fits, bytes-after h (i .is ∙ k))
 string-fits s kind lo hi e at h (inr k) q = let i = item-law s kind lo hi e at h q in omega (arith, i .fits, text-after h (i .is ∙ k))
-
--- the place alone of a head, and of a number
-pub head-place : (x : Got Head) → unnumbered (headReading x) ≡ placeReading (x >>= λ h. got (h .next))
-head-place (refused r p) = refl
-head-place (got h) = refl
-
-pub number-place : (x : Got (ℕ × ℕ)) → unnumbered (reading (λ k. k) x) ≡ placeReading (x >>= λ a. got (a .1))
-number-place (refused r p) = refl
-number-place (got a) = refl
 
 -- a count that is not 0
 pub pos : (n : ℕ) → 0 < n → n ≡ suc (n - 1)

@@ -60,21 +60,21 @@ fn shortest(kind: usize, num: usize, next: usize, least: usize, at: usize) -> He
     HeadRead::Head(Head { kind, num, next })
 }
 
-// A head whose number is in the 1, 2 or 4 bytes after its first byte b.
-fn long_head(s: &[u8], e: usize, at: usize, b: usize) -> HeadRead
-    requires { ⌜ (at < e) × (e ≤ length (now s)) × (b ≡ getD (now s) at 0) × (24 ≤ b % 32) ⌝ }
-    ensures { λ r. ⌜ headMeans r ≡ head (now (s .entry)) e at ⌝ }
+// A head whose number is in the 1, 2 or 4 bytes after its first byte.
+fn long_head(s: &[u8], end: usize, at: usize, first: usize) -> HeadRead
+    requires { ⌜ (at < end) × (end ≤ length (now s)) × (first ≡ getD (now s) at 0) × (24 ≤ first % 32) ⌝ }
+    ensures { λ r. ⌜ headMeans r ≡ head (now (s .entry)) end at ⌝ }
 {
-    let kind = b / 32;
+    let kind = first / 32;
     if kind == 1 {
         return HeadRead::NotCbor(at);
     }
     if MAP < kind {
         return HeadRead::NotCbor(at);
     }
-    let low = b % 32;
+    let low = first % 32;
     let from = at + 1;
-    let left = e - from;
+    let left = end - from;
     if low == 24 {
         if left < 1 {
             return HeadRead::NotCbor(at);
@@ -96,41 +96,41 @@ fn long_head(s: &[u8], e: usize, at: usize, b: usize) -> HeadRead
     HeadRead::NotCbor(at)
 }
 
-// The head at `at`, in a container that ends at `e`.
-pub fn read_head(s: &[u8], e: usize, at: usize) -> HeadRead
-    requires { ⌜ e ≤ length (now s) ⌝ }
-    ensures { λ r. ⌜ headMeans r ≡ head (now (s .entry)) e at ⌝ }
+// The head at `at`, in a container that ends at `end`.
+pub fn read_head(s: &[u8], end: usize, at: usize) -> HeadRead
+    requires { ⌜ end ≤ length (now s) ⌝ }
+    ensures { λ r. ⌜ headMeans r ≡ head (now (s .entry)) end at ⌝ }
 {
-    if e <= at {
+    if end <= at {
         return HeadRead::NotCbor(at);
     }
-    let b = wide(s[at]);
+    let first = wide(s[at]);
     let next = at + 1;
-    if b < 24 {
+    if first < 24 {
         return HeadRead::Head(Head {
             kind: NUMBER,
-            num: b,
+            num: first,
             next,
         });
     }
-    let low = b % 32;
+    let low = first % 32;
     if 24 <= low {
-        return long_head(s, e, at, b);
+        return long_head(s, end, at, first);
     }
-    if b < 0x40 {
+    if first < 0x40 {
         return HeadRead::NotCbor(at);
     }
-    if b < 0xc0 {
+    if first < 0xc0 {
         return HeadRead::Head(Head {
-            kind: b / 32,
+            kind: first / 32,
             num: low,
             next,
         });
     }
-    if b < 0xf4 {
+    if first < 0xf4 {
         return HeadRead::NotCbor(at);
     }
-    if b < 0xf7 {
+    if first < 0xf7 {
         return HeadRead::Head(Head {
             kind: low,
             num: 0,
@@ -154,14 +154,14 @@ fn content(kind: usize, num: usize) -> usize
 }
 
 // The head of an item whose bytes lie in the container.
-fn read_whole(s: &[u8], e: usize, at: usize) -> HeadRead
-    requires { ⌜ e ≤ length (now s) ⌝ }
-    ensures { λ r. ⌜ headMeans r ≡ whole (now (s .entry)) e at ⌝ }
+fn read_whole(s: &[u8], end: usize, at: usize) -> HeadRead
+    requires { ⌜ end ≤ length (now s) ⌝ }
+    ensures { λ r. ⌜ headMeans r ≡ whole (now (s .entry)) end at ⌝ }
 {
-    match read_head(s, e, at) {
+    match read_head(s, end, at) {
         HeadRead::NotCbor(p) => HeadRead::NotCbor(p),
         HeadRead::Head(h) => {
-            let left = e - h.next;
+            let left = end - h.next;
             if left < content(h.kind, h.num) {
                 return HeadRead::NotCbor(at);
             }
@@ -171,11 +171,18 @@ fn read_whole(s: &[u8], e: usize, at: usize) -> HeadRead
 }
 
 // The item at `at`, of a wanted kind, whose number, length or count is from lo to hi.
-pub fn read_item(s: &[u8], e: usize, at: usize, kind: usize, lo: usize, hi: usize) -> ItemRead
-    requires { ⌜ e ≤ length (now s) ⌝ }
-    ensures { λ r. ⌜ itemMeans r ≡ item kind lo hi (now (s .entry)) e at ⌝ }
+pub(crate) fn read_item(
+    s: &[u8],
+    end: usize,
+    at: usize,
+    kind: usize,
+    lo: usize,
+    hi: usize,
+) -> ItemRead
+    requires { ⌜ end ≤ length (now s) ⌝ }
+    ensures { λ r. ⌜ itemMeans r ≡ item kind lo hi (now (s .entry)) end at ⌝ }
 {
-    match read_whole(s, e, at) {
+    match read_whole(s, end, at) {
         HeadRead::NotCbor(p) => ItemRead::NotCbor(p),
         HeadRead::Head(h) => {
             let is = h.kind;
@@ -195,11 +202,11 @@ pub fn read_item(s: &[u8], e: usize, at: usize, kind: usize, lo: usize, hi: usiz
 }
 
 // The item at `at`, of either kind, whatever its number.
-pub fn read_one_of(s: &[u8], e: usize, at: usize, kind: usize, other: usize) -> ItemRead
-    requires { ⌜ e ≤ length (now s) ⌝ }
-    ensures { λ r. ⌜ itemMeans r ≡ oneOf kind other (now (s .entry)) e at ⌝ }
+pub fn read_one_of(s: &[u8], end: usize, at: usize, kind: usize, other: usize) -> ItemRead
+    requires { ⌜ end ≤ length (now s) ⌝ }
+    ensures { λ r. ⌜ itemMeans r ≡ oneOf kind other (now (s .entry)) end at ⌝ }
 {
-    match read_whole(s, e, at) {
+    match read_whole(s, end, at) {
         HeadRead::NotCbor(p) => ItemRead::NotCbor(p),
         HeadRead::Head(h) => {
             let is = h.kind;

@@ -47,11 +47,11 @@ fn head_of(s: &[u8], at: usize) -> Read
 fn left_of(s: &[u8], at: usize) -> usize
     ensures { λ r. ⌜ r ≡ length (now (s .entry)) - at ⌝ }
 {
-    let e = s.len();
-    if e < at {
+    let end = s.len();
+    if end < at {
         return 0;
     }
-    e - at
+    end - at
 }
 
 // A reader at a place of an envelope.

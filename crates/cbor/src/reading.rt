@@ -27,11 +27,11 @@ pub fn refuse(r: Refusal, at: usize) -> Reading
 }
 
 // The head of an item of a wanted kind and range: the place after the head, and its number.
-pub fn item(s: &[u8], e: usize, at: usize, kind: usize, lo: usize, hi: usize) -> Reading
-    requires { ⌜ e ≤ length (now s) ⌝ }
-    ensures { λ r. ⌜ r ≡ headReading (Cbor.item kind lo hi (now (s .entry)) e at) ⌝ }
+pub fn item(s: &[u8], end: usize, at: usize, kind: usize, lo: usize, hi: usize) -> Reading
+    requires { ⌜ end ≤ length (now s) ⌝ }
+    ensures { λ r. ⌜ r ≡ headReading (Cbor.item kind lo hi (now (s .entry)) end at) ⌝ }
 {
-    match read_item(s, e, at, kind, lo, hi) {
+    match read_item(s, end, at, kind, lo, hi) {
         ItemRead::Item(h) => Reading {
             refusal: 0,
             at: h.next,
@@ -43,11 +43,11 @@ pub fn item(s: &[u8], e: usize, at: usize, kind: usize, lo: usize, hi: usize) ->
 }
 
 // The head of an item of either kind.
-pub fn one_of(s: &[u8], e: usize, at: usize, kind: usize, other: usize) -> Reading
-    requires { ⌜ e ≤ length (now s) ⌝ }
-    ensures { λ r. ⌜ r ≡ headReading (Cbor.oneOf kind other (now (s .entry)) e at) ⌝ }
+pub fn one_of(s: &[u8], end: usize, at: usize, kind: usize, other: usize) -> Reading
+    requires { ⌜ end ≤ length (now s) ⌝ }
+    ensures { λ r. ⌜ r ≡ headReading (Cbor.oneOf kind other (now (s .entry)) end at) ⌝ }
 {
-    match read_one_of(s, e, at, kind, other) {
+    match read_one_of(s, end, at, kind, other) {
         ItemRead::Item(h) => Reading {
             refusal: 0,
             at: h.next,

@@ -26,7 +26,7 @@ use Rattle.component_ids.specs.declared.Repeat.{Repeat}
 use Rattle.component_ids.specs.declared.Repeat.the-variants.{At, Nothing}
 use Rattle.component_ids.specs.Identifiers.{under, flatSpans, laid, plain, Listing, onward, listing, idsRead, listedAs, listed, equal, among, searchFrom, repeated, InBytes}
 use Rattle.cbor.specs.Reading.{fault, ends, view, headReading, placeReading, reading}
-use Rattle.cbor.proofs.ReadingLaws.{stopped, went, alike, bind-assoc}
+use Rattle.cbor.proofs.ReadingLaws.{stopped, went, alike, bind-assoc, item-stopped, place-stopped}
 use Rattle.rules.proofs.AnswerLaws.{not-zero}
 
 module _ (s : Bytes) where
@@ -217,11 +217,6 @@ module _ (s : Bytes) (e at : ℕ) where
         pub plain-good : r .at - at ≤ limits .identifier → r ≡ placeReading (plain s e at)
         plain-good l = q′ ∙ ap placeReading (ended ∙ sym (plain-rest ∙ rw (ended, le-leb _ _ l)))
 
--- what stopped was refused
-halted : {A : Type 0} (p v : A → ℕ) (x : Got A) (r : Reading) → r ≡ view p v x → (r .refusal ≡ 0 → ⊥) → (k : Refusal) × (q : ℕ) × (x ≡ refused k q) × (r ≡ fault k q)
-halted p v (refused k q) r e t = (k, q, refl, e)
-halted p v (got a) r e t = absurd (t (ap (λ (y : Reading). y .refusal) e))
-
 -- two numbers stored after the places ps
 stored : (ps : List Span) (u v : ℕ) (t : List ℕ) (x y : ℕ) →
     set (set (flatSpans ps ++ u ∷ v ∷ t) (2 * length ps) x) (2 * length ps + 1) y ≡ flatSpans (ps ++ (span x y ∷ [])) ++ t
@@ -279,7 +274,7 @@ module _ (s : Bytes) (n e at : ℕ) where
           rw (g, v) (rw (f .count), f .lie)
 
       pub listing-stop : (r .refusal ≡ 0 → ⊥) → Answers (record { refusal = r .refusal; at = r .at; value = k }) a₀ a
-      listing-stop t = let (x, y, u, v) = halted {A = ℕ} (λ x. x) (λ x. 0) (plain s e p) r q t in stop-as x y u v
+      listing-stop t = let x = place-stopped (plain s e p) r q t in stop-as (x .refusal) (x .place) (x .was) (x .is)
 
       pub listing-next : length a₀ ≡ places → n ≤ limits .components → r .refusal ≡ 0 → Sofar s n e at (k + 1) (r .at) a₀ (set (set a (2 * k) p) (2 * k + 1) (r .at))
       listing-next w b z =
@@ -419,9 +414,9 @@ module _ (s : Bytes) (e at : ℕ) (h : Reading) (q : h ≡ headReading (item ARR
   pub components-stop : (a : List ℕ) → (h .refusal ≡ 0 → ⊥) → Outcome h a a
   unfolding components
   components-stop a t =
-      let (k, p, g, _) = halted {A = Head} (λ x. x .next) (λ x. x .num) (item ARRAY 1 (limits .components) s e at) h q t in (
+      let x = item-stopped s ARRAY 1 (limits .components) e at h q t in (
         stopped (λ x. x .next) (λ x. x .num) (item ARRAY 1 (limits .components) s e at) h q (λ x. x .1) (λ x. length (x .0)) (λ x. identifiers s (x .num) [] e (x .next)) t,
-        rw (none-read k p g),
+        rw (none-read (x .refusal) (x .place) (x .was)),
       )
 
   module _ (z : h .refusal ≡ 0) where

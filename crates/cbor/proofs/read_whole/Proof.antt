@@ -12,11 +12,11 @@ use Rattle.cbor.proofs.read_whole.Tie as tie
 
 module _ (c : tie.After-h) where
   read :
-      head (c .before .before .before .before .args .s .now) (c .before .before .before .before .args .e) (c .before .before .before .before .args .at) ≡
+      head (c .before .before .before .before .args .s .now) (c .before .before .before .before .args .end) (c .before .before .before .before .args .at) ≡
       got (headOf (c .h .given .0 .0))
   read = sym (c .before .before .read-head .ensures) ∙ ap headMeans (c .h .given .1)
 
-  near : (c .before .before .before .before .args .at < c .h .given .0 .0 .next) × (c .h .given .0 .0 .next ≤ c .before .before .before .before .args .e)
+  near : (c .before .before .before .before .args .at < c .h .given .0 .0 .next) × (c .h .given .0 .0 .next ≤ c .before .before .before .before .args .end)
   near = head-bounds _ _ _ _ read
 
 past : tie.Need-returns
