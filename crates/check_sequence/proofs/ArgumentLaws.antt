@@ -5,7 +5,7 @@ use native.Mathlib.Omega.{arith}
 use mathlib.Core.Logic.{_⊎_, inl, inr}
 use mathlib.Core.Option.{Option, some, none}
 use lib.Dec.{ltb, leb}
-use borrow.Author.Tests.{le-leb, lt-leb}
+use borrow.Author.Tests.{le-leb, lt-leb, le-ltb, lt-ltb}
 use Rattle.rules.specs.declared.tables.Argument.{Argument}
 use Rattle.rules.specs.declared.tables.Argument.the-variants.{Sixteen, Nil, Index, Alternatives, Parameters, Sequence}
 use Rattle.rules.specs.declared.tables.Parameter.{Parameter}
@@ -63,6 +63,20 @@ module _ (s : Bytes) (n e at : ℕ) (r : Reading) where
   pub parameter-size : r ≡ reading (λ k. k) (number s e at) → unnumbered r ≡ after (parameter s n Size e at)
   unfolding parameter
   parameter-size q = ap unnumbered q ∙ placed _ _ (number s e at) ∙ given-on (λ g. 0) _ (λ a. a .1) (number s e at)
+
+-- the index of a component, by the number that was read
+module _ (s : Bytes) (n e at k p : ℕ) (q : number s e at ≡ got (k, p)) where
+  pub index-large : n ≤ k → fault NoSuchComponent at ≡ after (parameter s n Source e at)
+  unfolding parameter
+  index-large l = rw (q, le-ltb k n l)
+
+  pub index-below : k < n → ends p 0 ≡ after (parameter s n Source e at)
+  unfolding parameter
+  index-below l = rw (q, lt-ltb k n l)
+
+pub index-stop : (s : Bytes) (n e at : ℕ) (r : Reading) → Stopped (number s e at) r → r ≡ after (parameter s n Source e at)
+unfolding parameter
+index-stop s n e at r x = rw (x .was) (x .is)
 
 -- what a look-up of a parameter found
 pub known-some : (o : Option Parameter) (p : Parameter) → known o ≡ K.Parameter p → o ≡ some p

@@ -84,14 +84,10 @@ fn parameter(s: &[u8], components: usize, what: Parameter, end: usize, at: usize
         Parameter::Coerce => place(one_of(s, end, at, cbor::FALSE, cbor::TRUE)),
         Parameter::Uri => string(s, cbor::TEXT, 1, Controller::URI_BYTES, end, at),
         Parameter::Source => component(s, components, end, at),
-        Parameter::Digest => string(
-            s,
-            cbor::BYTES,
-            Controller::DIGEST_BYTES,
-            Controller::DIGEST_BYTES,
-            end,
-            at,
-        ),
+        Parameter::Digest => {
+            let digest = Controller::DIGEST_BYTES;
+            string(s, cbor::BYTES, digest, digest, end, at)
+        }
         Parameter::Size => place(number(s, end, at)),
     }
 }
@@ -153,14 +149,10 @@ pub(crate) fn read_argument(
     ensures { λ r. ⌜ r ≡ reading (λ k. k) (argumentStart (now (s .entry)) components argument end at) ⌝ }
 {
     match argument {
-        Argument::Sixteen => string(
-            s,
-            cbor::BYTES,
-            Controller::CLASS_BYTES,
-            Controller::CLASS_BYTES,
-            end,
-            at,
-        ),
+        Argument::Sixteen => {
+            let class = Controller::CLASS_BYTES;
+            string(s, cbor::BYTES, class, class, end, at)
+        }
         Argument::Nil => place(item(s, end, at, cbor::NIL, 0, 0)),
         Argument::Index => component(s, components, end, at),
         Argument::Alternatives => item(s, end, at, cbor::ARRAY, 1, Controller::ALTERNATIVES),

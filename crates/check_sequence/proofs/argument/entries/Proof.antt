@@ -24,7 +24,7 @@ refusal c =
 descending : tie.Need-returns-2 Inv-loop μ-loop
 descending c =
     c .refuse .ensures
-    ∙ entries-low _ _ _ _ _ _ _ (pos _ (c .before .before .before .before .loop-test .taken)) _ _ (number-went _ _ _ _ (c .before .before .before .number .ensures) (c .before .before .if1 .left)) (c .before .if2 .taken)
+    ∙ entries-low _ _ _ _ _ _ _ (pos _ (c .before .before .before .before .loop-test .taken)) _ _ (number-went _ _ _ _ (c .before .before .before .number .ensures) (c .before .before .if1 .left)) (omega (arith, c .before .if2 .taken))
     ∙ sym (c .before .before .before .before .before .loop .inv)
 
 unknown : tie.Need-returns-3 Inv-loop μ-loop
@@ -32,7 +32,7 @@ unknown c =
     c .refuse2 .ensures
     ∙ entries-unknown _ _ _ _ _ _ _ (pos _ (c .before .before .before .before .before .before .before .loop-test .taken)) _ _
     (number-went _ _ _ _ (c .before .before .before .before .before .before .number .ensures) (c .before .before .before .before .before .if1 .left))
-    (c .before .before .before .before .if2 .left)
+    (omega (arith, c .before .before .before .before .if2 .left))
     (known-none _ (sym (c .before .before .before .look-up-parameter .ensures) ∙ c .before .enum-told .given .1))
     ∙ sym (c .before .before .before .before .before .before .before .before .loop .inv)
 
@@ -40,7 +40,7 @@ bad : tie.Need-returns-4 Inv-loop μ-loop
 bad c =
     entries-bad _ _ _ _ _ _ _ (pos _ (c .before .before .before .before .before .before .before .before .before .loop-test .taken)) _ _
     (number-went _ _ _ _ (c .before .before .before .before .before .before .before .before .number .ensures) (c .before .before .before .before .before .before .before .if1 .left))
-    (c .before .before .before .before .before .before .if2 .left)
+    (omega (arith, c .before .before .before .before .before .before .if2 .left))
     _ (known-some _ _ (sym (c .before .before .before .before .before .look-up-parameter .ensures) ∙ c .before .before .before .what .given .1))
     _ (reading-stopped (λ g. 0) _ _ (c .before .parameter .ensures) (c .if3 .taken))
     ∙ sym (c .before .before .before .before .before .before .before .before .before .before .loop .inv)
@@ -51,7 +51,7 @@ again c =
     c .before .before .before .before .before .before .before .before .before .before .loop .inv
     ∙ entries-more _ _ _ _ _ _ _ (pos _ (c .before .before .before .before .before .before .before .before .before .loop-test .taken)) _ _
     (number-went _ _ _ _ (c .before .before .before .before .before .before .before .before .number .ensures) (c .before .before .before .before .before .before .before .if1 .left))
-    (c .before .before .before .before .before .before .if2 .left)
+    (omega (arith, c .before .before .before .before .before .before .if2 .left))
     _ (known-some _ _ (sym (c .before .before .before .before .before .look-up-parameter .ensures) ∙ c .before .before .before .what .given .1))
     (v .0) _ (v .1)
 
