@@ -4,13 +4,13 @@ ghost use lib.ListN.{length, drop, replicate};
 ghost use Rattle.rules.specs.Bytes.{same as Bytes·same};
 ghost use Rattle.text.specs.Text.{Wrote};
 ghost use Rattle.conformance_cases.specs.Lent.{allAre, alteredText, translationLine, keptAll, ranLine};
+use byte_buffer::equal;
 use conformance_lines::events_end;
 use conformance_lines::least;
 use conformance_lines::put_ran;
 use conformance_lines::put_translated;
 use pitvorgas::RunAnswer;
 use pitvorgas::TranslateAnswer;
-use run_slots::bytes::same_parts;
 use text::put;
 
 // What a room is filled with.
@@ -53,7 +53,7 @@ pub fn same(a: &[u8], b: &[u8]) -> bool
     if a.len() != b.len() {
         return false;
     }
-    same_parts(a, 0, b, 0, a.len())
+    equal(a, 0, b, 0, a.len())
 }
 
 fn put_altered(room: &mut [u8], at: usize, kept: bool) -> usize

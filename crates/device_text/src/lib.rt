@@ -4,7 +4,7 @@ ghost use Prim.Native.Nat.{_≤_};
 ghost use lib.ListN.{length, take};
 ghost use Rattle.rules.specs.Bytes.{same};
 ghost use Rattle.device_text.specs.Words as Words;
-use run_slots::bytes::same_parts;
+use byte_buffer::equal;
 
 pub mod line;
 pub mod put;
@@ -54,7 +54,7 @@ pub fn is(a: &[u8], b: &[u8]) -> bool
     if a.len() != b.len() {
         return false;
     }
-    same_parts(a, 0, b, 0, a.len())
+    equal(a, 0, b, 0, a.len())
 }
 
 fn blank(x: u8) -> bool

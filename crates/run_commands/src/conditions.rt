@@ -9,10 +9,10 @@ ghost use Rattle.rules.specs.Step as Step;
 ghost use Rattle.run_slots.specs.Slot.{Holds};
 ghost use Rattle.run_slots.specs.Params.{meaning};
 ghost use Rattle.run_commands.specs.Action.{Ends, At};
+use byte_buffer::equal;
 use rules::controller::Sixteen;
 use rules::slot_format::SLOT_BYTES;
 use rules::slot_format::SLOT_DIGEST;
-use run_slots::bytes::same_parts;
 use run_slots::params::Params;
 use run_slots::slot::present;
 use run_slots::slot::size;
@@ -22,7 +22,7 @@ pub fn equal_sixteen(s: &[u8], at: usize, own: &Sixteen) -> usize
     requires { ⌜ at + 16 ≤ length (now s) ⌝ }
     ensures { λ r. ⌜ Ends r × ((st : Step.State) → Step.out (endOf r) st ≡ Step.passes (same (part (now (s .entry)) at 16) (now (own .entry))) st) ⌝ }
 {
-    if same_parts(s, at, own, 0, 16) {
+    if equal(s, at, own, 0, 16) {
         return 0;
     }
     1
@@ -40,7 +40,7 @@ pub fn matches(s: &[u8], p: Params, slots: &[u8], k: usize) -> usize
     if !present(slots, k) {
         return 1;
     }
-    if !same_parts(slots, SLOT_BYTES * k + SLOT_DIGEST, s, digest, 32) {
+    if !equal(slots, SLOT_BYTES * k + SLOT_DIGEST, s, digest, 32) {
         return 1;
     }
     let wanted = p.size;

@@ -1,4 +1,3 @@
-pub mod ByteLoops
 pub mod GoodSlot
 pub mod ImageLaws
 pub mod ParamsLaws

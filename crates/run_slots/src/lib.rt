@@ -1,5 +1,4 @@
 // Slots and parameters in lent memory.
-pub mod bytes;
 pub mod image;
 pub mod params;
 pub mod search;

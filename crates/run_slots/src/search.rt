@@ -7,7 +7,7 @@ ghost use Rattle.rules.specs.Bytes.{part, same, allIn, spanAt};
 ghost use Rattle.rules.specs.Limits.{limits};
 ghost use Rattle.rules.specs.Slots.{slotBytes, slotAt, slotOf, slotNames};
 ghost use Rattle.run_slots.specs.Slot.{Holds, Short, namesAt, Found};
-use crate::bytes::same_parts;
+use byte_buffer::equal;
 use rules::controller::Places;
 use rules::controller::SlotNumbers;
 use rules::slot_format::SLOT_BYTES;
@@ -21,7 +21,7 @@ pub fn named(s: &[u8], at: usize, n: usize, slots: &[u8], k: usize) -> bool
     if n != length {
         return false;
     }
-    same_parts(s, at, slots, SLOT_BYTES * k + 1, n)
+    equal(s, at, slots, SLOT_BYTES * k + 1, n)
 }
 
 // The number of the slot with that identifier, or how many slots there are.

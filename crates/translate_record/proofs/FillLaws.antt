@@ -11,7 +11,7 @@ use Rattle.rules.specs.Bytes.{Bytes, put, part}
 use Rattle.rules.specs.Program.{entry}
 use Rattle.run_slots.specs.Params.{optional}
 use Rattle.rules.proofs.BytesLaws.{length-part}
-use Rattle.run_slots.proofs.ByteLoops.{putFrom, put-next}
+use Rattle.byte_buffer.proofs.ByteLoops.{putFrom, put-next}
 use Rattle.translate_record.specs.Record.{Filled}
 
 pub put-append : (r : Bytes) (i : ℕ) (a b : Bytes) → put (put r i a) (i + length a) b ≡ put r i (a ++ b)

@@ -15,7 +15,7 @@ returns c =
 returns-2 : tie.Need-returns-2
 returns-2 c =
     let a = c .before .before .before .before .args in
-    let h = c .same-parts .ensures in
+    let h = c .equal .ensures in
     rw (take-length (a .a .now), take-all (length (a .a .now)) (a .b .now) (omega arith)) at h
 
 pub is-spec : {M : Type 1} → statement M

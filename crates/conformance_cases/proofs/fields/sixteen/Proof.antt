@@ -3,7 +3,7 @@ use Prim.Native.Nat.{_-_, _≤_}
 use mathlib.Core.Path.{_≡_, refl, _∙_}
 use native.Mathlib.Omega.{arith}
 use lib.ListN.{length}
-use Rattle.run_slots.proofs.ByteLoops.{copied, copy-start, copy-next, copy-end}
+use Rattle.byte_buffer.proofs.ByteLoops.{copied, copy-start, copy-next, copy-end}
 use Rattle.conformance_cases.proofs.fields.sixteen.Statement.{statement}
 use Rattle.conformance_cases.proofs.fields.sixteen.Tie as tie
 

@@ -16,7 +16,7 @@ returns-2 : tie.Need-returns-2
 returns-2 c =
     let if1 = c .before in
     let start = if1 .before .before .before in
-    c .same-parts .ensures ∙ rw (take-length (start .args .a .now), take-all (length (start .args .a .now)) (start .args .b .now) (omega (arith, if1 .if1 .left)))
+    c .equal .ensures ∙ rw (take-length (start .args .a .now), take-all (length (start .args .a .now)) (start .args .b .now) (omega (arith, if1 .if1 .left)))
 
 pub same-spec : {M : Type 1} → statement M
 same-spec = tie.close (tie.spec returns (λ c κs. search needs) returns-2)

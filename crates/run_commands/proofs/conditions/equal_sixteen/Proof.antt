@@ -12,14 +12,14 @@ unfolding passes
 returns c =
     let own = c .before .before .before .before .args .own .now in
     let l : length own ≤ 16 = omega arith in
-    (search needs, λ st. rw (← rw (take-all 16 own l) at (c .before .same-parts .ensures), c .if1 .taken))
+    (search needs, λ st. rw (← rw (take-all 16 own l) at (c .before .equal .ensures), c .if1 .taken))
 
 returns-2 : tie.Need-returns-2
 unfolding passes
 returns-2 c =
     let own = c .before .before .before .before .args .own .now in
     let l : length own ≤ 16 = omega arith in
-    (search needs, λ st. rw (← rw (take-all 16 own l) at (c .before .same-parts .ensures), c .if1 .left))
+    (search needs, λ st. rw (← rw (take-all 16 own l) at (c .before .equal .ensures), c .if1 .left))
 
 pub equal-sixteen-spec : {M : Type 1} → statement M
 equal-sixteen-spec = tie.close (tie.spec (λ c κs. search needs) returns returns-2)

@@ -9,8 +9,8 @@ use Rattle.run_commands.proofs.conditions.matches.Tie as tie
 returns : tie.Need-returns
 returns c = (search needs, λ env i st a. rw (match-unset _ _ env i st _ _ a (c .if1 .taken)))
 
-same-parts-requires : tie.Need-same-parts-requires
-same-parts-requires c κs = let a = c .before .before .before .before .before in (search needs, a .pre .1 (search needs))
+equal-requires : tie.Need-equal-requires
+equal-requires c κs = let a = c .before .before .before .before .before in (search needs, a .pre .1 (search needs))
 
 returns-2 : tie.Need-returns-2
 unfolding passes
@@ -28,8 +28,8 @@ returns-3 c =
           rw (
             match-set _ _ env i st _ _ a (b .before .before .if1 .left),
             holds _ _ (b .before .present .ensures) (b .if2 .left),
-            ← c .before .same-parts .ensures,
-            not-true (c .before .same-parts .result) (c .if3 .taken),
+            ← c .before .equal .ensures,
+            not-true (c .before .equal .result) (c .if3 .taken),
           ),
     )
 
@@ -43,8 +43,8 @@ returns-4 c =
           rw (
             match-set _ _ env i st _ _ a (b .before .before .if1 .left),
             holds _ _ (b .before .present .ensures) (b .if2 .left),
-            ← d .same-parts .ensures,
-            not-false (d .same-parts .result) (c .before .if3 .left),
+            ← d .equal .ensures,
+            not-false (d .equal .result) (c .before .if3 .left),
             eq-eqb _ _ (c .if4 .taken),
           ),
     )
@@ -59,8 +59,8 @@ returns-5 c =
           rw (
             match-set _ _ env i st _ _ a (b .before .before .if1 .left),
             holds _ _ (b .before .present .ensures) (b .if2 .left),
-            ← d .same-parts .ensures,
-            not-false (d .same-parts .result) (c .before .before .before .if3 .left),
+            ← d .equal .ensures,
+            not-false (d .equal .result) (c .before .before .before .if3 .left),
             ne-eqb _ _ (c .before .before .if4 .left),
             ← c .before .size .ensures,
             ne-eqb _ _ (c .if5 .taken),
@@ -77,8 +77,8 @@ returns-6 c =
           rw (
             match-set _ _ env i st _ _ a (b .before .before .if1 .left),
             holds _ _ (b .before .present .ensures) (b .if2 .left),
-            ← d .same-parts .ensures,
-            not-false (d .same-parts .result) (c .before .before .before .if3 .left),
+            ← d .equal .ensures,
+            not-false (d .equal .result) (c .before .before .before .if3 .left),
             ne-eqb _ _ (c .before .before .if4 .left),
             ← c .before .size .ensures,
             eq-eqb _ _ (c .if5 .left),
@@ -94,7 +94,7 @@ matches-spec =
     returns-2
     (λ c. search needs)
     (λ c. search needs)
-    same-parts-requires
+    equal-requires
     returns-3
     returns-4
     (λ c. search needs)

@@ -6,7 +6,7 @@ use borrow.Author.Needs.{needs}
 use lib.ListN.{length, length-set}
 use lib.Seq.{sets}
 use Rattle.rules.specs.Slots.{putImage}
-use Rattle.run_slots.proofs.ByteLoops.{putFrom, put-start, put-next, put-end}
+use Rattle.byte_buffer.proofs.ByteLoops.{putFrom, put-start, put-next, put-end}
 use Rattle.run_slots.proofs.image.put_image.Statement.{statement}
 use Rattle.run_slots.proofs.image.put_image.Tie as tie
 

@@ -12,7 +12,7 @@ unlike c =
 like : tie.Need-returns-2
 like c =
     let at = c .before .before .before .before .before in
-    c .same-parts .ensures ∙ named-like (at .args .slots .now) (at .args .k) (at .pre .2) (at .args .s .now) (at .args .at) (at .args .n) (c .before .if1 .left)
+    c .equal .ensures ∙ named-like (at .args .slots .now) (at .args .k) (at .pre .2) (at .args .s .now) (at .args .at) (at .args .n) (c .before .if1 .left)
 
 pub named-spec : {M : Type 1} → statement M
 named-spec =

@@ -6,7 +6,7 @@ use borrow.Author.Needs.{needs}
 use lib.ListN.{length, length-set}
 use lib.Seq.{sets}
 use Rattle.rules.specs.Bytes.{part}
-use Rattle.run_slots.proofs.ByteLoops.{putFrom, put-start, put-end}
+use Rattle.byte_buffer.proofs.ByteLoops.{putFrom, put-start, put-end}
 use Rattle.rules.proofs.BytesLaws.{length-part}
 use Rattle.translate_record.proofs.FillLaws.{part-next}
 use Rattle.translate_record.proofs.bytes.copy.Statement.{statement}

@@ -6,9 +6,9 @@ use mathlib.Core.Logic.{⊎-elim}
 use native.Mathlib.Omega.{arith}
 use Rattle.rules.specs.Bytes as Bytes
 use Rattle.rules.proofs.SameLaws.{sameFrom, same-start}
-use Rattle.run_slots.proofs.ByteLoops.{flag-end, flag-stop, flag-next}
-use Rattle.run_slots.proofs.bytes.same_parts.Statement.{statement}
-use Rattle.run_slots.proofs.bytes.same_parts.Tie as tie
+use Rattle.byte_buffer.proofs.ByteLoops.{flag-end, flag-stop, flag-next}
+use Rattle.byte_buffer.proofs.equal.Statement.{statement}
+use Rattle.byte_buffer.proofs.equal.Tie as tie
 
 abbrev Inv-loop : tie.InvT-loop
 Inv-loop a i b j n same₀ k₀ same k = (k ≤ n) × (Bytes.same (Bytes.part a i n) (Bytes.part b j n) ≡ (same && sameFrom a i b j n k))
@@ -31,8 +31,8 @@ loop-again c =
 returns : tie.Need-returns Inv-loop μ-loop
 returns c = sym (c .before .loop .inv .1 ∙ flag-end _ _ _ _ _ _ _ (omega arith))
 
-pub same-parts-spec : {M : Type 1} → statement M
-same-parts-spec =
+pub equal-spec : {M : Type 1} → statement M
+equal-spec =
     tie.close
     (tie.spec
     Inv-loop

@@ -7,8 +7,9 @@ use native.Mathlib.Omega.{arith}
 use native.Mathlib.Numerals.{add-one}
 use native.Mathlib.Nat.{add-zero, add-suc}
 use lib.ListN.{length, getD, set, drop, length-drop, drop-of-length-le}
-use lib.Seq.{drop-cons, getD-drop, take-suc, length-take-le, set-at, append-snoc, sets}
+use lib.Seq.{drop-cons, getD-drop, getD-take, take-suc, length-take-le, set-at, append-snoc, sets}
 use Rattle.rules.specs.Bytes.{Bytes, part}
+use Rattle.rules.proofs.BytesLaws.{length-part}
 use Rattle.rules.proofs.SameLaws.{sameFrom, same-end, same-stop, same-next}
 
 -- a comparison that goes through all bytes, with a flag for what was the same so far
@@ -59,3 +60,8 @@ module _ (at : ℕ) (x : Bytes) where
   pub put-end : (s : Bytes) (i : ℕ) → length x ≤ i → putFrom i s ≡ s
   unfolding putFrom
   put-end s i l = rw (drop-of-length-le x l)
+
+pub part-next : (s : Bytes) (from n to : ℕ) (room : Bytes) (i : ℕ) → i < n → from + n ≤ length s →
+    putFrom to (part s from n) i room ≡ putFrom to (part s from n) (i + 1) (set room (to + i) (getD s (from + i) 0))
+part-next s from n to room i l h =
+    rw (← getD-drop from s i 0, ← getD-take {A = ℕ} n _ i 0 l) (put-next to (part s from n) room i (omega (arith, length-part s from n h)))
