@@ -5,7 +5,7 @@ use mathlib.Core.List.{List, [], _∷_, _++_, append-nil, append-assoc}
 use native.Mathlib.Omega.{arith}
 use native.Mathlib.Nat.{add-zero, add-suc, suc-add}
 use lib.ListN.{length, set, length-append}
-use lib.Seq.{set-comm}
+use lib.Seq.{set-comm, length-sets}
 use Rattle.rules.specs.Bytes.{Bytes, put, flat}
 
 pub put-append : (s : Bytes) (at : ℕ) (a b : Bytes) → put (put s at a) (at + length a) b ≡ put s at (a ++ b)
@@ -33,6 +33,13 @@ pieces-append s at a [] = rw (append-nil a)
 pieces-append s at a (b ∷ bs) =
     rw (put-append s at a b, ← length-append a b, pieces-append s at (a ++ b) bs, append-assoc a b (flat bs))
 
+pieces-length : (s : Bytes) (at k : ℕ) (bs : List Bytes) → length (pieces s at k bs) ≡ length s
+pieces-length s at k [] = refl
+pieces-length s at k (b ∷ bs) = pieces-length (put s (at + k) b) at (k + length b) bs ∙ length-sets s (at + k) b
+
 -- stores in a row, the first of them at `at`
 pub in-a-row : (s : Bytes) (at : ℕ) (a : Bytes) (bs : List Bytes) → pieces (put s at a) at (length a) bs ≡ put s at (flat (a ∷ bs))
 in-a-row s at a bs = pieces-append s at a bs
+
+pub row-length : (s : Bytes) (at : ℕ) (a : Bytes) (bs : List Bytes) → length (pieces (put s at a) at (length a) bs) ≡ length s
+row-length s at a bs = pieces-length (put s at a) at (length a) bs ∙ length-sets s at a

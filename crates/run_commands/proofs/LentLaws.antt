@@ -46,10 +46,10 @@ module _ (env : Env) (s vendor class : Bytes) (assigned : List ℕ) (answers slo
     (k : Lent env s vendor class assigned answers slots params trace) where
   -- what was lent, after something that the rule gives from it
   pub lent-after : (st st′ : State) (n : ℕ) → st .slots ≡ slots → st .trace ≡ trace → Moves st st′ n →
-      (slots′ : Bytes) (words′ : List ℕ) (trace′ : Bytes) → slots′ ≡ st′ .slots → trace′ ≡ st′ .trace → FitAll s (length (env .ids)) words′ →
-      Lent env s vendor class assigned answers slots′ words′ trace′
+      (slots′ : Bytes) (params′ : List ℕ) (trace′ : Bytes) → slots′ ≡ st′ .slots → trace′ ≡ st′ .trace → FitAll s (length (env .ids)) params′ →
+      Lent env s vendor class assigned answers slots′ params′ trace′
   unfolding slotOf
-  lent-after st st′ n qs qt m slots′ words′ trace′ es et fit =
+  lent-after st st′ n qs qt m slots′ params′ trace′ es et fit =
       let ls : length slots′ ≡ length slots = ap length es ∙ m .slots ∙ ap length qs in
       let lt : length trace′ ≡ length trace = ap length et ∙ m .trace ∙ ap length qt in
       let ns : slotNames slots′ ≡ slotNames slots = ap slotNames es ∙ m .names ∙ ap slotNames qs in

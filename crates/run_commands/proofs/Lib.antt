@@ -1,3 +1,4 @@
 pub mod ActionLaws
+pub mod EndLaws
 pub mod PerformLaws
 pub mod LentLaws

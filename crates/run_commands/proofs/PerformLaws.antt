@@ -1,16 +1,17 @@
 -- The environment and the state of a run, as what is lent to a command.
 use Prim.Native.Nat.{ℕ, _-_, _≤_, _<_}
 use mathlib.Core.Path.{_≡_, refl, sym, _∙_}
-use mathlib.Core.List.{List, [], _∷_, _++_}
+use mathlib.Core.List.{List}
 use native.Mathlib.Omega.{arith}
 use lib.ListN.{length, getD, set}
 use Rattle.rules.specs.Answers.{resultNumber}
-use Rattle.rules.specs.Bytes.{Bytes, be2}
+use Rattle.rules.specs.Bytes.{Bytes}
+use Rattle.rules.specs.Limits.{allParams}
 use Rattle.rules.specs.Commands as Rules
 use Rattle.rules.specs.Commands.{Op, vendor, class, run, code}
-use Rattle.rules.specs.Step.{Env, State, Out, out, withEvent, slotNo, paramsOf, acts, step}
+use Rattle.rules.specs.Step.{Env, State, Out, out, event, withEvent, slotNo, paramsOf, acts, step}
 use Rattle.run_slots.specs.declared.params.Params.{Params}
-use Rattle.run_slots.specs.Params.{wordsAt, stored, meaning, overWords, paramsIn, FitAll}
+use Rattle.run_slots.specs.Params.{paramsAt, stored, meaning, overParams, paramsIn, FitAll}
 use Rattle.run_commands.specs.Action.{At, SourceAt}
 use Rattle.run_commands.specs.Machine.{Host, stateAt}
 use Rattle.run_slots.proofs.ParamsLaws.{meaning-over, params-at, params-stored}
@@ -26,7 +27,7 @@ module _ (s : Bytes) (env : Env) (vendor class answers : Bytes) (assigned params
   unfolding slotNo
   number j m = h .numbers j m
 
-  module _ (p : Params) (e : p ≡ wordsAt params i) where
+  module _ (p : Params) (e : p ≡ paramsAt params i) where
     pub is-at : (k : ℕ) → k ≡ getD assigned i 0 → At env i st slots k (meaning s p)
     is-at k q = record { lent = refl; number = number i l ∙ sym q; params = rw e (params-at s params n i l) }
 
@@ -35,18 +36,18 @@ module _ (s : Bytes) (env : Env) (vendor class answers : Bytes) (assigned params
         let m : p .source ≤ n = rw e (f i (omega (arith, h .few)) .source) in
         number (p .source - 1) (omega arith)
 
-    module _ (w : length params ≡ 40) (given q : Params) where
-      pub set-params : q ≡ overWords p given →
+    module _ (w : length params ≡ allParams) (given q : Params) where
+      pub set-params : q ≡ overParams p given →
           paramsIn s (stored params i q) n ≡ set (paramsIn s params n) i (Rules.over (paramsOf env i st) (meaning s given))
       set-params x =
           params-stored s params n i q w (h .few) l ∙ rw (x, meaning-over s p given, e, params-at s params n i l)
 
-      pub override-params : q ≡ overWords given p →
+      pub override-params : q ≡ overParams given p →
           paramsIn s (stored params i q) n ≡ set (paramsIn s params n) i (Rules.over (meaning s given) (paramsOf env i st))
       override-params x =
           params-stored s params n i q w (h .few) l ∙ rw (x, meaning-over s given p, e, params-at s params n i l)
 
 pub step-is : (env : Env) (op : Op) (i place : ℕ) (st : State) (o : Out) → o ≡ acts env op i st →
-    step env op i place st ≡ out (o .end) (withEvent (o .state) (0x53 ∷ 0x54 ∷ code op ∷ i ∷ be2 place ++ (resultNumber (o .end) ∷ 0 ∷ [])))
+    step env op i place st ≡ out (o .end) (withEvent (o .state) (event (code op) i place (resultNumber (o .end))))
 unfolding step
 step-is env op i place st o e = rw e

@@ -2,23 +2,21 @@
 use Prim.Native.Nat.{ℕ, _-_, _<_}
 use mathlib.Core.Path.{_≡_}
 use mathlib.Core.List.{List}
-use mathlib.Core.Bool.{cond}
-use lib.Dec.{eqb}
 use lib.ListN.{getD}
-use Rattle.rules.specs.Answers.{endOf, resultNumber}
+use Rattle.rules.specs.Answers.{endOf, endNumber}
 use Rattle.rules.specs.Bytes.{Bytes}
 use Rattle.rules.specs.Commands as Rules
+use Rattle.rules.specs.Limits.{limits}
 use Rattle.rules.specs.Step.{Env, State, slotNo, paramsOf}
 use Rattle.run_slots.specs.Slot.{Holds}
 
--- n is the number of an end: the result in its event too, but for 2
-pub record Ends (n : ℕ) : Type 0 where
-  pub small : n < 39
-  pub result : resultNumber (endOf n) ≡ cond (eqb n 2) 0 n
+-- n is the number of an end
+abbrev pub Ends : ℕ → Type 0
+Ends n = endNumber (endOf n) ≡ n
 
 -- each number of assigned is that of a slot
 abbrev pub AllHold : List ℕ → Bytes → Type 0
-AllHold assigned slots = (i : ℕ) → i < 8 → Holds slots (getD assigned i 0)
+AllHold assigned slots = (i : ℕ) → i < limits .components → Holds slots (getD assigned i 0)
 
 -- in st, component i has the slot of number k of `slots`, and the parameters p
 pub record At (env : Env) (i : ℕ) (st : State) (slots : Bytes) (k : ℕ) (p : Rules.Params) : Type 0 where

@@ -1,27 +1,36 @@
 // The event of a command.
 ghost use mathlib.Core.Path.{_≡_};
 ghost use Prim.Native.Nat.{_+_, _*_, _≤_, _<_};
-ghost use mathlib.Core.List.{[], _∷_, _++_};
 ghost use lib.ListN.{length};
 ghost use Rattle.rules.specs.Answers.{endOf, resultNumber};
-ghost use Rattle.rules.specs.Bytes.{put, be2};
+ghost use Rattle.rules.specs.Bytes.{put};
+ghost use Rattle.rules.specs.Step.{eventBytes, event};
 ghost use Rattle.run_commands.specs.Action.{Ends};
+use byte_buffer::put_u16;
+use rules::answers::End;
+use rules::event_format::CODE;
+use rules::event_format::COMPONENT;
+use rules::event_format::EVENT_BYTES;
+use rules::event_format::MARK;
+use rules::event_format::MARK_2;
+use rules::event_format::PLACE;
+use rules::event_format::RESULT;
 
-// 0 for a command that started an image.
+// The byte after the result, which is 0.
+const LAST: usize = RESULT + 1;
+
+// A command that started an image was a success.
 fn result(end: usize) -> u8
     requires { ⌜ Ends end ⌝ }
     ensures { λ r. ⌜ r ≡ resultNumber (endOf end) ⌝ }
 {
-    if end == 2 {
+    if end == End::STARTED {
         return 0;
     }
     end as u8
 }
 
-// `53 54`, code, component, place in 2, result, 0.
-use rules::event_format::EVENT_BYTES;
-
-pub fn put_event(
+pub(crate) fn put_event(
     trace: &mut [u8],
     events: usize,
     code: usize,
@@ -29,16 +38,15 @@ pub fn put_event(
     place: usize,
     end: usize,
 )
-    requires { ⌜ (8 * events + 8 ≤ length (now trace)) × (code < 256) × (component < 256) × Ends end ⌝ }
-    ensures { λ _. ⌜ now (trace .exit) ≡ put (now (trace .entry)) (8 * events) (0x53 ∷ 0x54 ∷ code ∷ component ∷ be2 place ++ (resultNumber (endOf end) ∷ 0 ∷ [])) ⌝ }
+    requires { ⌜ (eventBytes * events + eventBytes ≤ length (now trace)) × (code < 256) × (component < 256) × Ends end ⌝ }
+    ensures { λ _. ⌜ now (trace .exit) ≡ put (now (trace .entry)) (eventBytes * events) (event code component place (resultNumber (endOf end))) ⌝ }
 {
     let at = EVENT_BYTES * events;
-    trace[at] = 0x53;
-    trace[at + 1] = 0x54;
-    trace[at + 2] = code as u8;
-    trace[at + 3] = component as u8;
-    trace[at + 4] = (place / 256 % 256) as u8;
-    trace[at + 5] = (place % 256) as u8;
-    trace[at + 6] = result(end);
-    trace[at + 7] = 0;
+    trace[at] = MARK;
+    trace[at + 1] = MARK_2;
+    trace[at + CODE] = code as u8;
+    trace[at + COMPONENT] = component as u8;
+    put_u16(trace, at + PLACE, place);
+    trace[at + RESULT] = result(end);
+    trace[at + LAST] = 0;
 }

@@ -4,14 +4,19 @@ ghost use Prim.Native.Nat.{ℕ, _+_, _%_, _≤_, _<_};
 ghost use lib.ListN.{length};
 ghost use Rattle.rules.specs.Answers.{endOf};
 ghost use Rattle.rules.specs.Bytes.{Bytes};
+ghost use Rattle.rules.specs.Limits.{limits};
+ghost use Rattle.rules.specs.Slots.{answerBytes};
 ghost use Rattle.rules.specs.Step as Step;
 ghost use Rattle.run_slots.specs.Slot.{Holds};
 ghost use Rattle.run_slots.specs.Params.{meaning};
 ghost use Rattle.run_commands.specs.Action.{Ends, At, AllHold, SourceAt};
 use crate::Progress;
 use byte_buffer::four;
+use rules::answers::End;
+use rules::answers::Failure;
 use rules::controller::SlotNumbers;
 use rules::slot_format::IMAGE_BYTES;
+use rules::slot_format::SIZE;
 use run_slots::image::image;
 use run_slots::image::put_image;
 use run_slots::image::take;
@@ -21,7 +26,7 @@ use run_slots::slot::present;
 use run_slots::slot::size;
 
 // 21, with the parameters p, for the slot of number k.
-pub fn fetch(
+pub(crate) fn fetch(
     p: Params,
     answers: &[u8],
     events: usize,
@@ -29,7 +34,7 @@ pub fn fetch(
     slots: &mut [u8],
     k: usize,
 ) -> Progress
-    requires { ⌜ Holds (now slots) k × (length (now answers) % 37 ≡ 0) ⌝ }
+    requires { ⌜ Holds (now slots) k × (length (now answers) % answerBytes ≡ 0) ⌝ }
     ensures { λ r. ⌜ (r .events ≡ events) × Ends (r .end) × ((s : Bytes) (env : Step.Env) (i : ℕ) (st : Step.State) → At env i st (now (slots .entry)) k (meaning s p) → env .answers ≡ now (answers .entry) → st .used ≡ used → Step.out (endOf (r .end)) (Step.withUsed (Step.withSlots st (now (slots .exit))) (r .used)) ≡ Step.fetches env i st) ⌝ }
 {
     let uri = p.uri;
@@ -37,14 +42,14 @@ pub fn fetch(
         return Progress {
             events,
             used,
-            end: 32,
+            end: Failure::PARAMETER_UNSET,
         };
     }
     if answers.len() / IMAGE_BYTES <= used {
         return Progress {
             events,
             used,
-            end: 34,
+            end: Failure::NO_ANSWER,
         };
     }
     let at = IMAGE_BYTES * used;
@@ -53,14 +58,14 @@ pub fn fetch(
         return Progress {
             events,
             used: taken,
-            end: 35,
+            end: Failure::BAD_STATUS,
         };
     }
-    if capacity(slots, k) < four(answers, at + 1) {
+    if capacity(slots, k) < four(answers, at + SIZE) {
         return Progress {
             events,
             used: taken,
-            end: 36,
+            end: Failure::TOO_LARGE,
         };
     }
     let mut answer = take(answers, at);
@@ -69,54 +74,54 @@ pub fn fetch(
     Progress {
         events,
         used: taken,
-        end: 0,
+        end: End::FINISHED,
     }
 }
 
 // 22, with the parameters p, to the slot of number k.
-pub fn copy(p: Params, assigned: &SlotNumbers, slots: &mut [u8], k: usize) -> usize
-    requires { ⌜ Holds (now slots) k × AllHold (now assigned) (now slots) × (p .source ≤ 8) ⌝ }
+pub(crate) fn copy(p: Params, assigned: &SlotNumbers, slots: &mut [u8], k: usize) -> usize
+    requires { ⌜ Holds (now slots) k × AllHold (now assigned) (now slots) × (p .source ≤ limits .components) ⌝ }
     ensures { λ r. ⌜ Ends r × ((s : Bytes) (env : Step.Env) (i : ℕ) (st : Step.State) → At env i st (now (slots .entry)) k (meaning s p) → SourceAt env st (p .source) (now (assigned .entry)) → Step.out (endOf r) (Step.withSlots st (now (slots .exit))) ≡ Step.copies env i st) ⌝ }
 {
     let source = p.source;
     if source == 0 {
-        return 32;
+        return Failure::PARAMETER_UNSET;
     }
     let j = assigned[source - 1];
     if !present(slots, j) {
-        return 37;
+        return Failure::NOTHING_TO_COPY;
     }
     if capacity(slots, k) < size(slots, j) {
-        return 36;
+        return Failure::TOO_LARGE;
     }
     put_image(slots, k, image(slots, j));
-    0
+    End::FINISHED
 }
 
 // 32, with the parameters p, between the slot of number k and the source's.
-pub fn swap(p: Params, assigned: &SlotNumbers, slots: &mut [u8], k: usize) -> usize
-    requires { ⌜ Holds (now slots) k × AllHold (now assigned) (now slots) × (p .source ≤ 8) ⌝ }
+pub(crate) fn swap(p: Params, assigned: &SlotNumbers, slots: &mut [u8], k: usize) -> usize
+    requires { ⌜ Holds (now slots) k × AllHold (now assigned) (now slots) × (p .source ≤ limits .components) ⌝ }
     ensures { λ r. ⌜ Ends r × ((s : Bytes) (env : Step.Env) (i : ℕ) (st : Step.State) → At env i st (now (slots .entry)) k (meaning s p) → SourceAt env st (p .source) (now (assigned .entry)) → Step.out (endOf r) (Step.withSlots st (now (slots .exit))) ≡ Step.swaps env i st) ⌝ }
 {
     let source = p.source;
     if source == 0 {
-        return 32;
+        return Failure::PARAMETER_UNSET;
     }
     let j = assigned[source - 1];
     if !present(slots, k) {
-        return 37;
+        return Failure::NOTHING_TO_COPY;
     }
     if !present(slots, j) {
-        return 37;
+        return Failure::NOTHING_TO_COPY;
     }
     if capacity(slots, k) < size(slots, j) {
-        return 36;
+        return Failure::TOO_LARGE;
     }
     if capacity(slots, j) < size(slots, k) {
-        return 36;
+        return Failure::TOO_LARGE;
     }
     let own = image(slots, k);
     put_image(slots, k, image(slots, j));
     put_image(slots, j, own);
-    0
+    End::FINISHED
 }

@@ -1,8 +1,8 @@
 // What each command that writes an event does: its result, the slots and parameters that it changes, and its event. Nothing here knows
 // whether the command stands in an envelope or in a program.
-pub mod conditions;
+mod conditions;
 mod event;
-pub mod images;
+mod images;
 pub mod perform;
 
 // How far a run is: events written, answers used, and the number of the end of what was done last, 0 to go on.

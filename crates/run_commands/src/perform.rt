@@ -3,9 +3,11 @@ ghost use mathlib.Core.Path.{_≡_};
 ghost use Prim.Native.Nat.{ℕ, _+_, _*_, _%_, _≤_, _<_};
 ghost use lib.ListN.{length, getD};
 ghost use Rattle.rules.specs.Bytes.{Bytes};
-ghost use Rattle.rules.specs.Step.{Env, acts, step};
+ghost use Rattle.rules.specs.Limits.{limits};
+ghost use Rattle.rules.specs.Slots.{answerBytes};
+ghost use Rattle.rules.specs.Step.{Env, acts, step, eventBytes};
 ghost use Rattle.run_slots.specs.Params.{Fit, FitAll};
-ghost use Rattle.run_commands.specs.Op.{opOf, IsCode};
+ghost use Rattle.run_commands.specs.Op.{opOf, IsCode, SixteenAt};
 ghost use Rattle.run_commands.specs.Action.{Ends, AllHold};
 ghost use Rattle.run_commands.specs.Machine.{stateAt, outAt, Host};
 use crate::Progress;
@@ -16,6 +18,18 @@ use crate::event::put_event;
 use crate::images::copy;
 use crate::images::fetch;
 use crate::images::swap;
+use rules::answers::End;
+use rules::answers::Failure;
+use rules::codes::ABORT;
+use rules::codes::CLASS;
+use rules::codes::COPY;
+use rules::codes::FETCH;
+use rules::codes::IMAGE_MATCH;
+use rules::codes::OVERRIDE_PARAMETERS;
+use rules::codes::RUN;
+use rules::codes::SET_INDEX;
+use rules::codes::SET_PARAMETERS;
+use rules::codes::VENDOR;
 use rules::controller::AllParameters;
 use rules::controller::Sixteen;
 use rules::controller::SlotNumbers;
@@ -47,27 +61,27 @@ fn act(
     events: usize,
     used: usize,
 ) -> Progress
-    requires { ⌜ (i < 8) × (k ≡ getD (now assigned) i 0) × (code < 3 → value + 16 ≤ length (now s)) × AllHold (now assigned) (now slots) × FitAll (now s) 8 (now params) × (length (now answers) % 37 ≡ 0) × IsCode (now s) code value given ⌝ }
+    requires { ⌜ (i < limits .components) × (k ≡ getD (now assigned) i 0) × SixteenAt (now s) code value × AllHold (now assigned) (now slots) × FitAll (now s) (limits .components) (now params) × (length (now answers) % answerBytes ≡ 0) × IsCode (now s) code value given ⌝ }
     ensures { λ r. ⌜ (r .events ≡ events) × Ends (r .end) × ((env : Env) (trace : Bytes) → Host env (now (vendor .entry)) (now (class .entry)) (now (answers .entry)) (now (assigned .entry)) (now (slots .entry)) → i < length (env .ids) → FitAll (now (s .entry)) (length (env .ids)) (now (params .entry)) → outAt (now (s .entry)) (length (env .ids)) (now (params .exit)) (now (slots .exit)) trace r ≡ acts env (opOf (now (s .entry)) code value given) i (stateAt (now (s .entry)) (length (env .ids)) (now (params .entry)) (now (slots .entry)) trace events used)) × ((n : ℕ) → FitAll (now (s .entry)) n (now (params .entry)) → Fit (now (s .entry)) n given → FitAll (now (s .entry)) n (now (params .exit))) ⌝ }
 {
     let p = load(params, i);
     match code {
-        1 => ended(equal_sixteen(s, value, vendor), events, used),
-        2 => ended(equal_sixteen(s, value, class), events, used),
-        3 => ended(matches(s, p, slots, k), events, used),
-        12 => ended(0, events, used),
-        14 => ended(33, events, used),
-        19 => {
+        VENDOR => ended(equal_sixteen(s, value, vendor), events, used),
+        CLASS => ended(equal_sixteen(s, value, class), events, used),
+        IMAGE_MATCH => ended(matches(s, p, slots, k), events, used),
+        SET_INDEX => ended(End::FINISHED, events, used),
+        ABORT => ended(Failure::ABORTED, events, used),
+        SET_PARAMETERS => {
             store(params, i, over(p, given));
-            ended(0, events, used)
+            ended(End::FINISHED, events, used)
         }
-        20 => {
+        OVERRIDE_PARAMETERS => {
             store(params, i, over(given, p));
-            ended(0, events, used)
+            ended(End::FINISHED, events, used)
         }
-        21 => fetch(p, answers, events, used, slots, k),
-        22 => ended(copy(p, assigned, slots, k), events, used),
-        23 => ended(runs(slots, k), events, used),
+        FETCH => fetch(p, answers, events, used, slots, k),
+        COPY => ended(copy(p, assigned, slots, k), events, used),
+        RUN => ended(runs(slots, k), events, used),
         _ => ended(swap(p, assigned, slots, k), events, used),
     }
 }
@@ -90,7 +104,7 @@ pub fn perform(
     events: usize,
     used: usize,
 ) -> Progress
-    requires { ⌜ (i < 8) × (code < 3 → value + 16 ≤ length (now s)) × AllHold (now assigned) (now slots) × FitAll (now s) 8 (now params) × (length (now answers) % 37 ≡ 0) × IsCode (now s) code value given × (8 * events + 8 ≤ length (now trace)) ⌝ }
+    requires { ⌜ (i < limits .components) × SixteenAt (now s) code value × AllHold (now assigned) (now slots) × FitAll (now s) (limits .components) (now params) × (length (now answers) % answerBytes ≡ 0) × IsCode (now s) code value given × (eventBytes * events + eventBytes ≤ length (now trace)) ⌝ }
     ensures { λ r. ⌜ (r .events ≡ events + 1) × Ends (r .end) × ((env : Env) → Host env (now (vendor .entry)) (now (class .entry)) (now (answers .entry)) (now (assigned .entry)) (now (slots .entry)) → i < length (env .ids) → FitAll (now (s .entry)) (length (env .ids)) (now (params .entry)) → outAt (now (s .entry)) (length (env .ids)) (now (params .exit)) (now (slots .exit)) (now (trace .exit)) r ≡ step env (opOf (now (s .entry)) code value given) i place (stateAt (now (s .entry)) (length (env .ids)) (now (params .entry)) (now (slots .entry)) (now (trace .entry)) events used)) × ((n : ℕ) → FitAll (now (s .entry)) n (now (params .entry)) → Fit (now (s .entry)) n given → FitAll (now (s .entry)) n (now (params .exit))) ⌝ }
 {
     let k = assigned[i];

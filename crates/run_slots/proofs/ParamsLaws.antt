@@ -11,10 +11,11 @@ use lib.ListN.{length, getD, set, replicate, length-set}
 use lib.Seq.{sets, length-sets, getD-set-same, getD-set-other}
 use borrow.Author.Tests.{ltb-true, ltb-false, eqb-true, eqb-false}
 use Rattle.rules.specs.Bytes.{Bytes, part}
+use Rattle.rules.specs.Limits.{limits, paramNumbers, allParams}
 use Rattle.rules.specs.Commands as Rules
 use Rattle.rules.specs.Slots.{numbers}
 use Rattle.run_slots.specs.declared.params.Params.{Params}
-use Rattle.run_slots.specs.Params.{wordsAt, stored, optional, meaning, overWords, paramsIn, Fit, FitAll}
+use Rattle.run_slots.specs.Params.{paramsAt, stored, optional, meaning, overParams, paramsIn, Fit, FitAll}
 
 -- a parameter of two numbers, of which the first tells whether it is set
 choose : {A : Type 0} (f : ℕ → ℕ → A) (x x′ y y′ : ℕ) (t : Bool) → eqb x 0 ≡ t →
@@ -22,13 +23,13 @@ choose : {A : Type 0} (f : ℕ → ℕ → A) (x x′ y y′ : ℕ) (t : Bool) �
 choose f x x′ y y′ true e = rw e
 choose f x x′ y y′ false e = rw e
 
-pub meaning-over : (s : Bytes) (a b : Params) → meaning s (overWords a b) ≡ Rules.over (meaning s a) (meaning s b)
+pub meaning-over : (s : Bytes) (a b : Params) → meaning s (overParams a b) ≡ Rules.over (meaning s a) (meaning s b)
 unfolding meaning
 meaning-over s a b =
     rw (
       choose (λ p n. part s p n) (a .uri) (a .length) (b .uri) (b .length) (eqb (a .uri) 0) refl,
       choose (λ p n. p - 1) (a .source) 0 (b .source) 0 (eqb (a .source) 0) refl,
-      choose (λ p n. part s p 32) (a .digest) 0 (b .digest) 0 (eqb (a .digest) 0) refl,
+      choose (λ p n. part s p (limits .digest)) (a .digest) 0 (b .digest) 0 (eqb (a .digest) 0) refl,
       choose (λ p n. p - 1) (a .size) 0 (b .size) 0 (eqb (a .size) 0) refl,
     )
 
@@ -50,9 +51,9 @@ module _ {A : Type 0} where
       let e : k + suc i ≡ suc k + i = omega arith in
       rw (h k (λ q. omega arith), e, set-numbers f g n (suc k) i (omega arith) (λ j m. h j (λ q. m (omega arith))))
 
-pub params-at : (s : Bytes) (w : List ℕ) (n i : ℕ) → i < n → getD (paramsIn s w n) i Rules.unset ≡ meaning s (wordsAt w i)
+pub params-at : (s : Bytes) (w : List ℕ) (n i : ℕ) → i < n → getD (paramsIn s w n) i Rules.unset ≡ meaning s (paramsAt w i)
 unfolding paramsIn
-params-at s w n i h = rw zero-add at (getD-numbers (λ k. meaning s (wordsAt w k)) Rules.unset n 0 i h)
+params-at s w n i h = rw zero-add at (getD-numbers (λ k. meaning s (paramsAt w k)) Rules.unset n 0 i h)
 
 -- stores in a row: an element among them, and one before or after them
 getD-beside : (l : List ℕ) (i : ℕ) (vs : List ℕ) (j : ℕ) → (j < i) ⊎ (i + length vs ≤ j) → getD (sets l i vs) j 0 ≡ getD l j 0
@@ -74,56 +75,56 @@ module _ (w : List ℕ) (i : ℕ) (p : Params) where
 
   pub length-stored : length (stored w i p) ≡ length w
   unfolding stored
-  length-stored = length-sets w (5 * i) five
+  length-stored = length-sets w (paramNumbers * i) five
 
-  module _ (n : length w ≡ 40) (h : i < 8) where
-    among : (k : ℕ) → k < 5 → getD (sets w (5 * i) five) (5 * i + k) 0 ≡ getD five k 0
-    among k l = getD-among w (5 * i) five k l (omega arith)
+  module _ (n : length w ≡ allParams) (h : i < limits .components) where
+    among : (k : ℕ) → k < paramNumbers → getD (sets w (paramNumbers * i) five) (paramNumbers * i + k) 0 ≡ getD five k 0
+    among k l = getD-among w (paramNumbers * i) five k l (omega arith)
 
-    pub words-same : wordsAt (stored w i p) i ≡ p
+    pub params-same : paramsAt (stored w i p) i ≡ p
     unfolding stored
-    words-same =
-        rw (rw (add-zero (5 * i)) at (among 0 (omega arith)), among 1 (omega arith), among 2 (omega arith), among 3 (omega arith), among 4 (omega arith))
+    params-same =
+        rw (rw (add-zero (paramNumbers * i)) at (among 0 (omega arith)), among 1 (omega arith), among 2 (omega arith), among 3 (omega arith), among 4 (omega arith))
 
   module _ (j : ℕ) (d : j ≡ i → ⊥) where
-    beside : (k : ℕ) → k < 5 → getD (sets w (5 * i) five) (5 * j + k) 0 ≡ getD w (5 * j + k) 0
-    beside k l = getD-beside w (5 * i) five (5 * j + k) (go (ltb j i) refl)
+    beside : (k : ℕ) → k < paramNumbers → getD (sets w (paramNumbers * i) five) (paramNumbers * j + k) 0 ≡ getD w (paramNumbers * j + k) 0
+    beside k l = getD-beside w (paramNumbers * i) five (paramNumbers * j + k) (go (ltb j i) refl)
       where
-        go : (t : Bool) → ltb j i ≡ t → (5 * j + k < 5 * i) ⊎ (5 * i + 5 ≤ 5 * j + k)
+        go : (t : Bool) → ltb j i ≡ t → (paramNumbers * j + k < paramNumbers * i) ⊎ (paramNumbers * i + paramNumbers ≤ paramNumbers * j + k)
         go true e = let m : j < i = ltb-true j i e in inl (omega arith)
         go false e = let m : i < j = omega (arith, ltb-false j i e, d) in inr (omega arith)
 
-    pub words-other : wordsAt (stored w i p) j ≡ wordsAt w j
+    pub params-other : paramsAt (stored w i p) j ≡ paramsAt w j
     unfolding stored
-    words-other =
-        rw (rw (add-zero (5 * j)) at (beside 0 (omega arith)), beside 1 (omega arith), beside 2 (omega arith), beside 3 (omega arith), beside 4 (omega arith))
+    params-other =
+        rw (rw (add-zero (paramNumbers * j)) at (beside 0 (omega arith)), beside 1 (omega arith), beside 2 (omega arith), beside 3 (omega arith), beside 4 (omega arith))
 
-pub params-stored : (s : Bytes) (w : List ℕ) (n i : ℕ) (p : Params) → length w ≡ 40 → n ≤ 8 → i < n →
+pub params-stored : (s : Bytes) (w : List ℕ) (n i : ℕ) (p : Params) → length w ≡ allParams → n ≤ limits .components → i < n →
     paramsIn s (stored w i p) n ≡ set (paramsIn s w n) i (meaning s p)
 unfolding paramsIn
 params-stored s w n i p l m h =
-    set-numbers (λ k. meaning s (wordsAt w k)) (λ k. meaning s (wordsAt (stored w i p) k)) n 0 i h
-    (λ j d. ap (meaning s) (words-other w i p j (λ e. d (omega arith))))
-    ∙ rw (zero-add i, words-same w i p l (omega arith))
+    set-numbers (λ k. meaning s (paramsAt w k)) (λ k. meaning s (paramsAt (stored w i p) k)) n 0 i h
+    (λ j d. ap (meaning s) (params-other w i p j (λ e. d (omega arith))))
+    ∙ rw (zero-add i, params-same w i p l (omega arith))
 
 module _ (s : Bytes) (n : ℕ) where
   either : (P : ℕ → Type 0) (t : Bool) (x y : ℕ) → P x → P y → P (cond t y x)
   either P true x y p q = q
   either P false x y p q = p
 
-  pub fit-over : (a b : Params) → Fit s n a → Fit s n b → Fit s n (overWords a b)
+  pub fit-over : (a b : Params) → Fit s n a → Fit s n b → Fit s n (overParams a b)
   fit-over a b f g =
       record {
         source = either (λ x. x ≤ n) (eqb (a .source) 0) (a .source) (b .source) (f .source) (g .source);
-        digest = either (λ x. 0 < x → x + 32 ≤ length s) (eqb (a .digest) 0) (a .digest) (b .digest) (f .digest) (g .digest);
+        digest = either (λ x. 0 < x → x + limits .digest ≤ length s) (eqb (a .digest) 0) (a .digest) (b .digest) (f .digest) (g .digest);
       }
 
-  pub fit-stored : (w : List ℕ) (i : ℕ) (p : Params) → length w ≡ 40 → i < 8 → FitAll s n w → Fit s n p → FitAll s n (stored w i p)
+  pub fit-stored : (w : List ℕ) (i : ℕ) (p : Params) → length w ≡ allParams → i < limits .components → FitAll s n w → Fit s n p → FitAll s n (stored w i p)
   fit-stored w i p l h f g j k = go (eqb j i) refl
     where
-      go : (t : Bool) → eqb j i ≡ t → Fit s n (wordsAt (stored w i p) j)
-      go true e = let q : j ≡ i = eqb-true j i e in rw (q, words-same w i p l h) g
-      go false e = rw (words-other w i p j (eqb-false j i e)) (f j k)
+      go : (t : Bool) → eqb j i ≡ t → Fit s n (paramsAt (stored w i p) j)
+      go true e = let q : j ≡ i = eqb-true j i e in rw (q, params-same w i p l h) g
+      go false e = rw (params-other w i p j (eqb-false j i e)) (f j k)
 
 -- all params 0: nothing is set
 zeros : (m j : ℕ) → _≡_ {A = ℕ} (getD (replicate m 0) j 0) 0
@@ -131,20 +132,20 @@ zeros zero j = refl
 zeros (suc m) zero = refl
 zeros (suc m) (suc j) = zeros m j
 
-words-start : (i : ℕ) → wordsAt (replicate 40 0) i ≡ record { uri = 0; length = 0; source = 0; digest = 0; size = 0 }
-words-start i = rw (zeros 40 (5 * i), zeros 40 (5 * i + 1), zeros 40 (5 * i + 2), zeros 40 (5 * i + 3), zeros 40 (5 * i + 4))
+zero-at : (i : ℕ) → paramsAt (replicate allParams 0) i ≡ record { uri = 0; length = 0; source = 0; digest = 0; size = 0 }
+zero-at i = rw (zeros allParams (paramNumbers * i), zeros allParams (paramNumbers * i + 1), zeros allParams (paramNumbers * i + 2), zeros allParams (paramNumbers * i + 3), zeros allParams (paramNumbers * i + 4))
 
-meaning-start : (s : Bytes) (i : ℕ) → meaning s (wordsAt (replicate 40 0) i) ≡ Rules.unset
+meaning-start : (s : Bytes) (i : ℕ) → meaning s (paramsAt (replicate allParams 0) i) ≡ Rules.unset
 unfolding meaning
-meaning-start s i = ap (meaning s) (words-start i)
+meaning-start s i = ap (meaning s) (zero-at i)
 
-pub params-start : (s : Bytes) (n : ℕ) → paramsIn s (replicate 40 0) n ≡ replicate n Rules.unset
+pub params-start : (s : Bytes) (n : ℕ) → paramsIn s (replicate allParams 0) n ≡ replicate n Rules.unset
 unfolding paramsIn
 params-start s n = go n 0
   where
-    go : (n k : ℕ) → map (λ k. meaning s (wordsAt (replicate 40 0) k)) (numbers n k) ≡ replicate n Rules.unset
+    go : (n k : ℕ) → map (λ k. meaning s (paramsAt (replicate allParams 0) k)) (numbers n k) ≡ replicate n Rules.unset
     go zero k = refl
     go (suc n) k = rw (meaning-start s k, go n (suc k))
 
-pub fit-start : (s : Bytes) (n : ℕ) → FitAll s n (replicate 40 0)
-fit-start s n i h = rw (words-start i) (record { source = omega arith; digest = λ l. omega arith })
+pub fit-start : (s : Bytes) (n : ℕ) → FitAll s n (replicate allParams 0)
+fit-start s n i h = rw (zero-at i) (record { source = omega arith; digest = λ l. omega arith })

@@ -2,21 +2,21 @@
 use Prim.Native.Nat.{ℕ, zero, suc, _+_, _-_, _*_, _/_, _%_, _≤_, _<_}
 use mathlib.Core.Path.{_≡_, refl, sym, ap, _∙_}
 use mathlib.Core.List.{List, [], _∷_, map}
-use mathlib.Core.Bool.{Bool, true, false, _&&_, not}
+use mathlib.Core.Bool.{Bool, true, false, _&&_, not, cond}
 use native.Mathlib.Omega.{arith}
 use native.Mathlib.Numerals.{add-one}
 use native.Mathlib.Nat.{add-zero, zero-add}
 use lib.Dec.{eqb, leb}
 use lib.ListN.{length, getD, drop, set, length-map}
-use lib.Seq.{take-take, getD-set-same, getD-set-other}
+use lib.Seq.{sets, take-take, getD-set-same, getD-set-other}
 use borrow.Author.Count.{below-more}
 use borrow.Author.Tests.{eq-eqb, ne-eqb, le-leb, lt-leb, leb-true}
 use Rattle.rules.specs.Bytes.{Bytes, Span, span, spanAt, bytesAt, part, same, member, indexOf, repeats, allIn}
 use Rattle.rules.specs.Limits.{limits}
-use Rattle.rules.specs.Slots.{slotBytes, slotAt, numbers, slotsIn, slotNames, slotOf, goodSlot, allGood, goodSlots}
+use Rattle.rules.specs.Slots.{slotBytes, idFrom, slotAt, numbers, slotsIn, slotNames, slotOf, goodSlot, allGood, goodSlots}
 use Rattle.rules.proofs.BytesLaws.{length-part}
 use Rattle.rules.proofs.SameLaws.{same-lengths}
-use Rattle.run_slots.specs.Slot.{Holds, Short, slotsFrom, namesFrom, namesAt, Found}
+use Rattle.run_slots.specs.Slot.{Holds, Short, slotsFrom, namesFrom, namesAt, slotNumbers, Found}
 
 -- the numbers from k on, before n
 numbers-turn : (k n : ℕ) → k < n → numbers (n - k) k ≡ k ∷ numbers (n - (k + 1)) (k + 1)
@@ -36,18 +36,18 @@ numbers-at (suc n) k (suc i) l = numbers-at n (suc k) i (omega arith) ∙ omega 
 
 -- identifiers of different lengths are not the same
 module _ (b : Bytes) (k : ℕ) (short : getD b (slotBytes * k) 0 ≤ limits .identifier) where
-  pub id-part : slotAt b k .id ≡ part b (slotBytes * k + 1) (getD b (slotBytes * k) 0)
+  pub id-part : slotAt b k .id ≡ part b (slotBytes * k + idFrom) (getD b (slotBytes * k) 0)
   unfolding slotAt
-  id-part = take-take (getD b (slotBytes * k) 0) 32 (drop (slotBytes * k + 1) b) short
+  id-part = take-take (getD b (slotBytes * k) 0) (limits .identifier) (drop (slotBytes * k + idFrom) b) short
 
   module _ (s : Bytes) (at n : ℕ) where
     pub named-unlike : at + n ≤ length s → Holds b k → (n ≡ getD b (slotBytes * k) 0 → ⊥) → same (part s at n) (slotAt b k .id) ≡ false
     named-unlike f h d =
         same-lengths (part s at n) (slotAt b k .id)
-        (λ q. d (omega (arith, length-part s at n f, length-part b (slotBytes * k + 1) (getD b (slotBytes * k) 0) (omega arith), ap length id-part)))
+        (λ q. d (omega (arith, length-part s at n f, length-part b (slotBytes * k + idFrom) (getD b (slotBytes * k) 0) (omega arith), ap length id-part)))
 
-    pub named-like : n ≡ getD b (slotBytes * k) 0 → same (part s at n) (part b (slotBytes * k + 1) n) ≡ same (part s at n) (slotAt b k .id)
-    named-like e = ap (same (part s at n)) (ap (part b (slotBytes * k + 1)) e ∙ sym id-part)
+    pub named-like : n ≡ getD b (slotBytes * k) 0 → same (part s at n) (part b (slotBytes * k + idFrom) n) ≡ same (part s at n) (slotAt b k .id)
+    named-like e = ap (same (part s at n)) (ap (part b (slotBytes * k + idFrom)) e ∙ sym id-part)
 
 module _ (b : Bytes) where
   slots-turn : (k n : ℕ) → k < n → slotsFrom b k n ≡ slotAt b k ∷ slotsFrom b (k + 1) n
@@ -198,6 +198,7 @@ pub record Sofar (s : Bytes) (a : List ℕ) (n : ℕ) (slots : Bytes) (before af
   pub number : (j : ℕ) → j < i → getD after j 0 ≡ slotOf (bytesAt s (spanAt a j)) slots
   pub there : (j : ℕ) → j < i → Holds slots (getD after j 0)
   pub beyond : (j : ℕ) → i ≤ j → getD after j 0 ≡ getD before j 0
+  pub written : sets before 0 (slotNumbers (namesAt s a n) slots) ≡ sets after i (slotNumbers (leftAt s a i n) slots)
 
 module _ (s : Bytes) (a : List ℕ) (n : ℕ) (slots : Bytes) (before : List ℕ) where
   pub sofar-start : Sofar s a n slots before before 0
@@ -207,6 +208,7 @@ module _ (s : Bytes) (a : List ℕ) (n : ℕ) (slots : Bytes) (before : List ℕ
         number = λ j l. absurd (omega arith);
         there = λ j l. absurd (omega arith);
         beyond = λ j l. refl;
+        written = ap (λ (l : List Bytes). sets before 0 (slotNumbers l slots)) (left-all s a n);
       }
 
   module _ (after : List ℕ) (i : ℕ) (h : Sofar s a n slots before after i) where
@@ -216,6 +218,14 @@ module _ (s : Bytes) (a : List ℕ) (n : ℕ) (slots : Bytes) (before : List ℕ
 
       pub sofar-stop : r ≡ length slots / slotBytes → allIn (namesAt s a n) (slotNames slots) ≡ false
       sofar-stop e = turn ∙ rw (none-named (bytesAt s (spanAt a i)) slots (sym q ∙ e))
+
+      -- the numbers that are still to be written, from that of identifier i on
+      write : (t : Bool) → member (bytesAt s (spanAt a i)) (slotNames slots) ≡ t →
+          sets before 0 (slotNumbers (namesAt s a n) slots) ≡ sets after i (cond t (slotOf (bytesAt s (spanAt a i)) slots ∷ slotNumbers (leftAt s a (i + 1) n) slots) [])
+      write t e = h .written ∙ ap (λ (l : List Bytes). sets after i (slotNumbers l slots)) (left-turn s a i n l) ∙ rw e
+
+      pub sofar-kept : r ≡ length slots / slotBytes → after ≡ sets before 0 (slotNumbers (namesAt s a n) slots)
+      sofar-kept e = sym (write false (none-named (bytesAt s (spanAt a i)) slots (sym q ∙ e)))
 
       pub sofar-next : (r ≡ length slots / slotBytes → ⊥) → i < length after → Sofar s a n slots before (set after i r) (i + 1)
       sofar-next d f =
@@ -227,10 +237,14 @@ module _ (s : Bytes) (a : List ℕ) (n : ℕ) (slots : Bytes) (before : List ℕ
             number = below-more (λ j. getD (set after i r) j 0 ≡ slotOf (bytesAt s (spanAt a j)) slots) i (λ j g. other j (λ e. omega arith) ∙ h .number j g) (here ∙ q);
             there = below-more (λ j. Holds slots (getD (set after i r) j 0)) i (λ j g. omega (arith, other j (λ e. omega arith), h .there j g)) (omega arith);
             beyond = λ j g. other j (λ e. omega arith) ∙ h .beyond j (omega arith);
+            written = write true m ∙ rw (← q, add-one i);
           }
 
     pub sofar-all : n ≤ i → allIn (namesAt s a n) (slotNames slots) ≡ true
     sofar-all l = h .rest ∙ ap (λ (l : List Bytes). allIn l (slotNames slots)) (left-end s a i n l)
+
+    pub sofar-done : n ≤ i → after ≡ sets before 0 (slotNumbers (namesAt s a n) slots)
+    sofar-done l = sym (h .written ∙ ap (λ (l : List Bytes). sets after i (slotNumbers l slots)) (left-end s a i n l))
 
     pub sofar-found : i ≡ n → Found (namesAt s a n) slots before after
     sofar-found e =

@@ -8,22 +8,23 @@ use lib.Dec.{eqb}
 use lib.ListN.{length, getD}
 use lib.Seq.{sets}
 use Rattle.rules.specs.Bytes.{Bytes, part}
+use Rattle.rules.specs.Limits.{limits, paramNumbers}
 use Rattle.rules.specs.Commands as Rules
 use Rattle.rules.specs.Slots.{numbers}
 use Rattle.run_slots.specs.declared.params.Params.{Params}
 
-abbrev pub wordsAt : List ℕ → ℕ → Params
-wordsAt w i =
+abbrev pub paramsAt : List ℕ → ℕ → Params
+paramsAt w i =
     record {
-      uri = getD w (5 * i) 0;
-      length = getD w (5 * i + 1) 0;
-      source = getD w (5 * i + 2) 0;
-      digest = getD w (5 * i + 3) 0;
-      size = getD w (5 * i + 4) 0;
+      uri = getD w (paramNumbers * i) 0;
+      length = getD w (paramNumbers * i + 1) 0;
+      source = getD w (paramNumbers * i + 2) 0;
+      digest = getD w (paramNumbers * i + 3) 0;
+      size = getD w (paramNumbers * i + 4) 0;
     }
 
 unfoldable pub stored : List ℕ → ℕ → Params → List ℕ
-stored w i p = sets w (5 * i) (p .uri ∷ p .length ∷ p .source ∷ p .digest ∷ p .size ∷ [])
+stored w i p = sets w (paramNumbers * i) (p .uri ∷ p .length ∷ p .source ∷ p .digest ∷ p .size ∷ [])
 
 -- 0 is unset
 abbrev pub optional : {A : Type 0} → ℕ → A → Option A
@@ -35,12 +36,12 @@ meaning s p =
     record {
       uri = optional (p .uri) (part s (p .uri) (p .length));
       source = optional (p .source) (p .source - 1);
-      digest = optional (p .digest) (part s (p .digest) 32);
+      digest = optional (p .digest) (part s (p .digest) (limits .digest));
       size = optional (p .size) (p .size - 1);
     }
 
-abbrev pub overWords : Params → Params → Params
-overWords a b =
+abbrev pub overParams : Params → Params → Params
+overParams a b =
     record {
       uri = cond (eqb (a .uri) 0) (b .uri) (a .uri);
       length = cond (eqb (a .uri) 0) (b .length) (a .length);
@@ -51,12 +52,12 @@ overWords a b =
 
 -- the parameters of n components
 unfoldable pub paramsIn : Bytes → List ℕ → ℕ → List Rules.Params
-paramsIn s w n = map (λ k. meaning s (wordsAt w k)) (numbers n 0)
+paramsIn s w n = map (λ k. meaning s (paramsAt w k)) (numbers n 0)
 
 -- a source is one of n components, and a digest lies in the bytes
 pub record Fit (s : Bytes) (n : ℕ) (p : Params) : Type 0 where
   pub source : p .source ≤ n
-  pub digest : 0 < p .digest → p .digest + 32 ≤ length s
+  pub digest : 0 < p .digest → p .digest + limits .digest ≤ length s
 
 abbrev pub FitAll : Bytes → ℕ → List ℕ → Type 0
-FitAll s n w = (i : ℕ) → i < 8 → Fit s n (wordsAt w i)
+FitAll s n w = (i : ℕ) → i < limits .components → Fit s n (paramsAt w i)

@@ -1,17 +1,18 @@
 -- Slots in lent bytes, and the slots of components.
 use Prim.Native.Nat.{ℕ, _+_, _-_, _*_, _/_, _≤_, _<_}
 use mathlib.Core.Path.{_≡_}
-use mathlib.Core.List.{List, [], map}
+use mathlib.Core.List.{List, [], _∷_, map}
+use mathlib.Core.Bool.{cond}
 use lib.ListN.{length, getD}
-use Rattle.rules.specs.Bytes.{Bytes, bytesAt, spanAt}
-use Rattle.rules.specs.Slots.{Slot, slotBytes, slotAt, numbers, slotOf}
+use Rattle.rules.specs.Bytes.{Bytes, bytesAt, spanAt, member}
+use Rattle.rules.specs.Slots.{Slot, slotBytes, slotAt, numbers, slotNames, slotOf}
 use Rattle.rules.specs.Limits.{limits}
 
 -- the slot of number k is there
 abbrev pub Holds : Bytes → ℕ → Type 0
 Holds b k = slotBytes * k + slotBytes ≤ length b
 
--- each slot's identifier has at most 32 bytes
+-- each slot's identifier is no longer than it may be
 abbrev pub Short : Bytes → Type 0
 Short b = (k : ℕ) → k < length b / slotBytes → getD b (slotBytes * k) 0 ≤ limits .identifier
 
@@ -25,6 +26,11 @@ namesFrom b k n = map (λ x. x .id) (slotsFrom b k n)
 -- the n identifiers at places of s
 abbrev pub namesAt : Bytes → List ℕ → ℕ → List Bytes
 namesAt s ids n = map (λ k. bytesAt s (spanAt ids k)) (numbers n 0)
+
+-- the numbers of the identifiers' slots, up to the first identifier that has none
+abbrev pub slotNumbers : List Bytes → Bytes → List ℕ
+slotNumbers [] slots = []
+slotNumbers (x ∷ xs) slots = cond (member x (slotNames slots)) (slotOf x slots ∷ slotNumbers xs slots) []
 
 -- `after` has the number of each identifier's slot, which is there; beyond them it has what `before` has
 pub record Found (ids : List Bytes) (slots : Bytes) (before after : List ℕ) : Type 0 where

@@ -3,17 +3,17 @@ ghost use mathlib.Core.Path.{_≡_};
 ghost use Prim.Native.Nat.{_+_, _*_, _≤_};
 ghost use lib.ListN.{length};
 ghost use Rattle.rules.specs.Bytes.{part};
-ghost use Rattle.rules.specs.Slots.{imageAt, putImage};
+ghost use Rattle.rules.specs.Slots.{answerBytes, imageAt, putImage};
 ghost use Rattle.run_slots.specs.Slot.{Holds};
 use rules::slot_format::IMAGE;
 use rules::slot_format::IMAGE_BYTES;
 use rules::slot_format::Image;
 use rules::slot_format::SLOT_BYTES;
 
-// The 37 bytes at `at`.
+// The answer or the image at `at`.
 pub fn take(b: &[u8], at: usize) -> Image
-    requires { ⌜ at + 37 ≤ length (now b) ⌝ }
-    ensures { λ r. ⌜ r ≡ part (now (b .entry)) at 37 ⌝ }
+    requires { ⌜ at + answerBytes ≤ length (now b) ⌝ }
+    ensures { λ r. ⌜ r ≡ part (now (b .entry)) at answerBytes ⌝ }
 {
     let mut image = [0u8; IMAGE_BYTES];
     let mut k = 0;

@@ -4,7 +4,10 @@ ghost use Prim.Native.Nat.{_+_, _*_, _≤_, _<_};
 ghost use mathlib.Core.Bool.{cond};
 ghost use lib.Dec.{eqb};
 ghost use lib.ListN.{length};
-ghost use Rattle.run_slots.specs.Params.{wordsAt, stored, overWords};
+ghost use Rattle.rules.specs.Limits.{limits, paramNumbers};
+ghost use Rattle.run_slots.specs.Params.{paramsAt, stored, overParams};
+use rules::controller::AllParameters;
+use rules::controller::PARAMETER_NUMBERS;
 
 // 0 is unset: where the URI and the digest start, and one more than the source and the size.
 pub struct Params {
@@ -15,13 +18,11 @@ pub struct Params {
     pub size: usize,
 }
 
-const WORDS: usize = 5;
-
 pub fn load(params: &AllParameters, i: usize) -> Params
-    requires { ⌜ i < 8 ⌝ }
-    ensures { λ r. ⌜ r ≡ wordsAt (now (params .entry)) i ⌝ }
+    requires { ⌜ i < limits .components ⌝ }
+    ensures { λ r. ⌜ r ≡ paramsAt (now (params .entry)) i ⌝ }
 {
-    let at = WORDS * i;
+    let at = PARAMETER_NUMBERS * i;
     Params {
         uri: params[at],
         length: params[at + 1],
@@ -32,10 +33,10 @@ pub fn load(params: &AllParameters, i: usize) -> Params
 }
 
 pub fn store(params: &mut [usize], i: usize, p: Params)
-    requires { ⌜ 5 * i + 5 ≤ length (now params) ⌝ }
+    requires { ⌜ paramNumbers * i + paramNumbers ≤ length (now params) ⌝ }
     ensures { λ _. ⌜ now (params .exit) ≡ stored (now (params .entry)) i p ⌝ }
 {
-    let at = WORDS * i;
+    let at = PARAMETER_NUMBERS * i;
     params[at] = p.uri;
     params[at + 1] = p.length;
     params[at + 2] = p.source;
@@ -54,10 +55,8 @@ pub fn either(test: usize, x: usize, y: usize) -> usize
 }
 
 // Those of a, and those of b that a leaves unset.
-use rules::controller::AllParameters;
-
 pub fn over(a: Params, b: Params) -> Params
-    ensures { λ r. ⌜ r ≡ overWords a b ⌝ }
+    ensures { λ r. ⌜ r ≡ overParams a b ⌝ }
 {
     Params {
         uri: either(a.uri, a.uri, b.uri),

@@ -3,17 +3,19 @@ ghost use mathlib.Core.Path.{_≡_};
 ghost use mathlib.Core.Bool.{true};
 ghost use Prim.Native.Nat.{ℕ, _+_, _-_, _*_, _≤_, _<_};
 ghost use lib.ListN.{length, getD};
+ghost use lib.Seq.{sets};
 ghost use Rattle.rules.specs.Bytes.{part, same, allIn, spanAt};
 ghost use Rattle.rules.specs.Limits.{limits};
 ghost use Rattle.rules.specs.Slots.{slotBytes, slotAt, slotOf, slotNames};
-ghost use Rattle.run_slots.specs.Slot.{Holds, Short, namesAt, Found};
+ghost use Rattle.run_slots.specs.Slot.{Holds, Short, namesAt, slotNumbers, Found};
 use byte_buffer::equal;
 use rules::controller::Places;
 use rules::controller::SlotNumbers;
+use rules::slot_format::IDENTIFIER;
 use rules::slot_format::SLOT_BYTES;
 
 // Whether the slot of number k has the identifier of n bytes at `at`.
-pub fn named(s: &[u8], at: usize, n: usize, slots: &[u8], k: usize) -> bool
+pub(crate) fn named(s: &[u8], at: usize, n: usize, slots: &[u8], k: usize) -> bool
     requires { ⌜ (at + n ≤ length (now s)) × Holds (now slots) k × (getD (now slots) (slotBytes * k) 0 ≤ limits .identifier) ⌝ }
     ensures { λ r. ⌜ r ≡ same (part (now (s .entry)) at n) (slotAt (now (slots .entry)) k .id) ⌝ }
 {
@@ -21,11 +23,11 @@ pub fn named(s: &[u8], at: usize, n: usize, slots: &[u8], k: usize) -> bool
     if n != length {
         return false;
     }
-    equal(s, at, slots, SLOT_BYTES * k + 1, n)
+    equal(s, at, slots, SLOT_BYTES * k + IDENTIFIER, n)
 }
 
 // The number of the slot with that identifier, or how many slots there are.
-pub fn slot_of(s: &[u8], at: usize, n: usize, slots: &[u8]) -> usize
+pub(crate) fn slot_of(s: &[u8], at: usize, n: usize, slots: &[u8]) -> usize
     requires { ⌜ (at + n ≤ length (now s)) × Short (now slots) ⌝ }
     ensures { λ r. ⌜ r ≡ slotOf (part (now (s .entry)) at n) (now (slots .entry)) ⌝ }
 {
@@ -40,7 +42,8 @@ pub fn slot_of(s: &[u8], at: usize, n: usize, slots: &[u8]) -> usize
     k
 }
 
-// The slots of n components, whose identifiers stand at the places `ids` of s; false if one of them has none.
+// The slots of n components, whose identifiers stand at the places `ids` of s; false if one of them has none. Then those of the components
+// before it are assigned.
 pub fn find_slots(
     s: &[u8],
     ids: &Places,
@@ -48,8 +51,8 @@ pub fn find_slots(
     slots: &[u8],
     assigned: &mut SlotNumbers,
 ) -> bool
-    requires { ⌜ (n ≤ 8) × ((k : ℕ) → k < n → (spanAt (now ids) k .from ≤ spanAt (now ids) k .to) × (spanAt (now ids) k .to ≤ length (now s))) × Short (now slots) ⌝ }
-    ensures { λ r. ⌜ (r ≡ allIn (namesAt (now (s .entry)) (now (ids .entry)) n) (slotNames (now (slots .entry)))) × (r ≡ true → Found (namesAt (now (s .entry)) (now (ids .entry)) n) (now (slots .entry)) (now (assigned .entry)) (now (assigned .exit))) ⌝ }
+    requires { ⌜ (n ≤ limits .components) × ((k : ℕ) → k < n → (spanAt (now ids) k .from ≤ spanAt (now ids) k .to) × (spanAt (now ids) k .to ≤ length (now s))) × Short (now slots) ⌝ }
+    ensures { λ r. ⌜ (r ≡ allIn (namesAt (now (s .entry)) (now (ids .entry)) n) (slotNames (now (slots .entry)))) × (r ≡ true → Found (namesAt (now (s .entry)) (now (ids .entry)) n) (now (slots .entry)) (now (assigned .entry)) (now (assigned .exit))) × (now (assigned .exit) ≡ sets (now (assigned .entry)) 0 (slotNumbers (namesAt (now (s .entry)) (now (ids .entry)) n) (now (slots .entry)))) ⌝ }
 {
     let numbers: &mut [usize] = assigned;
     let count = slots.len() / SLOT_BYTES;

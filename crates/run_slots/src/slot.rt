@@ -36,7 +36,7 @@ pub fn size(slots: &[u8], k: usize) -> usize
 }
 
 // 85, of one slot.
-pub fn good_slot(slots: &[u8], k: usize) -> bool
+pub(crate) fn good_slot(slots: &[u8], k: usize) -> bool
     requires { ⌜ Holds (now slots) k ⌝ }
     ensures { λ r. ⌜ r ≡ goodSlot (slotAt (now (slots .entry)) k) ⌝ }
 {

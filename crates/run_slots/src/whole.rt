@@ -9,10 +9,11 @@ ghost use Rattle.run_slots.specs.Slot.{Short, slotsFrom, namesFrom};
 use crate::search::named;
 use crate::slot::good_slot;
 use rules::controller::Controller;
+use rules::slot_format::IDENTIFIER;
 use rules::slot_format::SLOT_BYTES;
 
 // Whether each of the n slots is good.
-pub fn all_good(slots: &[u8], n: usize) -> bool
+pub(crate) fn all_good(slots: &[u8], n: usize) -> bool
     requires { ⌜ slotBytes * n ≤ length (now slots) ⌝ }
     ensures { λ r. ⌜ r ≡ allGood (slotsFrom (now (slots .entry)) 0 n) ⌝ }
 {
@@ -27,7 +28,7 @@ pub fn all_good(slots: &[u8], n: usize) -> bool
 }
 
 // Whether one of the slots after number i has its identifier.
-pub fn named_again(slots: &[u8], i: usize, n: usize) -> bool
+pub(crate) fn named_again(slots: &[u8], i: usize, n: usize) -> bool
     requires { ⌜ (i < n) × (slotBytes * n ≤ length (now slots)) × Short (now slots) ⌝ }
     ensures { λ r. ⌜ r ≡ member (slotAt (now (slots .entry)) i .id) (namesFrom (now (slots .entry)) (i + 1) n) ⌝ }
 {
@@ -35,7 +36,7 @@ pub fn named_again(slots: &[u8], i: usize, n: usize) -> bool
     let length = slots[at] as usize;
     let mut k = i + 1;
     while k < n {
-        if named(slots, at + 1, length, slots, k) {
+        if named(slots, at + IDENTIFIER, length, slots, k) {
             return true;
         }
         k += 1;
@@ -43,7 +44,7 @@ pub fn named_again(slots: &[u8], i: usize, n: usize) -> bool
     false
 }
 
-pub fn one_twice(slots: &[u8], n: usize) -> bool
+pub(crate) fn one_twice(slots: &[u8], n: usize) -> bool
     requires { ⌜ (slotBytes * n ≤ length (now slots)) × Short (now slots) ⌝ }
     ensures { λ r. ⌜ r ≡ repeats (namesFrom (now (slots .entry)) 0 n) ⌝ }
 {

@@ -1,3 +1,4 @@
+use mathlib.Core.Path.{refl}
 use borrow.Author.Needs.{needs}
 use borrow.Author.Tests.{eq-eqb, ne-eqb, not-true, not-false}
 use Rattle.rules.specs.Step.{passes}
@@ -7,7 +8,7 @@ use Rattle.run_commands.proofs.conditions.matches.Statement.{statement}
 use Rattle.run_commands.proofs.conditions.matches.Tie as tie
 
 returns : tie.Need-returns
-returns c = (search needs, λ env i st a. rw (match-unset _ _ env i st _ _ a (c .if1 .taken)))
+returns c = (refl, λ env i st a. rw (match-unset _ _ env i st _ _ a (c .if1 .taken)))
 
 equal-requires : tie.Need-equal-requires
 equal-requires c κs = let a = c .before .before .before .before .before in (search needs, a .pre .1 (search needs))
@@ -15,7 +16,7 @@ equal-requires c κs = let a = c .before .before .before .before .before in (sea
 returns-2 : tie.Need-returns-2
 unfolding passes
 returns-2 c = (
-  search needs,
+  refl,
   λ env i st a. rw (match-set _ _ env i st _ _ a (c .before .before .if1 .left), fails _ _ (c .before .present .ensures) (c .if2 .taken)),
 )
 
@@ -23,7 +24,7 @@ returns-3 : tie.Need-returns-3
 unfolding passes
 returns-3 c =
     let b = c .before .before in (
-      search needs,
+      refl,
       λ env i st a.
           rw (
             match-set _ _ env i st _ _ a (b .before .before .if1 .left),
@@ -38,7 +39,7 @@ unfolding passes
 returns-4 c =
     let d = c .before .before in
     let b = d .before in (
-      search needs,
+      refl,
       λ env i st a.
           rw (
             match-set _ _ env i st _ _ a (b .before .before .if1 .left),
@@ -54,7 +55,7 @@ unfolding passes
 returns-5 c =
     let d = c .before .before .before .before in
     let b = d .before in (
-      search needs,
+      refl,
       λ env i st a.
           rw (
             match-set _ _ env i st _ _ a (b .before .before .if1 .left),
@@ -72,7 +73,7 @@ unfolding passes
 returns-6 c =
     let d = c .before .before .before .before in
     let b = d .before in (
-      search needs,
+      refl,
       λ env i st a.
           rw (
             match-set _ _ env i st _ _ a (b .before .before .if1 .left),

@@ -1,3 +1,4 @@
+use mathlib.Core.Path.{refl}
 use borrow.Author.Needs.{needs}
 use Rattle.rules.specs.Step.{unless}
 use Rattle.run_commands.proofs.ActionLaws.{run-is}
@@ -6,11 +7,11 @@ use Rattle.run_commands.proofs.conditions.runs.Tie as tie
 
 returns : tie.Need-returns
 unfolding unless
-returns c = (search needs, λ env i st e n. rw (run-is env i st _ _ e n, ← c .before .present .ensures, c .if1 .taken))
+returns c = (refl, λ env i st e n. rw (run-is env i st _ _ e n, ← c .before .present .ensures, c .if1 .taken))
 
 returns-2 : tie.Need-returns-2
 unfolding unless
-returns-2 c = (search needs, λ env i st e n. rw (run-is env i st _ _ e n, ← c .before .present .ensures, c .if1 .left))
+returns-2 c = (refl, λ env i st e n. rw (run-is env i st _ _ e n, ← c .before .present .ensures, c .if1 .left))
 
 pub runs-spec : {M : Type 1} → statement M
 runs-spec = tie.close (tie.spec (λ c κs. search needs) returns returns-2)

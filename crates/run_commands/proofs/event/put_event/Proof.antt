@@ -1,22 +1,27 @@
-use Prim.Native.Nat.{suc, _+_, _*_}
+use Prim.Native.Nat.{ℕ, _*_}
 use mathlib.Core.Path.{_≡_}
+use mathlib.Core.List.{[], _∷_}
 use native.Mathlib.Omega.{arith}
-use lib.ListN.{length-set}
+use lib.ListN.{length, length-set}
 use borrow.Author.Needs.{needs}
+use Rattle.rules.specs.Answers.{endOf, resultNumber}
+use Rattle.rules.specs.Bytes.{Bytes, be2, put}
+use Rattle.rules.specs.Step.{eventBytes}
+use Rattle.byte_buffer.proofs.PutLaws.{pieces, in-a-row, row-length}
 use Rattle.run_commands.proofs.event.put_event.Statement.{statement}
 use Rattle.run_commands.proofs.event.put_event.Tie as tie
 
+-- the trace after the place, as long as before
+kept : (t t′ : Bytes) (at code component place : ℕ) →
+    t′ ≡ pieces (put t at (0x53 ∷ [])) at 1 ((0x54 ∷ []) ∷ (code ∷ []) ∷ (component ∷ []) ∷ be2 place ∷ []) → length t′ ≡ length t
+kept t t′ at code component place e = rw e (row-length t at (0x53 ∷ []) ((0x54 ∷ []) ∷ (code ∷ []) ∷ (component ∷ []) ∷ be2 place ∷ []))
+
 returns : tie.Need-returns
 returns c =
-    let at = 8 * c .before .before .args .events in
-    let e1 : at + 1 ≡ suc at = omega arith in
-    let e2 : at + 2 ≡ suc (suc at) = omega arith in
-    let e3 : at + 3 ≡ suc (suc (suc at)) = omega arith in
-    let e4 : at + 4 ≡ suc (suc (suc (suc at))) = omega arith in
-    let e5 : at + 5 ≡ suc (suc (suc (suc (suc at)))) = omega arith in
-    let e6 : at + 6 ≡ suc (suc (suc (suc (suc (suc at))))) = omega arith in
-    let e7 : at + 7 ≡ suc (suc (suc (suc (suc (suc (suc at)))))) = omega arith in
-    rw (e1, e2, e3, e4, e5, e6, e7, c .result .ensures)
+    let a = c .before .before .before .before .before .before .args in
+    rw (c .result .ensures, c .before .before .before .put-u16 .ensures)
+    (in-a-row (a .trace .now) (eventBytes * a .events) (0x53 ∷ [])
+    ((0x54 ∷ []) ∷ (a .code ∷ []) ∷ (a .component ∷ []) ∷ be2 (a .place) ∷ (resultNumber (endOf (a .end)) ∷ []) ∷ (0 ∷ []) ∷ []))
 
 pub put-event-spec : {M : Type 1} → statement M
 put-event-spec =
@@ -33,15 +38,11 @@ put-event-spec =
     (λ c. search needs)
     (λ c. simp length-set (omega arith))
     (λ c. search needs)
-    (λ c. search needs)
-    (λ c. simp length-set (omega arith))
-    (λ c. search needs)
-    (λ c. search needs)
-    (λ c. simp length-set (omega arith))
+    (λ c κs. simp length-set (omega arith))
     (λ c κs. search needs)
     (λ c. search needs)
-    (λ c. simp length-set (omega arith))
+    (λ c. let a = c .before .before .before .before .before .before .args in omega (arith, kept (a .trace .now) _ (eventBytes * a .events) (a .code) (a .component) (a .place) (c .before .before .before .put-u16 .ensures)))
     (λ c. search needs)
-    (λ c. simp length-set (omega arith))
-    (λ c. search needs)
+    (λ c. let a = c .before .before .before .before .before .before .args in simp length-set (omega (arith, kept (a .trace .now) _ (eventBytes * a .events) (a .code) (a .component) (a .place) (c .before .before .before .put-u16 .ensures))))
+    (λ c. let a = c .before .before .before .before .before .before .args in simp length-set (omega (arith, kept (a .trace .now) _ (eventBytes * a .events) (a .code) (a .component) (a .place) (c .before .before .before .put-u16 .ensures))))
     returns)

@@ -1,3 +1,4 @@
+use mathlib.Core.Path.{refl}
 use native.Mathlib.Omega.{arith}
 use borrow.Author.Needs.{needs}
 use borrow.Author.Tests.{le-leb, lt-leb}
@@ -8,7 +9,7 @@ use Rattle.run_commands.proofs.images.copy.Statement.{statement}
 use Rattle.run_commands.proofs.images.copy.Tie as tie
 
 returns : tie.Need-returns
-returns c = (search needs, λ s env i st a h. rw (copy-unset s _ env i st _ _ a (c .before .before .args .assigned .now) h (c .if1 .taken)))
+returns c = (refl, λ s env i st a h. rw (copy-unset s _ env i st _ _ a (c .before .before .args .assigned .now) h (c .if1 .taken)))
 
 present-requires : tie.Need-present-requires
 present-requires c κs = c .before .before .before .before .pre .1 _ (omega (arith, c .before .before .before .before .pre .2))
@@ -16,7 +17,7 @@ present-requires c κs = c .before .before .before .before .pre .1 _ (omega (ari
 returns-2 : tie.Need-returns-2
 unfolding unless
 returns-2 c = (
-  search needs,
+  refl,
   λ s env i st a h. rw (copy-set s _ env i st _ _ a (c .before .before .before .before .before .before .args .assigned .now) h (c .before .before .before .before .if1 .left), fails _ _ (c .before .present .ensures) (c .if2 .taken)),
 )
 
@@ -26,7 +27,7 @@ size-requires c κs = c .before .before .before .before .before .before .before 
 returns-3 : tie.Need-returns-3
 unfolding unless
 returns-3 c = (
-  search needs,
+  refl,
   λ s env i st a h.
       rw (
         copy-set s _ env i st _ _ a (c .before .before .before .before .before .before .before .before .before .before .before .args .assigned .now) h (c .before .before .before .before .before .before .before .before .before .if1 .left),
@@ -43,7 +44,7 @@ image-requires c κs = c .before .before .before .before .before .before .before
 returns-4 : tie.Need-returns-4
 unfolding unless
 returns-4 c = (
-  search needs,
+  refl,
   λ s env i st a h.
       rw (
         copy-set s _ env i st _ _ a (c .before .before .before .before .before .before .before .before .before .before .before .before .before .before .before .before .before .args .assigned .now) h (c .before .before .before .before .before .before .before .before .before .before .before .before .before .before .before .if1 .left),

@@ -1,10 +1,11 @@
 use Prim.Native.Nat.{_+_, _*_, _≤_}
-use mathlib.Core.Path.{_≡_}
+use mathlib.Core.Path.{_≡_, refl}
 use native.Mathlib.Omega.{arith}
 use lib.ListN.{length}
 use borrow.Author.Needs.{needs}
 use borrow.Author.Tests.{eq-eqb, ne-eqb, le-leb, lt-leb}
 use Rattle.rules.specs.Bytes.{part, num}
+use Rattle.rules.specs.Slots.{sizeFrom, answerBytes}
 use Rattle.rules.specs.Step.{unless}
 use Rattle.rules.proofs.BytesLaws.{num-4}
 use Rattle.run_commands.proofs.ActionLaws.{fetch-unset, fetch-none, fetch-taken}
@@ -12,31 +13,31 @@ use Rattle.run_commands.proofs.images.fetch.Statement.{statement}
 use Rattle.run_commands.proofs.images.fetch.Tie as tie
 
 returns : tie.Need-returns
-returns c = (search needs, search needs, λ s env i st a x u. rw (fetch-unset s _ env i st _ _ a _ _ x u (c .if1 .taken)))
+returns c = (refl, refl, λ s env i st a x u. rw (fetch-unset s _ env i st _ _ a _ _ x u (c .if1 .taken)))
 
 returns-2 : tie.Need-returns-2
 returns-2 c =
     let args = c .before .before .before .before .args in
-    let l : length (args .answers .now) ≤ 37 * args .used = omega arith in
-    (search needs, search needs, λ s env i st a x u. rw (fetch-none s _ env i st _ _ a _ _ x u (c .before .if1 .left) l))
+    let l : length (args .answers .now) ≤ answerBytes * args .used = omega arith in
+    (refl, refl, λ s env i st a x u. rw (fetch-none s _ env i st _ _ a _ _ x u (c .before .if1 .left) l))
 
 returns-3 : tie.Need-returns-3
 unfolding unless
 returns-3 c =
     let args = c .before .before .before .before .before .before .args in
-    let l : 37 * args .used + 37 ≤ length (args .answers .now) = omega arith in
-    (search needs, search needs, λ s env i st a x u. rw (fetch-taken s _ env i st _ _ a _ _ x u (c .before .before .before .if1 .left) l, ne-eqb _ _ (c .if3 .taken)))
+    let l : answerBytes * args .used + answerBytes ≤ length (args .answers .now) = omega arith in
+    (refl, refl, λ s env i st a x u. rw (fetch-taken s _ env i st _ _ a _ _ x u (c .before .before .before .if1 .left) l, ne-eqb _ _ (c .if3 .taken)))
 
 returns-4 : tie.Need-returns-4
 unfolding unless
 returns-4 c =
     let args = c .before .before .before .before .before .before .before .before .before .before .args in
-    let at = 37 * args .used in
-    let l : at + 37 ≤ length (args .answers .now) = omega arith in
-    let n : c .before .four .result ≡ num (part (args .answers .now) (at + 1) 4) =
-    rw (num-4 (args .answers .now) (at + 1) (omega arith)) (c .before .four .ensures .0) in (
-      search needs,
-      search needs,
+    let at = answerBytes * args .used in
+    let l : at + answerBytes ≤ length (args .answers .now) = omega arith in
+    let n : c .before .four .result ≡ num (part (args .answers .now) (at + sizeFrom) 4) =
+    rw (num-4 (args .answers .now) (at + sizeFrom) (omega arith)) (c .before .four .ensures .0) in (
+      refl,
+      refl,
       λ s env i st a x u.
           rw (
             fetch-taken s _ env i st _ _ a _ _ x u (c .before .before .before .before .before .before .before .if1 .left) l,
@@ -51,12 +52,12 @@ returns-5 : tie.Need-returns-5
 unfolding unless
 returns-5 c =
     let args = c .before .before .before .before .before .before .before .before .before .before .before .before .before .before .before .args in
-    let at = 37 * args .used in
-    let l : at + 37 ≤ length (args .answers .now) = omega (arith, c .before .before .before .before .before .before .before .before .before .before .before .if2 .left, c .before .before .before .before .before .before .before .before .before .before .before .before .before .before .before .pre .1) in
-    let n : c .before .before .before .before .before .before .four .result ≡ num (part (args .answers .now) (at + 1) 4) =
-    rw (num-4 (args .answers .now) (at + 1) (omega arith)) (c .before .before .before .before .before .before .four .ensures .0) in (
-      search needs,
-      search needs,
+    let at = answerBytes * args .used in
+    let l : at + answerBytes ≤ length (args .answers .now) = omega (arith, c .before .before .before .before .before .before .before .before .before .before .before .if2 .left, c .before .before .before .before .before .before .before .before .before .before .before .before .before .before .before .pre .1) in
+    let n : c .before .before .before .before .before .before .four .result ≡ num (part (args .answers .now) (at + sizeFrom) 4) =
+    rw (num-4 (args .answers .now) (at + sizeFrom) (omega arith)) (c .before .before .before .before .before .before .four .ensures .0) in (
+      refl,
+      refl,
       λ s env i st a x u.
           rw (
             fetch-taken s _ env i st _ _ a _ _ x u (c .before .before .before .before .before .before .before .before .before .before .before .before .if1 .left) l,

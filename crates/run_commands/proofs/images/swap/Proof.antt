@@ -1,4 +1,5 @@
 use Prim.Native.Nat.{_-_}
+use mathlib.Core.Path.{refl}
 use native.Mathlib.Omega.{arith}
 use lib.ListN.{getD}
 use Rattle.run_slots.specs.Slot.{Holds}
@@ -11,12 +12,12 @@ use Rattle.run_commands.proofs.images.swap.Statement.{statement}
 use Rattle.run_commands.proofs.images.swap.Tie as tie
 
 returns : tie.Need-returns
-returns c = (search needs, λ s env i st a h. rw (swap-unset s _ env i st _ _ a (c .before .before .args .assigned .now) h (c .if1 .taken)))
+returns c = (refl, λ s env i st a h. rw (swap-unset s _ env i st _ _ a (c .before .before .args .assigned .now) h (c .if1 .taken)))
 
 returns-2 : tie.Need-returns-2
 unfolding unless
 returns-2 c = (
-  search needs,
+  refl,
   λ s env i st a h. rw (swap-set s _ env i st _ _ a (c .before .before .before .before .before .before .args .assigned .now) h (c .before .before .before .before .if1 .left), fails _ _ (c .before .present .ensures) (c .if2 .taken)),
 )
 
@@ -26,7 +27,7 @@ present-requires-2 c κs = c .before .before .before .before .before .before .be
 returns-3 : tie.Need-returns-3
 unfolding unless
 returns-3 c = (
-  search needs,
+  refl,
   λ s env i st a h.
       rw (
         swap-set s _ env i st _ _ a (c .before .before .before .before .before .before .before .before .before .args .assigned .now) h (c .before .before .before .before .before .before .before .if1 .left),
@@ -41,7 +42,7 @@ size-requires c κs = c .before .before .before .before .before .before .before 
 returns-4 : tie.Need-returns-4
 unfolding unless
 returns-4 c = (
-  search needs,
+  refl,
   λ s env i st a h.
       rw (
         swap-set s _ env i st _ _ a (c .before .before .before .before .before .before .before .before .before .before .before .before .before .before .args .assigned .now) h (c .before .before .before .before .before .before .before .before .before .before .before .before .if1 .left),
@@ -59,7 +60,7 @@ capacity-requires-2 c κs = c .before .before .before .before .before .before .b
 returns-5 : tie.Need-returns-5
 unfolding unless
 returns-5 c = (
-  search needs,
+  refl,
   λ s env i st a h.
       rw (
         swap-set s _ env i st _ _ a (c .before .before .before .before .before .before .before .before .before .before .before .before .before .before .before .before .before .before .before .args .assigned .now) h (c .before .before .before .before .before .before .before .before .before .before .before .before .before .before .before .before .before .if1 .left),
@@ -86,7 +87,7 @@ put-image-requires-2 c κs =
 returns-6 : tie.Need-returns-6
 unfolding unless
 returns-6 c = (
-  search needs,
+  refl,
   λ s env i st a h.
       rw (
         swap-set s _ env i st _ _ a (c .before .before .before .before .before .before .before .before .before .before .before .before .before .before .before .before .before .before .before .before .before .before .before .before .before .before .before .before .before .before .before .args .assigned .now) h (c .before .before .before .before .before .before .before .before .before .before .before .before .before .before .before .before .before .before .before .before .before .before .before .before .before .before .before .before .before .if1 .left),

@@ -3,6 +3,7 @@ use native.Mathlib.Omega.{arith}
 use lib.ListN.{length}
 use borrow.Author.Needs.{needs}
 use borrow.Author.Tests.{ne-eqb}
+use Rattle.rules.specs.Limits.{allParams}
 use Rattle.rules.specs.Step.{acts}
 use Rattle.run_commands.specs.Op.{opOf}
 use Rattle.run_slots.proofs.ParamsLaws.{fit-over, fit-stored}
@@ -63,23 +64,23 @@ returns-4 : tie.Need-returns-4
 unfolding opOf acts
 returns-4 c =
     rw (c .ended4 .ensures)
-    (refl, search needs, λ env trace h l f. rw (c .before .match .keys4), λ n f g. f)
+    (refl, refl, λ env trace h l f. rw (c .before .match .keys4), λ n f g. f)
 
 returns-5 : tie.Need-returns-5
 unfolding opOf acts
 returns-5 c =
     rw (c .ended5 .ensures)
-    (refl, search needs, λ env trace h l f. rw (c .before .match .keys5), λ n f g. f)
+    (refl, refl, λ env trace h l f. rw (c .before .match .keys5), λ n f g. f)
 
 returns-6 : tie.Need-returns-6
 unfolding opOf acts
 returns-6 c =
     rw (c .ended6 .ensures)
     (let start = c .before .before .before .before .before .before .before .before .before .before in
-    let w : length (start .args .params .now) ≡ 40 = c .before .before .before .store-arg .given .0 .1 in
+    let w : length (start .args .params .now) ≡ allParams = c .before .before .before .store-arg .given .0 .1 in
     let p = c .before .before .before .before .before .load .result in (
       refl,
-      search needs,
+      refl,
       λ env trace h l f.
           rw (
             c .before .before .before .before .match .keys6,
@@ -97,10 +98,10 @@ unfolding opOf acts
 returns-7 c =
     rw (c .ended7 .ensures)
     (let start = c .before .before .before .before .before .before .before .before .before .before in
-    let w : length (start .args .params .now) ≡ 40 = c .before .before .before .store-arg2 .given .0 .1 in
+    let w : length (start .args .params .now) ≡ allParams = c .before .before .before .store-arg2 .given .0 .1 in
     let p = c .before .before .before .before .before .load .result in (
       refl,
-      search needs,
+      refl,
       λ env trace h l f.
           rw (
             c .before .before .before .before .match .keys7,

@@ -5,17 +5,17 @@ use native.Mathlib.Omega.{arith}
 use borrow.Author.Needs.{needs}
 use lib.ListN.{length, length-set}
 use lib.Seq.{sets}
-use Rattle.rules.specs.Slots.{putImage}
+use Rattle.rules.specs.Slots.{answerBytes, putImage}
 use Rattle.byte_buffer.proofs.ByteLoops.{putFrom, put-start, put-next, put-end}
 use Rattle.run_slots.proofs.image.put_image.Statement.{statement}
 use Rattle.run_slots.proofs.image.put_image.Tie as tie
 
 abbrev Inv-loop : tie.InvT-loop
 Inv-loop slots₀ k image at i₀ slots i =
-    (i ≤ 37) × (length slots ≡ length slots₀) × (sets slots₀ at image ≡ putFrom at image i slots)
+    (i ≤ answerBytes) × (length slots ≡ length slots₀) × (sets slots₀ at image ≡ putFrom at image i slots)
 
 abbrev μ-loop : tie.MeasureT-loop
-μ-loop slots₀ k image at i₀ slots i = 37 - i
+μ-loop slots₀ k image at i₀ slots i = answerBytes - i
 
 loop-holds : tie.Need-loop-holds Inv-loop μ-loop
 loop-holds c = (omega arith, refl, put-start _ _ _)

@@ -1,8 +1,10 @@
-use Prim.Native.Nat.{suc, _+_, _*_}
-use mathlib.Core.Path.{_≡_}
+use Prim.Native.Nat.{_*_}
+use mathlib.Core.List.{[], _∷_}
 use native.Mathlib.Omega.{arith}
 use lib.ListN.{length-set}
 use borrow.Author.Needs.{needs}
+use Rattle.rules.specs.Limits.{paramNumbers}
+use Rattle.byte_buffer.proofs.PutLaws.{in-a-row}
 use Rattle.run_slots.specs.Params.{stored}
 use Rattle.run_slots.proofs.params.store.Statement.{statement}
 use Rattle.run_slots.proofs.params.store.Tie as tie
@@ -10,12 +12,9 @@ use Rattle.run_slots.proofs.params.store.Tie as tie
 returns : tie.Need-returns
 unfolding stored
 returns c =
-    let at = 5 * c .args .i in
-    let a : at + 1 ≡ suc at = omega arith in
-    let b : at + 2 ≡ suc (suc at) = omega arith in
-    let d : at + 3 ≡ suc (suc (suc at)) = omega arith in
-    let e : at + 4 ≡ suc (suc (suc (suc at))) = omega arith in
-    rw (a, b, d, e)
+    let a = c .args in
+    in-a-row (a .params .now) (paramNumbers * a .i) (a .p .uri ∷ [])
+    ((a .p .length ∷ []) ∷ (a .p .source ∷ []) ∷ (a .p .digest ∷ []) ∷ (a .p .size ∷ []) ∷ [])
 
 pub store-spec : {M : Type 1} → statement M
 store-spec =

@@ -1,15 +1,16 @@
--- The invariant: the slots of the first i identifiers are assigned, and stand in the array, which has 8 numbers.
+-- The invariant: the slots of the first i identifiers are assigned, and stand in the array, which keeps its length.
 use Prim.Native.Nat.{ℕ, _-_, _≤_}
 use mathlib.Core.Path.{_≡_, sym}
 use native.Mathlib.Omega.{arith}
 use borrow.Author.Needs.{needs}
 use lib.ListN.{length}
-use Rattle.run_slots.proofs.SearchLaws.{Sofar, sofar-start, sofar-stop, sofar-next, sofar-all, sofar-found}
+use Rattle.rules.specs.Limits.{limits}
+use Rattle.run_slots.proofs.SearchLaws.{Sofar, sofar-start, sofar-stop, sofar-kept, sofar-next, sofar-all, sofar-found, sofar-done}
 use Rattle.run_slots.proofs.search.find_slots.Statement.{statement}
 use Rattle.run_slots.proofs.search.find_slots.Tie as tie
 
 abbrev Inv-loop : tie.InvT-loop
-Inv-loop s ids n slots numbers₀ count i₀ numbers i = (i ≤ n) × (length numbers ≡ 8) × Sofar s ids n slots numbers₀ numbers i
+Inv-loop s ids n slots numbers₀ count i₀ numbers i = (i ≤ n) × (length numbers ≡ limits .components) × Sofar s ids n slots numbers₀ numbers i
 
 abbrev μ-loop : tie.MeasureT-loop
 μ-loop s ids n slots numbers₀ count i₀ numbers i = n - i
@@ -27,8 +28,9 @@ slot-of-requires c κs =
 
 returns : tie.Need-returns Inv-loop μ-loop
 returns c =
-    let no = sofar-stop _ _ _ _ _ _ _ (c .before .before .before .before .before .loop .inv .2) (omega arith) _ (c .before .slot-of .ensures) (c .if1 .taken) in
-    (sym no, λ q. let z : _≡_ {A = ℕ} 0 1 = cc in absurd (omega arith))
+    let h = c .before .before .before .before .before .loop .inv .2 in
+    let no = sofar-stop _ _ _ _ _ _ _ h (omega arith) _ (c .before .slot-of .ensures) (c .if1 .taken) in
+    (sym no, λ q. let z : _≡_ {A = ℕ} 0 1 = cc in absurd (omega arith), sofar-kept _ _ _ _ _ _ _ h (omega arith) _ (c .before .slot-of .ensures) (c .if1 .taken))
 
 loop-again : tie.Need-loop-again Inv-loop μ-loop
 loop-again c = (
@@ -41,6 +43,7 @@ returns-2 : tie.Need-returns-2 Inv-loop μ-loop
 returns-2 c = (
   sym (sofar-all _ _ _ _ _ _ _ (c .before .loop .inv .2) (omega arith)),
   λ q. sofar-found _ _ _ _ _ _ _ (c .before .loop .inv .2) (omega arith),
+  sofar-done _ _ _ _ _ _ _ (c .before .loop .inv .2) (omega arith),
 )
 
 pub find-slots-spec : {M : Type 1} → statement M
