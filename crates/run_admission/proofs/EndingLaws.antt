@@ -32,9 +32,9 @@ finished-law n = go (eqb n 0) (eqb n 1) (eqb n 2)
     go false false false = failed (failureOf n)
 
 -- 'The device takes the manifest's sequence number exactly when install finishes'
-module _ (group : Group) (stop new old : ℕ) (e : group ≡ Install) where
-  pub takes : stop ≡ 0 → new ≡ numberAfter group (endOf stop) new old
-  takes z = rw (e, finished-law stop, eq-eqb stop 0 z)
+module _ (group : Group) (end new old : ℕ) (e : group ≡ Install) where
+  pub takes : end ≡ 0 → new ≡ numberAfter group (endOf end) new old
+  takes z = rw (e, finished-law end, eq-eqb end 0 z)
 
-  pub keeps : (stop ≡ 0 → ⊥) → old ≡ numberAfter group (endOf stop) new old
-  keeps d = rw (e, finished-law stop, ne-eqb stop 0 d)
+  pub keeps : (end ≡ 0 → ⊥) → old ≡ numberAfter group (endOf end) new old
+  keeps d = rw (e, finished-law end, ne-eqb end 0 d)

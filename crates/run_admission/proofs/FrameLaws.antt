@@ -11,7 +11,7 @@ use Rattle.rules.specs.declared.answers.Group.{Group}
 use Rattle.rules.specs.declared.answers.Refusal.{Refusal}
 use Rattle.rules.specs.declared.answers.Refusal.the-variants.{NotVerified, EventOpen, WrongNumber, BadSlots, NoSlot, BadAnswers, ShortTrace}
 use Rattle.rules.specs.Answers.{refusalOf, endOf}
-use Rattle.rules.specs.Limits.{limits}
+use Rattle.rules.specs.Limits.{limits, allParams}
 use Rattle.rules.specs.Bytes.{Bytes, allIn}
 use Rattle.rules.specs.Got.{Got, refused, got, need, _>>=_}
 use Rattle.rules.specs.Commands.{Params}
@@ -66,7 +66,7 @@ module _ (group : Group) (number : ℕ) (ids : List Bytes) (x : Input) where
 
   record Tested : Type 0 where
     slots : goodSlots (x .slots) ≡ true
-    answers : length (x .answers) % 37 ≡ 0
+    answers : length (x .answers) % answerBytes ≡ 0
     trace : limits .trace ≤ length (x .trace)
 
   tested : admit group number ids x ≡ got tt → Tested
@@ -106,18 +106,18 @@ module _ (group : Group) (number : ℕ) (ids : List Bytes) (x : Input) (refusal 
     unfolding runOf
     ran-run body o q = rw (admitted, q)
 
-    module _ (few : length ids ≤ limits .components) (assigned : List ℕ) (f : Found ids (x .slots) (replicate 8 0) assigned) where
+    module _ (few : length ids ≤ limits .components) (assigned : List ℕ) (f : Found ids (x .slots) (replicate (limits .components) 0) assigned) where
       holds : AllHold assigned (x .slots)
       holds i h = go (ltb i (length ids)) refl
         where
           go : (b : Bool) → ltb i (length ids) ≡ b → Holds (x .slots) (getD assigned i 0)
           go true l = f .there i (ltb-true _ _ l)
           go false l =
-              let y : getD assigned i 0 ≡ 0 = f .beyond i (ltb-false _ _ l) ∙ getD-replicate {A = ℕ} 8 i 0 0 h in
+              let y : getD assigned i 0 ≡ 0 = f .beyond i (ltb-false _ _ l) ∙ getD-replicate {A = ℕ} (limits .components) i 0 0 h in
               rw y (omega (arith, good-some (x .slots) (facts .slots)))
 
       -- what the run is lent, with all parameters unset
-      pub lent-start : (s : Bytes) → Lent (envOf ids x) s (x .device .vendor) (x .device .class) assigned (x .answers) (x .slots) (replicate 40 0) (x .trace)
+      pub lent-start : (s : Bytes) → Lent (envOf ids x) s (x .device .vendor) (x .device .class) assigned (x .answers) (x .slots) (replicate allParams 0) (x .trace)
       lent-start s =
           record {
             host = record { vendors = refl; classes = refl; replies = refl; few = few; numbers = λ i h. sym (f .number i h) };
@@ -127,20 +127,20 @@ module _ (group : Group) (number : ℕ) (ids : List Bytes) (x : Input) (refusal 
             room = facts .trace;
           }
 
-pub state-start : (s : Bytes) (ids : List Bytes) (x : Input) → stateAt s (length ids) (replicate 40 0) (x .slots) (x .trace) 0 0 ≡ startState ids x
+pub state-start : (s : Bytes) (ids : List Bytes) (x : Input) → stateAt s (length ids) (replicate allParams 0) (x .slots) (x .trace) 0 0 ≡ startState ids x
 state-start s ids x = ap (λ (ps : List Params). state ps (x .slots) (x .trace) 0 0) (params-start s (length ids))
 
 -- what is handed back is what the rule's answer says
 pub settles-refused : (x : Input) (g : Got Ran) (k : Refusal) (p : ℕ) → g ≡ refused k p →
     Settles (x .device) g (record { answer = The.Refused k p; number = x .device .number }) (x .slots) (x .slots) (x .trace) (x .trace)
-settles-refused x g k p q = rw q (refl, refl, refl)
+settles-refused x g k p q = rw q (refl, refl, refl, refl)
 
-settles-ran : (group : Group) (number : ℕ) (x : Input) (stop events used : ℕ) (ps : List Params) (slots trace : Bytes) (g : Got Ran) →
-    g ≡ got (report group number x (out (endOf stop) (state ps slots trace events used))) → (ending : Ending) (after : ℕ) → ending ≡ endingOf stop events used trace →
-    after ≡ numberAfter group (endOf stop) number (x .device .number) →
+settles-ran : (group : Group) (number : ℕ) (x : Input) (end events used : ℕ) (ps : List Params) (slots trace : Bytes) (g : Got Ran) →
+    g ≡ got (report group number x (out (endOf end) (state ps slots trace events used))) → (ending : Ending) (after : ℕ) → ending ≡ endingOf end events used trace →
+    after ≡ numberAfter group (endOf end) number (x .device .number) →
     Settles (x .device) g (record { answer = The.Ran ending; number = after }) (x .slots) slots (x .trace) trace
 unfolding report
-settles-ran group number x stop events used ps slots trace g q ending after p w = rw (q, p, w, finished-law stop) (refl, refl, refl)
+settles-ran group number x end events used ps slots trace g q ending after p w = rw (q, p, w, finished-law end) (refl, refl, refl, refl)
 
 -- the answer of a job that is a run of that body
 module _ (group : Group) (number : ℕ) (ids : List Bytes) (x : Input) (body : Env → State → Out) (job : Got Ran) (is : job ≡ runOf group number ids body x)
@@ -149,11 +149,11 @@ module _ (group : Group) (number : ℕ) (ids : List Bytes) (x : Input) (body : E
       Settles (x .device) job (record { answer = The.Refused r 0; number = x .device .number }) (x .slots) (x .slots) (x .trace) (x .trace)
   refused-answer d r q = settles-refused x job r 0 (is ∙ rw q (refused-run group number ids x refusal e body d))
 
-  module _ (z : refusal ≡ 0) (stop events used : ℕ) (ps : List Params) (slots trace : Bytes)
-      (goes : out (endOf stop) (state ps slots trace events used) ≡ body (envOf ids x) (startState ids x)) where
-    pub run-as : job ≡ got (report group number x (out (endOf stop) (state ps slots trace events used)))
+  module _ (z : refusal ≡ 0) (end events used : ℕ) (ps : List Params) (slots trace : Bytes)
+      (goes : out (endOf end) (state ps slots trace events used) ≡ body (envOf ids x) (startState ids x)) where
+    pub run-as : job ≡ got (report group number x (out (endOf end) (state ps slots trace events used)))
     run-as = is ∙ ran-run group number ids x refusal e z body _ goes
 
-    pub answered : (ending : Ending) (after : ℕ) → ending ≡ endingOf stop events used trace → after ≡ numberAfter group (endOf stop) number (x .device .number) →
+    pub answered : (ending : Ending) (after : ℕ) → ending ≡ endingOf end events used trace → after ≡ numberAfter group (endOf end) number (x .device .number) →
         Settles (x .device) job (record { answer = The.Ran ending; number = after }) (x .slots) slots (x .trace) trace
-    answered ending after p w = settles-ran group number x stop events used ps slots trace job run-as ending after p w
+    answered ending after p w = settles-ran group number x end events used ps slots trace job run-as ending after p w

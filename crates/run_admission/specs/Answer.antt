@@ -1,13 +1,20 @@
 -- What a run hands back, and what it leaves in lent memory.
 use Prim.Native.Nat.{ℕ, _-_, _*_}
+use mathlib.Core.List.{List, [], _∷_}
 use mathlib.Core.Path.{_≡_}
-use mathlib.Core.Bool.{Bool, cond}
+use mathlib.Core.Bool.{Bool, _&&_, cond}
 use lib.Dec.{eqb}
+use lib.Seq.{sets}
+use Rattle.rules.specs.declared.answers.Group.{Group}
 use Rattle.rules.specs.declared.controller.Controller.{Controller}
-use Rattle.rules.specs.Answers.{refusalNumber, endOf}
+use Rattle.rules.specs.Answers.{refusalNumber, endNumber, endOf}
 use Rattle.rules.specs.Bytes.{Bytes, num, part}
 use Rattle.rules.specs.Got.{Got, refused, got}
-use Rattle.rules.specs.Run.{Input, Ran}
+use Rattle.rules.specs.Slots.{goodSlots}
+use Rattle.rules.specs.Step.{eventBytes, eventPlace}
+use Rattle.rules.specs.Run.{Input, Ran, mayStart, numberFits}
+use Rattle.run_slots.specs.Slot.{slotNumbers}
+use Rattle.run_admission.specs.declared.answer.Answer as The
 use Rattle.run_admission.specs.declared.answer.Answer.the-variants as Answer
 use Rattle.run_admission.specs.declared.answer.Ending.{Ending}
 use Rattle.run_admission.specs.declared.answer.Outcome.{Outcome}
@@ -31,9 +38,24 @@ abbrev pub traceAfter : Bytes → Got Ran → Bytes
 traceAfter trace (refused r p) = trace
 traceAfter trace (got r) = r .trace
 
--- r, and what is in the lent slots and trace after the run, are what the rule's answer g says
+-- the numbers that document 01 gives an answer: of a refusal its number and place; of a run that was not refused those of its end, the
+-- place, the events, and the answers used
+abbrev pub answerNumbers : The.Answer → List ℕ
+answerNumbers (Answer.Refused r p) = refusalNumber r ∷ p ∷ []
+answerNumbers (Answer.Ran e) = endNumber (e .end) ∷ e .place ∷ e .events ∷ e .used ∷ []
+
+-- and before them the device's number
+abbrev pub outcomeNumbers : Outcome → List ℕ
+outcomeNumbers o = o .number ∷ answerNumbers (o .answer)
+
+-- the same of the rule's answer
+abbrev pub ranNumbers : Controller → Got Ran → List ℕ
+ranNumbers device (refused r p) = device .number ∷ refusalNumber r ∷ p ∷ []
+ranNumbers device (got r) = r .number ∷ endNumber (r .end) ∷ r .place ∷ r .events ∷ r .used ∷ []
+
+-- r, and what is in the lent slots and trace after the run, are what the rule's answer g says; so are the numbers of r
 abbrev pub Settles : Controller → Got Ran → Outcome → Bytes → Bytes → Bytes → Bytes → Type 0
-Settles device g r slots slots′ trace trace′ = (r ≡ outcomeOf device g) × (slots′ ≡ slotsAfter slots g) × (trace′ ≡ traceAfter trace g)
+Settles device g r slots slots′ trace trace′ = (r ≡ outcomeOf device g) × (slots′ ≡ slotsAfter slots g) × (trace′ ≡ traceAfter trace g) × (outcomeNumbers r ≡ ranNumbers device g)
 
 -- the number of a refusal, 0 for none
 abbrev pub refusalIn : {A : Type 0} → Got A → ℕ
@@ -45,7 +67,13 @@ abbrev pub endingOf : ℕ → ℕ → ℕ → Bytes → Ending
 endingOf end events used trace =
     record {
       end = endOf end;
-      place = cond (eqb end 0) 0 (num (part trace (8 * events - 4) 2));
+      place = cond (eqb end 0) 0 (num (part trace (eventBytes * events - (eventBytes - eventPlace)) 2));
       events = events;
       used = used;
     }
+
+-- what the tests of a run leave in the numbers of slots: where those before 83 hold, the slots are looked for
+abbrev pub assignedAfter : Group → ℕ → List Bytes → Input → List ℕ → List ℕ
+assignedAfter group number ids x before =
+    cond (x .verdict && mayStart group (x .device) && numberFits group number (x .device) && goodSlots (x .slots))
+    (sets before 0 (slotNumbers ids (x .slots))) before

@@ -3,10 +3,12 @@ ghost use mathlib.Core.Path.{_≡_};
 ghost use Prim.Native.Nat.{ℕ, _≤_, _<_};
 ghost use lib.ListN.{length};
 ghost use Rattle.rules.specs.Bytes.{spanAt};
+ghost use Rattle.rules.specs.Limits.{limits};
 ghost use Rattle.rules.specs.Run as Rule;
 ghost use Rattle.run_slots.specs.Slot.{namesAt, Found};
-ghost use Rattle.run_admission.specs.Answer.{inputOf, refusalIn};
+ghost use Rattle.run_admission.specs.Answer.{inputOf, refusalIn, assignedAfter};
 use rules::answers::Group;
+use rules::answers::Refusal;
 use rules::controller::Controller;
 use rules::controller::Places;
 use rules::controller::SlotNumbers;
@@ -49,29 +51,29 @@ pub fn admit(
     trace: &[u8],
     assigned: &mut SlotNumbers,
 ) -> usize
-    requires { ⌜ (n ≤ 8) × ((k : ℕ) → k < n → (spanAt (now ids) k .from ≤ spanAt (now ids) k .to) × (spanAt (now ids) k .to ≤ length (now s))) ⌝ }
-    ensures { λ r. ⌜ (r ≡ refusalIn (Rule.admit group number (namesAt (now (s .entry)) (now (ids .entry)) n) (inputOf verdict device (now (slots .entry)) (now (answers .entry)) (now (trace .entry))))) × (r ≡ 0 → Found (namesAt (now (s .entry)) (now (ids .entry)) n) (now (slots .entry)) (now (assigned .entry)) (now (assigned .exit))) ⌝ }
+    requires { ⌜ (n ≤ limits .components) × ((k : ℕ) → k < n → (spanAt (now ids) k .from ≤ spanAt (now ids) k .to) × (spanAt (now ids) k .to ≤ length (now s))) ⌝ }
+    ensures { λ r. ⌜ (r ≡ refusalIn (Rule.admit group number (namesAt (now (s .entry)) (now (ids .entry)) n) (inputOf verdict device (now (slots .entry)) (now (answers .entry)) (now (trace .entry))))) × (r ≡ 0 → Found (namesAt (now (s .entry)) (now (ids .entry)) n) (now (slots .entry)) (now (assigned .entry)) (now (assigned .exit))) × (now (assigned .exit) ≡ assignedAfter group number (namesAt (now (s .entry)) (now (ids .entry)) n) (inputOf verdict device (now (slots .entry)) (now (answers .entry)) (now (trace .entry))) (now (assigned .entry))) ⌝ }
 {
     if !verdict {
-        return 80;
+        return Refusal::NOT_VERIFIED;
     }
     if !may_start(group, device) {
-        return 81;
+        return Refusal::EVENT_OPEN;
     }
     if !number_fits(group, number, device) {
-        return 82;
+        return Refusal::WRONG_NUMBER;
     }
     if !good_slots(slots) {
-        return 85;
+        return Refusal::BAD_SLOTS;
     }
     if !find_slots(s, ids, n, slots, assigned) {
-        return 83;
+        return Refusal::NO_SLOT;
     }
     if answers.len() % IMAGE_BYTES != 0 {
-        return 86;
+        return Refusal::BAD_ANSWERS;
     }
     if trace.len() < Controller::TRACE_BYTES {
-        return 84;
+        return Refusal::SHORT_TRACE;
     }
     0
 }

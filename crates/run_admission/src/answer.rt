@@ -1,6 +1,10 @@
 // What a run answers.
+ghost use mathlib.Core.Path.{_≡_};
+ghost use Rattle.rules.specs.Got as Got;
+ghost use Rattle.run_admission.specs.Answer.{outcomeOf};
 use rules::answers::End;
 use rules::answers::Refusal;
+use rules::controller::Controller;
 
 // How a run ended.
 pub struct Ending {
@@ -21,4 +25,14 @@ pub enum Answer {
 pub struct Outcome {
     pub answer: Answer,
     pub number: u32,
+}
+
+// A refusal leaves the device's number as it is.
+pub fn refused(refusal: Refusal, place: usize, device: Controller) -> Outcome
+    ensures { λ r. ⌜ r ≡ outcomeOf device (Got.refused refusal place) ⌝ }
+{
+    Outcome {
+        answer: Answer::Refused(refusal, place),
+        number: device.number,
+    }
 }

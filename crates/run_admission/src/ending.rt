@@ -7,26 +7,32 @@ ghost use lib.ListN.{length};
 ghost use Rattle.rules.specs.Answers.{endOf};
 ghost use Rattle.rules.specs.Bytes.{num, part};
 ghost use Rattle.rules.specs.Run.{numberAfter};
+ghost use Rattle.rules.specs.Step.{eventBytes, eventPlace};
 ghost use Rattle.run_admission.specs.Answer.{endingOf};
 use crate::answer::Ending;
 use byte_buffer::two;
 use rules::answers::End;
 use rules::answers::Group;
+use rules::event_format::EVENT_BYTES;
+use rules::event_format::PLACE;
+
+// The bytes of an event from its place on.
+const FROM_PLACE: usize = EVENT_BYTES - PLACE;
 
 // The place of the last event, 0 where the run finished.
 fn last_place(end: usize, events: usize, trace: &[u8]) -> usize
-    requires { ⌜ (0 < end → 0 < events) × (8 * events ≤ length (now trace)) ⌝ }
-    ensures { λ r. ⌜ r ≡ cond (eqb end 0) 0 (num (part (now (trace .entry)) (8 * events - 4) 2)) ⌝ }
+    requires { ⌜ (0 < end → 0 < events) × (eventBytes * events ≤ length (now trace)) ⌝ }
+    ensures { λ r. ⌜ r ≡ cond (eqb end 0) 0 (num (part (now (trace .entry)) (eventBytes * events - (eventBytes - eventPlace)) 2)) ⌝ }
 {
-    if end == 0 {
+    if end == End::FINISHED {
         return 0;
     }
-    two(trace, 8 * events - 4)
+    two(trace, EVENT_BYTES * events - FROM_PLACE)
 }
 
 // How a run ended, by the number of its end.
 pub fn ended(end: usize, events: usize, used: usize, trace: &[u8]) -> Ending
-    requires { ⌜ (0 < end → 0 < events) × (8 * events ≤ length (now trace)) ⌝ }
+    requires { ⌜ (0 < end → 0 < events) × (eventBytes * events ≤ length (now trace)) ⌝ }
     ensures { λ r. ⌜ r ≡ endingOf end events used (now (trace .entry)) ⌝ }
 {
     Ending {
@@ -42,7 +48,7 @@ pub fn number_after(group: Group, end: usize, new: u32, old: u32) -> u32
     ensures { λ r. ⌜ r ≡ numberAfter group (endOf end) new old ⌝ }
 {
     match group {
-        Group::Install => if end == 0 { new } else { old },
+        Group::Install => if end == End::FINISHED { new } else { old },
         Group::Boot => old,
     }
 }

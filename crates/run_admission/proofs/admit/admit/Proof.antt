@@ -6,60 +6,64 @@ use Rattle.run_admission.proofs.AdmitLaws.{no-verdict, no-start, wrong-
 use Rattle.run_admission.proofs.admit.admit.Statement.{statement}
 use Rattle.run_admission.proofs.admit.admit.Tie as tie
 
-refused-80 : tie.Need-returns
-refused-80 c = no-verdict _ _ _ _ _ (not-true _ (c .if1 .taken))
+not-verified : tie.Need-returns
+not-verified c = no-verdict _ _ _ _ _ _ (not-true _ (c .if1 .taken))
 
-refused-81 : tie.Need-returns-2
-refused-81 c =
-    no-start _ _ _ _ _ (not-false _ (c .before .before .if1 .left))
+event-open : tie.Need-returns-2
+event-open c =
+    no-start _ _ _ _ _ _ (not-false _ (c .before .before .if1 .left))
     (fails _ _ (c .before .may-start .ensures) (c .if2 .taken))
 
-refused-82 : tie.Need-returns-3
-refused-82 c =
-    wrong-number _ _ _ _ _ (not-false _ (c .before .before .before .before .if1 .left))
+number-wrong : tie.Need-returns-3
+number-wrong c =
+    wrong-number _ _ _ _ _ _ (not-false _ (c .before .before .before .before .if1 .left))
     (holds _ _ (c .before .before .before .may-start .ensures) (c .before .before .if2 .left))
     (fails _ _ (c .before .number-fits .ensures) (c .if3 .taken))
 
-refused-85 : tie.Need-returns-4
-refused-85 c =
-    bad-slots _ _ _ _ _ (not-false _ (c .before .before .before .before .before .before .if1 .left))
+slots-bad : tie.Need-returns-4
+slots-bad c =
+    bad-slots _ _ _ _ _ _ (not-false _ (c .before .before .before .before .before .before .if1 .left))
     (holds _ _ (c .before .before .before .before .before .may-start .ensures) (c .before .before .before .before .if2 .left))
     (holds _ _ (c .before .before .before .number-fits .ensures) (c .before .before .if3 .left))
     (fails _ _ (c .before .good-slots .ensures) (c .if4 .taken))
 
-refused-83 : tie.Need-returns-5
-refused-83 c =
-    no-slot _ _ _ _ _ (not-false _ (c .before .before .before .before .before .before .before .before .before .if1 .left))
+slot-missing : tie.Need-returns-5
+slot-missing c =
+    no-slot _ _ _ _ _ _ (not-false _ (c .before .before .before .before .before .before .before .before .before .if1 .left))
     (holds _ _ (c .before .before .before .before .before .before .before .before .may-start .ensures) (c .before .before .before .before .before .before .before .if2 .left))
     (holds _ _ (c .before .before .before .before .before .before .number-fits .ensures) (c .before .before .before .before .before .if3 .left))
     (holds _ _ (c .before .before .before .before .good-slots .ensures) (c .before .before .before .if4 .left))
+    _ (c .before .find-slots .ensures .2)
     (fails _ _ (c .before .find-slots .ensures .0) (c .if5 .taken))
 
-refused-86 : tie.Need-returns-6
-refused-86 c =
-    bad-answers _ _ _ _ _ (not-false _ (c .before .before .before .before .before .before .before .before .before .before .if1 .left))
+answers-bad : tie.Need-returns-6
+answers-bad c =
+    bad-answers _ _ _ _ _ _ (not-false _ (c .before .before .before .before .before .before .before .before .before .before .if1 .left))
     (holds _ _ (c .before .before .before .before .before .before .before .before .before .may-start .ensures) (c .before .before .before .before .before .before .before .before .if2 .left))
     (holds _ _ (c .before .before .before .before .before .before .before .number-fits .ensures) (c .before .before .before .before .before .before .if3 .left))
     (holds _ _ (c .before .before .before .before .before .good-slots .ensures) (c .before .before .before .before .if4 .left))
+    _ (c .before .before .find-slots .ensures .2)
     (holds _ _ (c .before .before .find-slots .ensures .0) (c .before .if5 .left))
     (c .if6 .taken)
 
-refused-84 : tie.Need-returns-7
-refused-84 c =
-    short-trace _ _ _ _ _ (not-false _ (c .before .before .before .before .before .before .before .before .before .before .before .if1 .left))
+trace-short : tie.Need-returns-7
+trace-short c =
+    short-trace _ _ _ _ _ _ (not-false _ (c .before .before .before .before .before .before .before .before .before .before .before .if1 .left))
     (holds _ _ (c .before .before .before .before .before .before .before .before .before .before .may-start .ensures) (c .before .before .before .before .before .before .before .before .before .if2 .left))
     (holds _ _ (c .before .before .before .before .before .before .before .before .number-fits .ensures) (c .before .before .before .before .before .before .before .if3 .left))
     (holds _ _ (c .before .before .before .before .before .before .good-slots .ensures) (c .before .before .before .before .before .if4 .left))
+    _ (c .before .before .before .find-slots .ensures .2)
     (holds _ _ (c .before .before .before .find-slots .ensures .0) (c .before .before .if5 .left))
     (c .before .if6 .left)
     (c .if7 .taken)
 
 all-passed : tie.Need-returns-8
 all-passed c =
-    admitted _ _ _ _ _ (not-false _ (c .before .before .before .before .before .before .before .before .before .before .before .if1 .left))
+    admitted _ _ _ _ _ _ (not-false _ (c .before .before .before .before .before .before .before .before .before .before .before .if1 .left))
     (holds _ _ (c .before .before .before .before .before .before .before .before .before .before .may-start .ensures) (c .before .before .before .before .before .before .before .before .before .if2 .left))
     (holds _ _ (c .before .before .before .before .before .before .before .before .number-fits .ensures) (c .before .before .before .before .before .before .before .if3 .left))
     (holds _ _ (c .before .before .before .before .before .before .good-slots .ensures) (c .before .before .before .before .before .if4 .left))
+    _ (c .before .before .before .find-slots .ensures .2)
     (holds _ _ (c .before .before .before .find-slots .ensures .0) (c .before .before .if5 .left))
     (c .before .if6 .left)
     (c .if7 .left)
@@ -72,15 +76,15 @@ pub admit-spec : {M : Type 1} → statement M
 admit-spec =
     tie.close
     (tie.spec
-    refused-80
+    not-verified
     (λ c κs. search needs)
-    refused-81
+    event-open
     (λ c κs. search needs)
-    refused-82
+    number-wrong
     (λ c κs. search needs)
-    refused-85
+    slots-bad
     find-requires
-    refused-83
-    refused-86
-    refused-84
+    slot-missing
+    answers-bad
+    trace-short
     all-passed)

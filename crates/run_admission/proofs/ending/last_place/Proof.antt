@@ -7,6 +7,7 @@ use native.Mathlib.Omega.{arith}
 use borrow.Author.Needs.{needs}
 use borrow.Author.Tests.{eq-eqb, ne-eqb}
 use Rattle.rules.specs.Bytes.{Bytes, num, part}
+use Rattle.rules.specs.Step.{eventBytes, eventPlace}
 use Rattle.rules.proofs.BytesLaws.{num-2}
 use Rattle.run_admission.proofs.ending.last_place.Statement.{statement}
 use Rattle.run_admission.proofs.ending.last_place.Tie as tie
@@ -14,9 +15,9 @@ use Rattle.run_admission.proofs.ending.last_place.Tie as tie
 finished : tie.Need-returns
 finished c = rw (eq-eqb _ 0 (c .if1 .taken))
 
-last-law : (s : Bytes) (stop events r : ℕ) → (stop ≡ 0 → ⊥) → (0 < stop → 0 < events) × (8 * events ≤ length s) →
-    r ≡ getD s (8 * events - 4) 0 * 256 + getD s (8 * events - 4 + 1) 0 → r ≡ cond (eqb stop 0) 0 (num (part s (8 * events - 4) 2))
-last-law s stop events r d (l, f) e = let g : 0 < events = l (omega arith) in rw (ne-eqb stop 0 d) (e ∙ sym (num-2 s (8 * events - 4) (omega arith)))
+last-law : (s : Bytes) (end events r : ℕ) → (end ≡ 0 → ⊥) → (0 < end → 0 < events) × (eventBytes * events ≤ length s) →
+    r ≡ getD s (eventBytes * events - (eventBytes - eventPlace)) 0 * 256 + getD s (eventBytes * events - (eventBytes - eventPlace) + 1) 0 → r ≡ cond (eqb end 0) 0 (num (part s (eventBytes * events - (eventBytes - eventPlace)) 2))
+last-law s end events r d (l, f) e = let g : 0 < events = l (omega arith) in rw (ne-eqb end 0 d) (e ∙ sym (num-2 s (eventBytes * events - (eventBytes - eventPlace)) (omega arith)))
 
 last : tie.Need-returns-2
 last c = last-law _ _ _ _ (c .before .if1 .left) (c .before .before .before .pre) (c .two .ensures .0)
