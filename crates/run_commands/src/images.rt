@@ -11,6 +11,7 @@ ghost use Rattle.run_slots.specs.Slot.{Holds};
 ghost use Rattle.run_slots.specs.Params.{meaning};
 ghost use Rattle.run_commands.specs.Action.{Ends, At, AllHold, SourceAt};
 use crate::Progress;
+use crate::ended;
 use byte_buffer::four;
 use rules::answers::End;
 use rules::answers::Failure;
@@ -39,43 +40,23 @@ pub(crate) fn fetch(
 {
     let uri = p.uri;
     if uri == 0 {
-        return Progress {
-            events,
-            used,
-            end: Failure::PARAMETER_UNSET,
-        };
+        return ended(Failure::PARAMETER_UNSET, events, used);
     }
     if answers.len() / IMAGE_BYTES <= used {
-        return Progress {
-            events,
-            used,
-            end: Failure::NO_ANSWER,
-        };
+        return ended(Failure::NO_ANSWER, events, used);
     }
     let at = IMAGE_BYTES * used;
     let taken = used + 1;
     if answers[at] != 0 {
-        return Progress {
-            events,
-            used: taken,
-            end: Failure::BAD_STATUS,
-        };
+        return ended(Failure::BAD_STATUS, events, taken);
     }
     if capacity(slots, k) < four(answers, at + SIZE) {
-        return Progress {
-            events,
-            used: taken,
-            end: Failure::TOO_LARGE,
-        };
+        return ended(Failure::TOO_LARGE, events, taken);
     }
     let mut answer = take(answers, at);
     answer[0] = 1;
     put_image(slots, k, answer);
-    Progress {
-        events,
-        used: taken,
-        end: End::FINISHED,
-    }
+    ended(End::FINISHED, events, taken)
 }
 
 // 22, with the parameters p, to the slot of number k.

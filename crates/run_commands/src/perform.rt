@@ -14,6 +14,7 @@ use crate::Progress;
 use crate::conditions::equal_sixteen;
 use crate::conditions::matches;
 use crate::conditions::runs;
+use crate::ended;
 use crate::event::put_event;
 use crate::images::copy;
 use crate::images::fetch;
@@ -37,12 +38,6 @@ use run_slots::params::Params;
 use run_slots::params::load;
 use run_slots::params::over;
 use run_slots::params::store;
-
-fn ended(end: usize, events: usize, used: usize) -> Progress
-    ensures { λ r. ⌜ r ≡ record { events = events; used = used; end = end } ⌝ }
-{
-    Progress { events, used, end }
-}
 
 // The command of that code at component i, whose slot has number k, its event aside.
 fn act(

@@ -13,60 +13,69 @@ use Rattle.run_commands.proofs.images.fetch.Statement.{statement}
 use Rattle.run_commands.proofs.images.fetch.Tie as tie
 
 returns : tie.Need-returns
-returns c = (refl, refl, λ s env i st a x u. rw (fetch-unset s _ env i st _ _ a _ _ x u (c .if1 .taken)))
+returns c =
+    let d = c .before in
+    rw (c .ended .ensures)
+    (refl, refl, λ s env i st a x u. rw (fetch-unset s _ env i st _ _ a _ _ x u (d .if1 .taken)))
 
 returns-2 : tie.Need-returns-2
 returns-2 c =
-    let args = c .before .before .before .before .args in
+    let d = c .before in
+    let args = d .before .before .before .before .args in
     let l : length (args .answers .now) ≤ answerBytes * args .used = omega arith in
-    (refl, refl, λ s env i st a x u. rw (fetch-none s _ env i st _ _ a _ _ x u (c .before .if1 .left) l))
+    rw (c .ended2 .ensures)
+    (refl, refl, λ s env i st a x u. rw (fetch-none s _ env i st _ _ a _ _ x u (d .before .if1 .left) l))
 
 returns-3 : tie.Need-returns-3
 unfolding unless
 returns-3 c =
-    let args = c .before .before .before .before .before .before .args in
+    let d = c .before in
+    let args = d .before .before .before .before .before .before .args in
     let l : answerBytes * args .used + answerBytes ≤ length (args .answers .now) = omega arith in
-    (refl, refl, λ s env i st a x u. rw (fetch-taken s _ env i st _ _ a _ _ x u (c .before .before .before .if1 .left) l, ne-eqb _ _ (c .if3 .taken)))
+    rw (c .ended3 .ensures)
+    (refl, refl, λ s env i st a x u. rw (fetch-taken s _ env i st _ _ a _ _ x u (d .before .before .before .if1 .left) l, ne-eqb _ _ (d .if3 .taken)))
 
 returns-4 : tie.Need-returns-4
 unfolding unless
 returns-4 c =
-    let args = c .before .before .before .before .before .before .before .before .before .before .args in
+    let d = c .before in
+    let args = d .before .before .before .before .before .before .before .before .before .before .args in
     let at = answerBytes * args .used in
     let l : at + answerBytes ≤ length (args .answers .now) = omega arith in
-    let n : c .before .four .result ≡ num (part (args .answers .now) (at + sizeFrom) 4) =
-    rw (num-4 (args .answers .now) (at + sizeFrom) (omega arith)) (c .before .four .ensures .0) in (
+    let n : d .before .four .result ≡ num (part (args .answers .now) (at + sizeFrom) 4) =
+    rw (num-4 (args .answers .now) (at + sizeFrom) (omega arith)) (d .before .four .ensures .0) in rw (c .ended4 .ensures) (
       refl,
       refl,
       λ s env i st a x u.
           rw (
-            fetch-taken s _ env i st _ _ a _ _ x u (c .before .before .before .before .before .before .before .if1 .left) l,
-            eq-eqb _ _ (c .before .before .before .before .if3 .left),
+            fetch-taken s _ env i st _ _ a _ _ x u (d .before .before .before .before .before .before .before .if1 .left) l,
+            eq-eqb _ _ (d .before .before .before .before .if3 .left),
             ← n,
-            ← c .before .before .capacity .ensures,
-            lt-leb _ _ (c .if4 .taken),
+            ← d .before .before .capacity .ensures,
+            lt-leb _ _ (d .if4 .taken),
           ),
     )
 
 returns-5 : tie.Need-returns-5
 unfolding unless
 returns-5 c =
-    let args = c .before .before .before .before .before .before .before .before .before .before .before .before .before .before .before .args in
+    let d = c .before in
+    let args = d .before .before .before .before .before .before .before .before .before .before .before .before .before .before .before .args in
     let at = answerBytes * args .used in
-    let l : at + answerBytes ≤ length (args .answers .now) = omega (arith, c .before .before .before .before .before .before .before .before .before .before .before .if2 .left, c .before .before .before .before .before .before .before .before .before .before .before .before .before .before .before .pre .1) in
-    let n : c .before .before .before .before .before .before .four .result ≡ num (part (args .answers .now) (at + sizeFrom) 4) =
-    rw (num-4 (args .answers .now) (at + sizeFrom) (omega arith)) (c .before .before .before .before .before .before .four .ensures .0) in (
+    let l : at + answerBytes ≤ length (args .answers .now) = omega (arith, d .before .before .before .before .before .before .before .before .before .before .before .if2 .left, d .before .before .before .before .before .before .before .before .before .before .before .before .before .before .before .pre .1) in
+    let n : d .before .before .before .before .before .before .four .result ≡ num (part (args .answers .now) (at + sizeFrom) 4) =
+    rw (num-4 (args .answers .now) (at + sizeFrom) (omega arith)) (d .before .before .before .before .before .before .four .ensures .0) in rw (c .ended5 .ensures) (
       refl,
       refl,
       λ s env i st a x u.
           rw (
-            fetch-taken s _ env i st _ _ a _ _ x u (c .before .before .before .before .before .before .before .before .before .before .before .before .if1 .left) l,
-            eq-eqb _ _ (c .before .before .before .before .before .before .before .before .before .if3 .left),
+            fetch-taken s _ env i st _ _ a _ _ x u (d .before .before .before .before .before .before .before .before .before .before .before .before .if1 .left) l,
+            eq-eqb _ _ (d .before .before .before .before .before .before .before .before .before .if3 .left),
             ← n,
-            ← c .before .before .before .before .before .before .before .capacity .ensures,
-            le-leb _ _ (c .before .before .before .before .before .if4 .left),
-            c .before .before .put-image .ensures,
-            c .before .before .before .before .take .ensures,
+            ← d .before .before .before .before .before .before .before .capacity .ensures,
+            le-leb _ _ (d .before .before .before .before .before .if4 .left),
+            d .before .before .put-image .ensures,
+            d .before .before .before .before .take .ensures,
           ),
     )
 
@@ -74,19 +83,24 @@ pub fetch-spec : {M : Type 1} → statement M
 fetch-spec =
     tie.close
     (tie.spec
+    (λ c κs. search needs)
     returns
+    (λ c κs. search needs)
     returns-2
     (λ c. search needs)
     (λ c. search needs)
     (λ c. search needs)
+    (λ c κs. search needs)
     returns-3
     (λ c κs. search needs)
     (λ c. search needs)
+    (λ c κs. search needs)
     (λ c κs. search needs)
     (λ c. search needs)
     returns-4
     (λ c κs. search needs)
     (λ c. search needs)
+    (λ c κs. search needs)
     (λ c κs. search needs)
     (λ c. search needs)
     returns-5)
