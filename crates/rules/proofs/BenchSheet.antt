@@ -5,6 +5,7 @@ use mathlib.Core.List.{List, [], _∷_, _++_}
 use mathlib.Core.Bool.{true, false}
 use lib.ListN.{set, replicate}
 use Rattle.rules.specs.Base.{Install, Boot}
+use Rattle.rules.specs.Limits.{limits}
 use Rattle.rules.specs.Bytes.{Bytes, span}
 use Rattle.rules.specs.Cbor.{head, whole, item, oneOf}
 use Rattle.rules.specs.Manifest.{count}
@@ -17,7 +18,7 @@ use Rattle.rules.specs.Program.{size, flatSeq, flatAll, programOf, recBy
 use Rattle.rules.specs.ProgramTest.{optional, paramsIn, opIn, recordIn, recordsIn, idsIn, programIn}
 use Rattle.rules.specs.ProgramRun.{exec, runProgram}
 use Rattle.rules.proofs.Cases as Cases
-use Rattle.rules.proofs.Cases.{checks, newest, runs, translates, executes, refusal, part, program, ended, Case, case, wanted, slotBytes, traced}
+use Rattle.rules.proofs.Cases.{checks, newest, runs, translates, executes, refusal, part, program, ended, Case, case, wanted, lentSlot, traced}
 
 abbrev pub digest : Bytes
 digest =
@@ -50,21 +51,21 @@ flash = 0x82 ∷ 0x45 ∷ 0x46 ∷ 0x6c ∷ 0x61 ∷ 0x73 ∷ 0x68 ∷ 0x43 ∷ 
 
 -- one slot, of that component, which holds 34768 bytes with digest d
 abbrev pub holding : Bytes → Bytes
-holding d = slotBytes flash (0 ∷ 1 ∷ 0 ∷ 0 ∷ []) 1 (0 ∷ 0 ∷ 0x87 ∷ 0xd0 ∷ []) d
+holding d = lentSlot flash (0 ∷ 1 ∷ 0 ∷ 0 ∷ []) 1 (0 ∷ 0 ∷ 0x87 ∷ 0xd0 ∷ []) d
 
 -- a device of that number and that slot
 abbrev pub device : ℕ → Bytes → Input
 device n slots =
     record {
       verdict = true;
-      device = record { vendor = replicate 16 0; class = replicate 16 0; number = n; event = false };
+      device = record { vendor = replicate (limits .class) 0; class = replicate (limits .class) 0; number = n; event = false };
       slots = slots;
       answers = [];
-      trace = replicate 2048 0;
+      trace = replicate (limits .trace) 0;
     }
 
 abbrev other : Bytes
-other = replicate 32 0
+other = replicate (limits .digest) 0
 
 abbrev pub events2 : Bytes
 events2 =
@@ -80,8 +81,9 @@ events3 =
 abbrev pub events11 : Bytes
 events11 = 0x53 ∷ 0x54 ∷ 0x13 ∷ 0x00 ∷ 0x00 ∷ 0x21 ∷ 0x00 ∷ 0x00 ∷ []
 
-abbrev pub cases : List Case
-cases =
+-- the sheet's cases; in case 7 the one byte after E is b
+abbrev pub cases : ℕ → List Case
+cases b =
     -- 1
     case (translates E Boot 106) (program bootProgram)
     ∷ case (translates E Boot 105) (refusal 96 0)
@@ -92,7 +94,7 @@ cases =
     ∷ case (checks []) (refusal 65 0)
     ∷ case (checks (0xa2 ∷ [])) (refusal 65 1)
     ∷ case (checks (0xa1 ∷ [])) (refusal 66 0)
-    ∷ case (checks (E ++ (0 ∷ []))) (refusal 65 83)
+    ∷ case (checks (E ++ (b ∷ []))) (refusal 65 83)
     -- 8, 9, 10
     ∷ case (checks (set E 8 0x02)) (refusal 67 8)
     ∷ case (checks (set E 8 0x18)) (refusal 65 8)
@@ -110,6 +112,7 @@ cases =
     ∷ case (executes E (device 1 (holding digest))) (refusal 97 0)
     ∷ []
 
-pub bench-sheet : Cases.given cases ≡ wanted cases
+-- for every byte b: check does not look at it
+pub bench-sheet : (b : ℕ) → Cases.given (cases b) ≡ wanted (cases b)
 unfolding check number key inBytes strings identifier identifiers components parameter entries alternativesAt argument command commandsAt sequenceAt sectionAt commonSeq commonAt sectionsAt manifestAt unread head whole item oneOf count slotAt imageAt putImage slotsIn slotOf goodSlots on unless given passes slotNo slot image filled matches fetches copies swaps acts step runSeq runAll admit report runOf runEnvelope size flatSeq flatAll programOf recBytes programBytes translate optional paramsIn opIn recordIn recordsIn idsIn programIn exec runProgram newer
-bench-sheet = refl
+bench-sheet b = refl

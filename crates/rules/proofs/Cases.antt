@@ -4,6 +4,7 @@ use mathlib.Core.List.{List, _∷_, _++_, map}
 use lib.ListN.{length, replicate}
 use Rattle.rules.specs.Base.{Group}
 use Rattle.rules.specs.Answers.{refusalNumber, endNumber}
+use Rattle.rules.specs.Limits.{limits}
 use Rattle.rules.specs.Bytes.{Bytes, Span}
 use Rattle.rules.specs.Got.{Got, refused, got}
 use Rattle.rules.specs.Manifest.{Manifest}
@@ -63,9 +64,9 @@ abbrev pub wanted : List Case → List Answer
 wanted cs = map (λ c. c .gives) cs
 
 -- a slot in lent bytes: identifier, capacity, present, size (4 bytes each), digest
-abbrev pub slotBytes : Bytes → Bytes → ℕ → Bytes → Bytes → Bytes
-slotBytes id capacity present size digest = length id ∷ id ++ replicate (32 - length id) 0 ++ capacity ++ (present ∷ size) ++ digest
+abbrev pub lentSlot : Bytes → Bytes → ℕ → Bytes → Bytes → Bytes
+lentSlot id capacity present size digest = length id ∷ id ++ replicate (limits .identifier - length id) 0 ++ capacity ++ (present ∷ size) ++ digest
 
--- a trace buffer of 2,048 zeros with those events
+-- a trace buffer of the least length, with those events and zeros after them
 abbrev pub traced : Bytes → Bytes
-traced events = events ++ replicate (2048 - length events) 0
+traced events = events ++ replicate (limits .trace - length events) 0

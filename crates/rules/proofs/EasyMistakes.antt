@@ -5,6 +5,7 @@ use mathlib.Core.Path.{_≡_, refl}
 use mathlib.Core.List.{List, [], _∷_, _++_}
 use lib.ListN.{replicate}
 use Rattle.rules.specs.Base.{Group, Install, Boot}
+use Rattle.rules.specs.Limits.{limits}
 use Rattle.rules.specs.Bytes.{Bytes}
 use Rattle.rules.specs.Got.{Got, refused, got}
 use Rattle.rules.specs.Cbor.{head, whole, item, oneOf}
@@ -17,7 +18,7 @@ use Rattle.rules.specs.Program.{size, flatSeq, flatAll, programOf, recBy
 use Rattle.rules.specs.ProgramTest.{optional, paramsIn, opIn, recordIn, recordsIn, idsIn, programIn}
 use Rattle.rules.specs.ProgramRun.{exec, runProgram}
 use Rattle.rules.proofs.Cases as Cases
-use Rattle.rules.proofs.Cases.{Answer, runs, executes, refusal, ended, Case, case, wanted, slotBytes, traced}
+use Rattle.rules.proofs.Cases.{Answer, runs, executes, refusal, ended, Case, case, wanted, lentSlot, traced}
 use Rattle.rules.proofs.BenchSheet.{E, holding, device, digest}
 
 -- the program of an envelope, in room enough
@@ -27,14 +28,14 @@ bytes (got b) = b
 
 -- the envelope and its program, on the same input, give the same answer
 abbrev bothGive : Bytes → Group → ℕ → Bytes → Answer → List Case
-bothGive s g n slots a = case (runs s g (device n slots)) a ∷ case (executes (bytes (translate s g 32768)) (device n slots)) a ∷ []
+bothGive s g n slots a = case (runs s g (device n slots)) a ∷ case (executes (bytes (translate s g (limits .program))) (device n slots)) a ∷ []
 
 -- slots of the components [h'41'] and [h'42'], which hold an image with the digest 00..00
 abbrev slotA : Bytes
-slotA = slotBytes (0x81 ∷ 0x41 ∷ 0x41 ∷ []) (0 ∷ 0 ∷ 0 ∷ 9 ∷ []) 1 (0 ∷ 0 ∷ 0 ∷ 5 ∷ []) (replicate 32 0)
+slotA = lentSlot (0x81 ∷ 0x41 ∷ 0x41 ∷ []) (0 ∷ 0 ∷ 0 ∷ 9 ∷ []) 1 (0 ∷ 0 ∷ 0 ∷ 5 ∷ []) (replicate (limits .digest) 0)
 
 abbrev slotB : Bytes
-slotB = slotBytes (0x81 ∷ 0x41 ∷ 0x42 ∷ []) (0 ∷ 0 ∷ 0 ∷ 9 ∷ []) 1 (0 ∷ 0 ∷ 0 ∷ 5 ∷ []) (replicate 32 0)
+slotB = lentSlot (0x81 ∷ 0x41 ∷ 0x42 ∷ []) (0 ∷ 0 ∷ 0 ∷ 9 ∷ []) 1 (0 ∷ 0 ∷ 0 ∷ 5 ∷ []) (replicate (limits .digest) 0)
 
 -- 10: try each [20 {digest 00..00}, 1 (another vendor)] or [3]
 abbrev keepsParameters : Bytes

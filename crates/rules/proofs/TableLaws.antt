@@ -9,7 +9,7 @@ use borrow.Author.Tests.{eqb-true}
 use lib.Dec.{eqb}
 use Rattle.rules.specs.declared.tables.Command.{Command}
 use Rattle.rules.specs.declared.tables.Listed.the-variants as L
-use Rattle.rules.specs.Commands.{Row, commands, rowOf, among, isAllowed}
+use Rattle.rules.specs.Commands.{COMMON, PAYLOAD_FETCH, INSTALL, VALIDATE, LOAD, RUN, Row, commands, rowOf, among, isAllowed}
 use Rattle.rules.specs.Tables.{weightOf, setOf, asCommand, listed}
 use Rattle.rules.proofs.GotLaws.{and-true}
 
@@ -82,7 +82,7 @@ listed-none (some r) e = let z : _≡_ {A = ℕ} 0 1 = cc in absurd (omega arith
 
 -- a row's set of sections as a number has the bit of each section that the row allows
 abbrev pub sections : List ℕ
-sections = 3 ∷ 8 ∷ 9 ∷ 10 ∷ 11 ∷ 12 ∷ []
+sections = COMMON ∷ PAYLOAD_FETCH ∷ INSTALL ∷ VALIDATE ∷ LOAD ∷ RUN ∷ []
 
 pub allowed-bit : (c k : ℕ) (r : Row) → rowOf c commands ≡ some r → among k sections ≡ true →
     isAllowed k (r .allowed) ≡ eqb (setOf (r .allowed) / weightOf k % 2) 1
