@@ -12,7 +12,6 @@ use pitvorgas::pitvorgas_check;
 use pitvorgas::pitvorgas_newer;
 use program_test::test::test_program;
 use rules::answers::Refusal;
-use rules::controller::PLACES;
 
 const FILE: usize = 2;
 
@@ -100,8 +99,7 @@ fn put_newest(room: &mut [u8], first: &[u8], second: &[u8]) -> usize
 fn put_listed(room: &mut [u8], program: &[u8]) -> usize
     ensures { λ r. ⌜ Counts r (now (room .exit)) ⌝ }
 {
-    let mut ids = [0usize; PLACES];
-    let tested = test_program(program, &mut ids);
+    let tested = test_program(program);
     if tested.good {
         return put_program(room, 0, program);
     }

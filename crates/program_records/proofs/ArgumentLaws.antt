@@ -1,6 +1,6 @@
 -- What a record of a command may hold, by its row of the command table.
-use Prim.Native.Nat.{ℕ, _-_, _/_, _%_, _≤_, _<_}
-use mathlib.Core.Path.{_≡_, refl, sym, _∙_}
+use Prim.Native.Nat.{ℕ, _-_, _≤_, _<_}
+use mathlib.Core.Path.{_≡_, refl, sym, ap, _∙_}
 use mathlib.Core.List.{[], _∷_}
 use mathlib.Core.Bool.{Bool, true, false, not, _&&_, _||_}
 use mathlib.Core.Option.{some}
@@ -15,6 +15,7 @@ use Rattle.rules.specs.declared.tables.Argument.the-variants.{Sixteen, Nil, Ind
 use Rattle.rules.specs.Bytes.{Bytes, part, same}
 use Rattle.rules.specs.Commands.{Op, Params, isCondition, Form, sixteen, nil, below, alternatives, parameters, sequence, Row, rowOf, commands}
 use Rattle.rules.specs.Tables.{kindOf, setOf}
+use Rattle.rules.specs.Limits.{limits}
 use Rattle.rules.specs.Got.{Got, refused, got}
 use Rattle.rules.specs.Program.{targetOf}
 use Rattle.rules.specs.ProgramFormat.{NONE}
@@ -22,15 +23,13 @@ use Rattle.rules.specs.ProgramTest.{paramsIn, opIn, groupAllows}
 use Rattle.rules.proofs.TableLaws.{rows-agree}
 use Rattle.program_records.specs.declared.parameters.Entries.{Entries}
 use Rattle.program_records.specs.Entries.{ParamsAre}
-use Rattle.program_records.specs.Arguments.{accepted, targetFits}
+use Rattle.program_records.specs.Arguments.{accepted, allowsIn, targetFits}
 use Rattle.program_records.proofs.PartLaws.{length-to}
 
-module _ (c : ℕ) (row : Row) (r : rowOf c commands ≡ some row) (sections : ℕ) (e : setOf (row .allowed) ≡ sections) where
-  pub install-allows : (g : Group) → g ≡ Install → not (eqb (sections % 8) 0) ≡ groupAllows g (row .allowed)
-  install-allows g q = rw (q, ← e) (rows-agree (λ x. not (eqb (setOf (x .allowed) % 8) 0)) (λ x. groupAllows Install (x .allowed)) c row refl r)
-
-  pub boot-allows : (g : Group) → g ≡ Boot → not (eqb (sections / 8) 0) ≡ groupAllows g (row .allowed)
-  boot-allows g q = rw (q, ← e) (rows-agree (λ x. not (eqb (setOf (x .allowed) / 8) 0)) (λ x. groupAllows Boot (x .allowed)) c row refl r)
+-- the test by numbers is the rule's, for each row of the table
+pub row-allows : (c : ℕ) (row : Row) (g : Group) → rowOf c commands ≡ some row → allowsIn g (setOf (row .allowed)) ≡ groupAllows g (row .allowed)
+row-allows c row Install r = rows-agree (λ x. allowsIn Install (setOf (x .allowed))) (λ x. groupAllows Install (x .allowed)) c row refl r
+row-allows c row Boot r = rows-agree (λ x. allowsIn Boot (setOf (x .allowed))) (λ x. groupAllows Boot (x .allowed)) c row refl r
 
 module _ (b : Bool) (target n total : ℕ) where
   pub no-target : target ≡ NONE → true ≡ targetFits b target n total
@@ -58,7 +57,7 @@ targeted op false target n total e = go (eqb target NONE) refl
 
 -- the test of an argument of each kind; a record has no alternatives and no sequence
 abbrev tested : ℕ → Bytes → Argument → Bool
-tested n q Sixteen = eqb (length q) 16
+tested n q Sixteen = eqb (length q) (limits .class)
 tested n q Nil = same q []
 tested n q Index = same q []
 tested n q Alternatives = false
@@ -68,9 +67,9 @@ tested n q Sequence = false
 module _ (n i : ℕ) (q : Bytes) where
   form-tested : (f : Form) → tested n q (kindOf f) ≡ accepted (opIn n i f q)
   unfolding opIn
-  form-tested (sixteen op) = go (eqb (length q) 16) refl
+  form-tested (sixteen op) = go (eqb (length q) (limits .class)) refl
     where
-      go : (b : Bool) → eqb (length q) 16 ≡ b → b ≡ accepted (opIn n i (sixteen op) q)
+      go : (b : Bool) → eqb (length q) (limits .class) ≡ b → b ≡ accepted (opIn n i (sixteen op) q)
       go true e = rw e
       go false e = rw e
   form-tested (nil op) = go (same q []) refl
@@ -98,9 +97,9 @@ empty : (q : Bytes) → same q [] ≡ eqb (length q) 0
 empty [] = refl
 empty (x ∷ q) = sym (ne-eqb (length (x ∷ q)) 0 (λ e. omega arith))
 
-good-is : (p : Bytes) (n : ℕ) (x : Got Params) (e : Entries) → ParamsAre p n x e → e .good ≡ accepted x
-good-is p n (refused r q) e h = h
-good-is p n (got a) e h = h .0
+good-is : (p : Bytes) (n from to : ℕ) (x : Got Params) (e : Entries) → ParamsAre p n from to x e → e .good ≡ accepted x
+good-is p n from to (refused r q) e h = ap (λ (y : Entries). y .good) h
+good-is p n from to (got a) e h = ap (λ (y : Entries). y .good) (h .0)
 
 -- by places
 module _ (p : Bytes) (from to n : ℕ) (pre : (0 < from) × (from ≤ to) × (to ≤ length p)) (k : Argument) where
@@ -110,7 +109,7 @@ module _ (p : Bytes) (from to n : ℕ) (pre : (0 < from) × (from ≤ to) × (to
   abbrev pub Right : Bool → Type 0
   Right b = (f : Form) (i : ℕ) → kindOf f ≡ k → b ≡ accepted (opIn n i f (part p from (to - from)))
 
-  pub sixteen-right : k ≡ Sixteen → Right (eqb (to - from) 16)
+  pub sixteen-right : k ≡ Sixteen → Right (eqb (to - from) (limits .class))
   sixteen-right h f i e = kind-tested n i _ f k _ e (rw (h, size))
 
   none-right : tested n (part p from (to - from)) k ≡ same (part p from (to - from)) [] → Right (eqb to from)
@@ -126,8 +125,8 @@ module _ (p : Bytes) (from to n : ℕ) (pre : (0 < from) × (from ≤ to) × (to
   pub index-right : k ≡ Index → Right (eqb to from)
   index-right h = none-right (rw h)
 
-  pub parameters-right : k ≡ Parameters → (e : Entries) → ParamsAre p n (paramsIn n (part p from (to - from))) e → Right (e .good)
-  parameters-right h g w f i e = kind-tested n i _ f k _ e (rw h (good-is p n (paramsIn n (part p from (to - from))) g w))
+  pub parameters-right : k ≡ Parameters → (e : Entries) → ParamsAre p n from to (paramsIn n (part p from (to - from))) e → Right (e .good)
+  parameters-right h g w f i e = kind-tested n i _ f k _ e (rw h (good-is p n from to (paramsIn n (part p from (to - from))) g w))
 
   pub alternatives-right : k ≡ Alternatives → Right false
   alternatives-right h f i e = kind-tested n i _ f k _ e (rw h)

@@ -1,7 +1,6 @@
 -- A record that the program test has read, by its bytes.
 use Prim.Native.Nat.{ℕ, _+_, _-_, _≤_, _<_}
 use mathlib.Core.Path.{_≡_, refl, sym, _∙_}
-use mathlib.Core.List.{[], _∷_}
 use mathlib.Core.Bool.{Bool, true, false, _&&_, _||_}
 use mathlib.Core.Option.{some, none}
 use native.Mathlib.Omega.{arith}
@@ -14,7 +13,7 @@ use Rattle.rules.specs.Bytes.{Bytes, part, num, same}
 use Rattle.rules.specs.Commands.{Op, Row, rowOf, commands}
 use Rattle.rules.specs.Got.{Got, got, found}
 use Rattle.rules.specs.Program.{Rec, does, jump, targetOf}
-use Rattle.rules.specs.ProgramFormat.{NONE}
+use Rattle.rules.specs.ProgramFormat.{mark, JUMP, NONE, codeFrom, componentFrom, placeFrom, targetFrom, argumentFrom, recordSize}
 use Rattle.rules.specs.ProgramTest.{opIn, groupAllows, recordIn}
 use Rattle.rules.proofs.GotLaws.{and-true, passed, split, both, found-is}
 
@@ -46,25 +45,25 @@ module _ (g : Group) (comps total n : ℕ) where
 
   -- a record of that code
   pub record Kind (r : Rec) (code i place target size : ℕ) (argument : Bytes) : Type 0 where
-    pub jumps : code ≡ 0xff → Jumps r target size
-    pub does : (code ≡ 0xff → ⊥) → Commands r code i place target argument
+    pub jumps : code ≡ JUMP → Jumps r target size
+    pub does : (code ≡ JUMP → ⊥) → Commands r code i place target argument
 
   abbrev pub Read : Bytes → Rec → Bytes → Type 0
   Read p r q =
-      (10 + num (part p 8 2) ≤ length p) × (q ≡ drop (num (part p 8 2)) (drop 10 p))
-      × Kind r (getD p 2 0) (getD p 3 0) (num (part p 4 2)) (num (part p 6 2)) (num (part p 8 2)) (part p 10 (num (part p 8 2)))
+      (recordSize + num (part p argumentFrom 2) ≤ length p) × (q ≡ drop (num (part p argumentFrom 2)) (drop recordSize p))
+      × Kind r (getD p codeFrom 0) (getD p componentFrom 0) (num (part p placeFrom 2)) (num (part p targetFrom 2)) (num (part p argumentFrom 2)) (part p recordSize (num (part p argumentFrom 2)))
 
   pub record-read : (p : Bytes) (r : Rec) (q : Bytes) → recordIn g comps total n p ≡ got (r, q) → Read p r q
   unfolding recordIn
   record-read p r q q₀ =
-      let i : ℕ = getD p 3 0 in
-      let place : ℕ = num (part p 4 2) in
-      let target : ℕ = num (part p 6 2) in
-      let len : ℕ = num (part p 8 2) in
+      let i : ℕ = getD p componentFrom 0 in
+      let place : ℕ = num (part p placeFrom 2) in
+      let target : ℕ = num (part p targetFrom 2) in
+      let len : ℕ = num (part p argumentFrom 2) in
       let forward : Bool = ltb n target && leb target total in
-      let (_, q₁) = passed (leb 10 (length p) && same (take 2 p) (0x53 ∷ 0x50 ∷ [])) BadProgram 0 _ (r, q) q₀ in
-      let (f, q₂) = passed (leb (10 + len) (length p)) BadProgram 0 _ (r, q) q₁ in
-      pick (Read p r q) (eqb (getD p 2 0) 0xff) _ _ (r, q) q₂
+      let (_, q₁) = passed (leb recordSize (length p) && same (take 2 p) mark) BadProgram 0 _ (r, q) q₀ in
+      let (f, q₂) = passed (leb (recordSize + len) (length p)) BadProgram 0 _ (r, q) q₁ in
+      pick (Read p r q) (eqb (getD p codeFrom 0) JUMP) _ _ (r, q) q₂
       (λ c q₃.
       let (t, q₄) = passed (eqb i 0 && eqb place 0 && eqb len 0 && forward) BadProgram 0 _ (r, q) q₃ in
       let (t₁, w) = and-true (eqb i 0 && eqb place 0 && eqb len 0) forward t in
@@ -79,10 +78,10 @@ module _ (g : Group) (comps total n : ℕ) where
         },
       ))
       (λ c q₃.
-      split _ (found (rowOf (getD p 2 0) commands) BadProgram 0) _ (r, q) q₃ λ row qr q₄.
+      split _ (found (rowOf (getD p codeFrom 0) commands) BadProgram 0) _ (r, q) q₃ λ row qr q₄.
       let (_, q₅) = passed (groupAllows g (row .allowed)) BadProgram 0 _ (r, q) q₄ in
       let (b, q₆) = passed (ltb i comps) BadProgram 0 _ (r, q) q₅ in
-      split _ (opIn comps i (row .form) (part p 10 len)) _ (r, q) q₆ λ op qo q₇.
+      split _ (opIn comps i (row .form) (part p recordSize len)) _ (r, q) q₆ λ op qo q₇.
       let (a, q₈) = passed (eqb target NONE || eqb (targetOf op target) target && forward) BadProgram 0 _ (r, q) q₇ in
       let (er, eq) = both q₈ in (
         leb-true _ _ f,

@@ -1,7 +1,6 @@
 -- One record of a program, by its place.
 use Prim.Native.Nat.{ℕ, _+_, _-_, _*_, _≤_, _<_}
 use mathlib.Core.Path.{_≡_, refl, sym, ap, _∙_}
-use mathlib.Core.List.{[], _∷_}
 use mathlib.Core.Bool.{Bool, true, false, not, _&&_, _||_}
 use mathlib.Core.Option.{Option, some, none}
 use native.Mathlib.Omega.{arith}
@@ -15,19 +14,19 @@ use Rattle.rules.specs.declared.answers.Refusal.the-variants.{BadProgram}
 use Rattle.rules.specs.declared.tables.Command.{Command}
 use Rattle.rules.specs.declared.tables.Listed.the-variants as L
 use Rattle.rules.specs.Bytes.{Bytes, part, num, same}
-use Rattle.rules.specs.Commands.{Op, Params, code, isCondition, Form, sixteen, nil, below, alternatives, parameters, sequence, Row, rowOf, commands}
-use Rattle.rules.specs.Tables.{kindOf, setOf, asCommand, listed}
+use Rattle.rules.specs.Commands.{Op, isCondition, Form, Row, rowOf, commands}
+use Rattle.rules.specs.Tables.{kindOf, asCommand, listed}
 use Rattle.rules.specs.Got.{Got, refused, got, found, _>>=_}
 use Rattle.rules.specs.Program.{does, targetOf}
-use Rattle.rules.specs.ProgramFormat.{NONE}
-use Rattle.rules.specs.ProgramTest.{need, paramsIn, opIn, groupAllows, recordIn}
+use Rattle.rules.specs.ProgramFormat.{mark, JUMP, NONE, codeFrom, componentFrom, placeFrom, targetFrom, argumentFrom, recordSize}
+use Rattle.rules.specs.ProgramTest.{need, opIn, groupAllows, recordIn}
 use Rattle.rules.proofs.BytesLaws.{num-2}
-use Rattle.rules.proofs.GotLaws.{passed, split}
-use Rattle.rules.proofs.TableLaws.{each-row, _&_, listed-some, listed-none}
+use Rattle.rules.proofs.TableLaws.{listed-some, listed-none}
 use Rattle.program_records.specs.Entries.{nextIn}
-use Rattle.program_records.specs.Arguments.{accepted, targetFits}
-use Rattle.program_records.proofs.ArgumentLaws.{targeted}
-use Rattle.program_records.specs.Records.{jumpFits, commandAt, recordAt}
+use Rattle.program_records.specs.Arguments.{accepted, allowsIn, targetFits}
+use Rattle.program_records.proofs.FormLaws.{op-code}
+use Rattle.program_records.proofs.ArgumentLaws.{row-allows, targeted}
+use Rattle.program_records.specs.Records.{mark₁, mark₂, jumpFits, commandAt, recordAt}
 use Rattle.program_records.proofs.PartLaws.{part-drop, rest-at, same-2}
 
 -- a command's answer is handed on
@@ -59,53 +58,53 @@ module _ (p : Bytes) (at : ℕ) where
   number : (k : ℕ) → num (part (drop at p) k 2) ≡ num (part p (at + k) 2)
   number k = ap num (part-drop p at k 2)
 
-  argument : (n : ℕ) → part (drop at p) 10 n ≡ part p (at + 10) (at + 10 + n - (at + 10))
-  argument n = let e : at + 10 + n - (at + 10) ≡ n = omega arith in rw e (part-drop p at 10 n)
+  argument : (n : ℕ) → part (drop at p) recordSize n ≡ part p (at + recordSize) (at + recordSize + n - (at + recordSize))
+  argument n = let e : at + recordSize + n - (at + recordSize) ≡ n = omega arith in rw e (part-drop p at recordSize n)
 
-  rest : (n : ℕ) → drop n (drop 10 (drop at p)) ≡ drop (at + 10 + n) p
-  rest n = rw (drop-drop 10 at p, drop-drop n (at + 10) p)
+  rest : (n : ℕ) → drop n (drop recordSize (drop at p)) ≡ drop (at + recordSize + n) p
+  rest n = rw (drop-drop recordSize at p, drop-drop n (at + recordSize) p)
 
-  module _ (h : at + 10 ≤ length p) where
-    marked : same (take 2 (drop at p)) (0x53 ∷ 0x50 ∷ []) ≡ (eqb (getD p at 0) 0x53 && (eqb (getD p (at + 1) 0) 0x50 && true))
-    marked = let l : 2 ≤ length (drop at p) = omega (arith, length-drop at p) in same-2 (drop at p) 0x53 0x50 l ∙ (rw (first, byte 1))
+  module _ (h : at + recordSize ≤ length p) where
+    marked : same (take 2 (drop at p)) mark ≡ (eqb (getD p at 0) mark₁ && (eqb (getD p (at + 1) 0) mark₂ && true))
+    marked = let l : 2 ≤ length (drop at p) = omega (arith, length-drop at p) in same-2 (drop at p) mark₁ mark₂ l ∙ (rw (first, byte 1))
 
-    long : leb 10 (length (drop at p)) ≡ true
-    long = le-leb 10 (length (drop at p)) (omega (arith, length-drop at p))
+    long : leb recordSize (length (drop at p)) ≡ true
+    long = le-leb recordSize (length (drop at p)) (omega (arith, length-drop at p))
 
-    room : (n : ℕ) → leb (10 + n) (length (drop at p)) ≡ leb (at + 10 + n) (length p)
-    room n = go (leb (at + 10 + n) (length p)) refl
+    room : (n : ℕ) → leb (recordSize + n) (length (drop at p)) ≡ leb (at + recordSize + n) (length p)
+    room n = go (leb (at + recordSize + n) (length p)) refl
       where
-        go : (b : Bool) → leb (at + 10 + n) (length p) ≡ b → leb (10 + n) (length (drop at p)) ≡ b
-        go true e = le-leb (10 + n) (length (drop at p)) (omega (arith, length-drop at p, leb-true (at + 10 + n) (length p) e))
-        go false e = lt-leb (10 + n) (length (drop at p)) (omega (arith, length-drop at p, leb-false (at + 10 + n) (length p) e))
+        go : (b : Bool) → leb (at + recordSize + n) (length p) ≡ b → leb (recordSize + n) (length (drop at p)) ≡ b
+        go true e = le-leb (recordSize + n) (length (drop at p)) (omega (arith, length-drop at p, leb-true (at + recordSize + n) (length p) e))
+        go false e = lt-leb (recordSize + n) (length (drop at p)) (omega (arith, length-drop at p, leb-false (at + recordSize + n) (length p) e))
 
-  short : length p < at + 10 → leb 10 (length (drop at p)) ≡ false
-  short h = lt-leb 10 (length (drop at p)) (omega (arith, length-drop at p))
+  short : length p < at + recordSize → leb recordSize (length (drop at p)) ≡ false
+  short h = lt-leb recordSize (length (drop at p)) (omega (arith, length-drop at p))
 
 module _ (g : Group) (comps total n : ℕ) (p : Bytes) (at : ℕ) where
   pub record-at : recordIn g comps total n (drop at p) ≡ recordAt g comps total n p at
   unfolding recordIn recordAt commandAt
-  record-at = fits (leb (at + 10) (length p)) refl
+  record-at = fits (leb (at + recordSize) (length p)) refl
     where
       -- the bytes' places
-      whole : at + 10 ≤ length p → (a b c d : Bool) → eqb (getD p at 0) 0x53 ≡ a → eqb (getD p (at + 1) 0) 0x50 ≡ b →
-          leb (at + 10 + num (part p (at + 8) 2)) (length p) ≡ c → eqb (getD p (at + 2) 0) 0xff ≡ d → recordIn g comps total n (drop at p) ≡ recordAt g comps total n p at
+      whole : at + recordSize ≤ length p → (a b c d : Bool) → eqb (getD p at 0) mark₁ ≡ a → eqb (getD p (at + 1) 0) mark₂ ≡ b →
+          leb (at + recordSize + num (part p (at + argumentFrom) 2)) (length p) ≡ c → eqb (getD p (at + codeFrom) 0) JUMP ≡ d → recordIn g comps total n (drop at p) ≡ recordAt g comps total n p at
       whole h false b c d ea eb ec ed = rw (long p at h, marked p at h, le-leb _ _ h, ea)
       whole h true false c d ea eb ec ed = rw (long p at h, marked p at h, le-leb _ _ h, ea, eb)
-      whole h true true false d ea eb ec ed = rw (long p at h, marked p at h, le-leb _ _ h, ea, eb, number p at 8, room p at h, ec)
-      whole h true true true true ea eb ec ed = rw (long p at h, marked p at h, le-leb _ _ h, ea, eb, number p at 8, room p at h, ec, byte p at 2, ed, byte p at 3, number p at 4, number p at 6, rest p at, number p at 8)
+      whole h true true false d ea eb ec ed = rw (long p at h, marked p at h, le-leb _ _ h, ea, eb, number p at argumentFrom, room p at h, ec)
+      whole h true true true true ea eb ec ed = rw (long p at h, marked p at h, le-leb _ _ h, ea, eb, number p at argumentFrom, room p at h, ec, byte p at codeFrom, ed, byte p at componentFrom, number p at placeFrom, number p at targetFrom, rest p at, number p at argumentFrom)
       whole h true true true false ea eb ec ed =
-          let target : ℕ = num (part p (at + 6) 2) in
-          let next : ℕ = at + 10 + num (part p (at + 8) 2) in
-          rw (long p at h, marked p at h, le-leb _ _ h, ea, eb, number p at 8, room p at h, ec, byte p at 2, ed, byte p at 3, number p at 4, number p at 6, argument p at, rest p at, byte p at 2, number p at 8)
-          (handed (rowOf (getD p (at + 2) 0) commands) (λ row. groupAllows g (row .allowed)) (ltb (getD p (at + 3) 0) comps)
-          (λ row. opIn comps (getD p (at + 3) 0) (row .form) (part p (at + 10) (next - (at + 10))))
+          let target : ℕ = num (part p (at + targetFrom) 2) in
+          let next : ℕ = at + recordSize + num (part p (at + argumentFrom) 2) in
+          rw (long p at h, marked p at h, le-leb _ _ h, ea, eb, number p at argumentFrom, room p at h, ec, byte p at codeFrom, ed, byte p at componentFrom, number p at placeFrom, number p at targetFrom, argument p at, rest p at, byte p at codeFrom, number p at argumentFrom)
+          (handed (rowOf (getD p (at + codeFrom) 0) commands) (λ row. groupAllows g (row .allowed)) (ltb (getD p (at + componentFrom) 0) comps)
+          (λ row. opIn comps (getD p (at + componentFrom) 0) (row .form) (part p (at + recordSize) (next - (at + recordSize))))
           (λ op. eqb target NONE || eqb (targetOf op target) target && (ltb n target && leb target total))
-          (λ op. (does op (getD p (at + 3) 0) (num (part p (at + 4) 2)) target, drop next p)))
+          (λ op. (does op (getD p (at + componentFrom) 0) (num (part p (at + placeFrom) 2)) target, drop next p)))
 
-      fits : (b : Bool) → leb (at + 10) (length p) ≡ b → recordIn g comps total n (drop at p) ≡ recordAt g comps total n p at
+      fits : (b : Bool) → leb (at + recordSize) (length p) ≡ b → recordIn g comps total n (drop at p) ≡ recordAt g comps total n p at
       fits true e =
-          whole (leb-true _ _ e) (eqb (getD p at 0) 0x53) (eqb (getD p (at + 1) 0) 0x50) (leb (at + 10 + num (part p (at + 8) 2)) (length p)) (eqb (getD p (at + 2) 0) 0xff) refl refl refl refl
+          whole (leb-true _ _ e) (eqb (getD p at 0) mark₁) (eqb (getD p (at + 1) 0) mark₂) (leb (at + recordSize + num (part p (at + argumentFrom) 2)) (length p)) (eqb (getD p (at + codeFrom) 0) JUMP) refl refl refl refl
       fits false e = rw (short p at (leb-false _ _ e), e)
 
 -- two bytes, as the code reads them
@@ -113,10 +112,10 @@ pub two-is : (p : Bytes) (at k x : ℕ) → at + k + 2 ≤ length p → x ≡ ge
 two-is p at k x l e = e ∙ sym (num-2 p (at + k) l)
 
 module _ (p : Bytes) (at size total n : ℕ) where
-  pub jump-component : (getD p (at + 3) 0 ≡ 0 → ⊥) → false ≡ jumpFits p at size total n
+  pub jump-component : (getD p (at + componentFrom) 0 ≡ 0 → ⊥) → false ≡ jumpFits p at size total n
   jump-component i = rw (ne-eqb _ _ i)
 
-  module _ (i : getD p (at + 3) 0 ≡ 0) (x : ℕ) (q : x ≡ num (part p (at + 4) 2)) where
+  module _ (i : getD p (at + componentFrom) 0 ≡ 0) (x : ℕ) (q : x ≡ num (part p (at + placeFrom) 2)) where
     pub jump-place : (x ≡ 0 → ⊥) → false ≡ jumpFits p at size total n
     jump-place h = rw (eq-eqb _ _ i, ← q, ne-eqb x 0 h)
 
@@ -124,7 +123,7 @@ module _ (p : Bytes) (at size total n : ℕ) where
       pub jump-size : (size ≡ 0 → ⊥) → false ≡ jumpFits p at size total n
       jump-size h = rw (eq-eqb _ _ i, ← q, eq-eqb x 0 z, ne-eqb size 0 h)
 
-      module _ (s : size ≡ 0) (t : ℕ) (e : t ≡ num (part p (at + 6) 2)) where
+      module _ (s : size ≡ 0) (t : ℕ) (e : t ≡ num (part p (at + targetFrom) 2)) where
         pub jump-back : t ≤ n → false ≡ jumpFits p at size total n
         jump-back h = rw (eq-eqb _ _ i, ← q, eq-eqb x 0 z, eq-eqb size 0 s, ← e, le-ltb n t h)
 
@@ -135,49 +134,12 @@ module _ (p : Bytes) (at size total n : ℕ) where
 no : true ≡ false → ⊥
 no e = let z : _≡_ {A = ℕ} 0 1 = cc in omega arith
 
--- the command that a row makes has the row's code
-module _ (comps i : ℕ) (q : Bytes) (op : Op) where
-  abbrev Codes : ℕ → Row → Type 0
-  Codes c r = opIn comps i (r .form) q ≡ got op → code op ≡ c
-
-  sixteen-code : (c : ℕ) (make : Bytes → Op) → ((b : Bytes) → code (make b) ≡ c) → opIn comps i (sixteen make) q ≡ got op → code op ≡ c
-  unfolding opIn
-  sixteen-code c make h e = let (t, f) = passed (eqb (length q) 16) BadProgram 0 (λ _. got (make q)) op e in let s : make q ≡ op = cc in rw (← s) (h q)
-
-  nil-code : (c : ℕ) (make : Op) → code make ≡ c → opIn comps i (nil make) q ≡ got op → code op ≡ c
-  unfolding opIn
-  nil-code c make h e = let (t, f) = passed (same q []) BadProgram 0 (λ _. got make) op e in let s : make ≡ op = cc in rw (← s) h
-
-  below-code : (c : ℕ) (make : ℕ → Op) → ((k : ℕ) → code (make k) ≡ c) → opIn comps i (below make) q ≡ got op → code op ≡ c
-  unfolding opIn
-  below-code c make h e = let (t, f) = passed (same q []) BadProgram 0 (λ _. got (make i)) op e in let s : make i ≡ op = cc in rw (← s) (h i)
-
-  parameters-code : (c : ℕ) (make : Params → Op) → ((x : Params) → code (make x) ≡ c) → opIn comps i (parameters make) q ≡ got op → code op ≡ c
-  unfolding opIn
-  parameters-code c make h e = split _ (paramsIn comps q) _ op e λ x ex f. let s : make x ≡ op = cc in rw (← s) (h x)
-
-  alternatives-code : (c : ℕ) → opIn comps i alternatives q ≡ got op → code op ≡ c
-  unfolding opIn
-  alternatives-code c e = let z : _≡_ {A = ℕ} 0 1 = cc in absurd (omega arith)
-
-  sequence-code : (c : ℕ) → opIn comps i sequence q ≡ got op → code op ≡ c
-  unfolding opIn
-  sequence-code c e = let z : _≡_ {A = ℕ} 0 1 = cc in absurd (omega arith)
-
-  pub op-code : (c : ℕ) (r : Row) → rowOf c commands ≡ some r → opIn comps i (r .form) q ≡ got op → code op ≡ c
-  op-code c r e =
-      each-row Codes commands c r
-      (sixteen-code 1 _ (λ b. refl) & sixteen-code 2 _ (λ b. refl) & nil-code 3 _ refl & below-code 12 _ (λ k. refl) & nil-code 14 _ refl & alternatives-code 15
-      & parameters-code 19 _ (λ x. refl) & parameters-code 20 _ (λ x. refl) & nil-code 21 _ refl & nil-code 22 _ refl & nil-code 23 _ refl & sequence-code 30
-      & nil-code 32 _ refl & tt)
-      e
-
 module _ (g : Group) (comps total n : ℕ) (p : Bytes) (at to : ℕ) where
   abbrev asked : Got Op
   asked = commandAt g comps total n p at to
 
   -- by the row that the look-up found
-  module _ (c : ℕ) (ec : c ≡ getD p (at + 2) 0) where
+  module _ (c : ℕ) (ec : c ≡ getD p (at + codeFrom) 0) where
     pub not-listed : listed (rowOf c commands) ≡ L.Unlisted → false ≡ accepted asked
     unfolding commandAt
     not-listed h = rw (← ec, listed-none (rowOf c commands) h)
@@ -192,25 +154,25 @@ module _ (g : Group) (comps total n : ℕ) (p : Bytes) (at to : ℕ) where
       is-command : asCommand row ≡ x
       is-command = listed-some (rowOf c commands) x ex .2
 
-      module _ (a : Bool) (ea : (k : ℕ) (r : Row) → rowOf k commands ≡ some r → setOf (r .allowed) ≡ x .sections → a ≡ groupAllows g (r .allowed)) where
+      module _ (a : Bool) (ea : a ≡ allowsIn g (x .sections)) where
         allowed : a ≡ groupAllows g (row .allowed)
-        allowed = ea c row is-row (ap (λ (y : Command). y .sections) is-command)
+        allowed = ea ∙ ap (λ (y : Command). allowsIn g (y .sections)) (sym is-command) ∙ row-allows c row g is-row
 
         pub not-allowed : not a ≡ true → false ≡ accepted asked
         unfolding commandAt
         not-allowed h = rw (← ec, is-row, ← allowed, not-true a h)
 
         module _ (ha : not a ≡ false) where
-          pub no-component : comps ≤ getD p (at + 3) 0 → false ≡ accepted asked
+          pub no-component : comps ≤ getD p (at + componentFrom) 0 → false ≡ accepted asked
           unfolding commandAt
           no-component h = rw (← ec, is-row, ← allowed, not-false a ha, le-ltb _ _ h)
 
-          module _ (hc : getD p (at + 3) 0 < comps) (b : Bool) (eb : (f : Form) (i : ℕ) → kindOf f ≡ x .argument → b ≡ accepted (opIn comps i f (part p (at + 10) (to - (at + 10))))) where
+          module _ (hc : getD p (at + componentFrom) 0 < comps) (b : Bool) (eb : (f : Form) (i : ℕ) → kindOf f ≡ x .argument → b ≡ accepted (opIn comps i f (part p (at + recordSize) (to - (at + recordSize))))) where
             abbrev made : Got Op
-            made = opIn comps (getD p (at + 3) 0) (row .form) (part p (at + 10) (to - (at + 10)))
+            made = opIn comps (getD p (at + componentFrom) 0) (row .form) (part p (at + recordSize) (to - (at + recordSize)))
 
             fitting : b ≡ accepted made
-            fitting = eb (row .form) (getD p (at + 3) 0) (ap (λ (y : Command). y .argument) is-command)
+            fitting = eb (row .form) (getD p (at + componentFrom) 0) (ap (λ (y : Command). y .argument) is-command)
 
             pub not-fitting : not b ≡ true → false ≡ accepted asked
             unfolding commandAt
@@ -222,10 +184,10 @@ module _ (g : Group) (comps total n : ℕ) (p : Bytes) (at to : ℕ) where
 
             is-condition : (op : Op) → made ≡ got op → isCondition op ≡ x .condition
             is-condition op e =
-                rw (op-code comps (getD p (at + 3) 0) _ op c row is-row e, is-row) (ap (λ (y : Command). y .condition) is-command)
+                rw (op-code comps (getD p (at + componentFrom) 0) _ op c row is-row e, is-row) (ap (λ (y : Command). y .condition) is-command)
 
             -- the command is made, and its target decides
-            pub decided : not b ≡ false → (y : ℕ) → y ≡ num (part p (at + 6) 2) →
+            pub decided : not b ≡ false → (y : ℕ) → y ≡ num (part p (at + targetFrom) 2) →
                 (u : Bool) → u ≡ targetFits (x .condition) y n total → u ≡ accepted asked
             unfolding commandAt
             decided h y ey u eu = go made refl
@@ -258,44 +220,44 @@ module _ (g : Group) (comps total n : ℕ) (p : Bytes) (at : ℕ) where
   none-at : accepted (recordAt g comps total n p at) ≡ false → 0 ≡ place
   none-at h = rw (record-at g comps total n p at) (next-none (length p) (recordAt g comps total n p at) h)
 
-  pub record-short : length p < at + 10 → 0 ≡ place
+  pub record-short : length p < at + recordSize → 0 ≡ place
   unfolding recordAt
   record-short h = none-at (rw (lt-leb _ _ h))
 
-  module _ (l : at + 10 ≤ length p) where
-    pub record-mark : (getD p at 0 ≡ 0x53 → ⊥) → 0 ≡ place
+  module _ (l : at + recordSize ≤ length p) where
+    pub record-mark : (getD p at 0 ≡ mark₁ → ⊥) → 0 ≡ place
     unfolding recordAt
     record-mark h = none-at (rw (le-leb _ _ l, ne-eqb _ _ h))
 
-    module _ (a : getD p at 0 ≡ 0x53) where
-      pub record-mark-2 : (getD p (at + 1) 0 ≡ 0x50 → ⊥) → 0 ≡ place
+    module _ (a : getD p at 0 ≡ mark₁) where
+      pub record-mark-2 : (getD p (at + 1) 0 ≡ mark₂ → ⊥) → 0 ≡ place
       unfolding recordAt
       record-mark-2 h = none-at (rw (le-leb _ _ l, eq-eqb _ _ a, ne-eqb _ _ h))
 
-      module _ (b : getD p (at + 1) 0 ≡ 0x50) (x : ℕ) (q : x ≡ num (part p (at + 8) 2)) where
-        pub record-long : length p < at + 10 + x → 0 ≡ place
+      module _ (b : getD p (at + 1) 0 ≡ mark₂) (x : ℕ) (q : x ≡ num (part p (at + argumentFrom) 2)) where
+        pub record-long : length p < at + recordSize + x → 0 ≡ place
         unfolding recordAt
         record-long h = none-at (rw (le-leb _ _ l, eq-eqb _ _ a, eq-eqb _ _ b, ← q, lt-leb _ _ h))
 
-        module _ (f : at + 10 + x ≤ length p) where
-          module _ (j : getD p (at + 2) 0 ≡ 0xff) (t : Bool) (e : t ≡ jumpFits p at x total n) where
-            pub record-jump : t ≡ true → at + 10 + x ≡ place
+        module _ (f : at + recordSize + x ≤ length p) where
+          module _ (j : getD p (at + codeFrom) 0 ≡ JUMP) (t : Bool) (e : t ≡ jumpFits p at x total n) where
+            pub record-jump : t ≡ true → at + recordSize + x ≡ place
             unfolding recordAt
             record-jump h =
-                rw (record-at g comps total n p at, le-leb _ _ l, eq-eqb _ _ a, eq-eqb _ _ b, ← q, le-leb _ _ f, eq-eqb _ _ j, ← q, ← e, h) (sym (rest-at p (at + 10 + x) f))
+                rw (record-at g comps total n p at, le-leb _ _ l, eq-eqb _ _ a, eq-eqb _ _ b, ← q, le-leb _ _ f, eq-eqb _ _ j, ← q, ← e, h) (sym (rest-at p (at + recordSize + x) f))
 
             pub record-no-jump : t ≡ false → 0 ≡ place
             unfolding recordAt
             record-no-jump h = none-at (rw (le-leb _ _ l, eq-eqb _ _ a, eq-eqb _ _ b, ← q, le-leb _ _ f, eq-eqb _ _ j, ← q, ← e, h))
 
-          module _ (j : getD p (at + 2) 0 ≡ 0xff → ⊥) (t : Bool) (e : t ≡ accepted (commandAt g comps total n p at (at + 10 + x))) where
-            pub record-command : t ≡ true → at + 10 + x ≡ place
+          module _ (j : getD p (at + codeFrom) 0 ≡ JUMP → ⊥) (t : Bool) (e : t ≡ accepted (commandAt g comps total n p at (at + recordSize + x))) where
+            pub record-command : t ≡ true → at + recordSize + x ≡ place
             unfolding recordAt
             record-command h =
-                let (op, w) = accepted-got (commandAt g comps total n p at (at + 10 + x)) (sym e ∙ h) in
-                rw (record-at g comps total n p at, le-leb _ _ l, eq-eqb _ _ a, eq-eqb _ _ b, ← q, le-leb _ _ f, ne-eqb _ _ j, ← q, w) (sym (rest-at p (at + 10 + x) f))
+                let (op, w) = accepted-got (commandAt g comps total n p at (at + recordSize + x)) (sym e ∙ h) in
+                rw (record-at g comps total n p at, le-leb _ _ l, eq-eqb _ _ a, eq-eqb _ _ b, ← q, le-leb _ _ f, ne-eqb _ _ j, ← q, w) (sym (rest-at p (at + recordSize + x) f))
 
             pub record-no-command : t ≡ false → 0 ≡ place
             unfolding recordAt
             record-no-command h =
-                none-at (rw (le-leb _ _ l, eq-eqb _ _ a, eq-eqb _ _ b, ← q, le-leb _ _ f, ne-eqb _ _ j, ← q) (not-accepted (commandAt g comps total n p at (at + 10 + x)) _ (sym e ∙ h)))
+                none-at (rw (le-leb _ _ l, eq-eqb _ _ a, eq-eqb _ _ b, ← q, le-leb _ _ f, ne-eqb _ _ j, ← q) (not-accepted (commandAt g comps total n p at (at + recordSize + x)) _ (sym e ∙ h)))

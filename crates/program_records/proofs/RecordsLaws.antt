@@ -13,6 +13,7 @@ use Rattle.rules.specs.Bytes.{Bytes, part, num}
 use Rattle.rules.specs.Commands.{commands}
 use Rattle.rules.specs.Got.{Got, refused, got, _>>=_}
 use Rattle.rules.specs.Program.{Rec, does, jump}
+use Rattle.rules.specs.ProgramFormat.{JUMP, codeFrom, argumentFrom, recordSize}
 use Rattle.rules.specs.ProgramTest.{recordIn, recordsIn, nonJumps}
 use Rattle.rules.proofs.GotLaws.{after, after-more, after-none}
 use Rattle.program_records.specs.Entries.{nextIn}
@@ -22,10 +23,10 @@ use Rattle.program_records.proofs.ReadRecord.{Kind, record-read}
 
 -- 1 for a record that is no jump, by its code
 abbrev pub weight : ℕ → ℕ
-weight code = cond (eqb code 0xff) 0 1
+weight code = cond (eqb code JUMP) 0 1
 
 weight-most : (code : ℕ) → weight code ≤ 1
-weight-most code = go (eqb code 0xff)
+weight-most code = go (eqb code JUMP)
   where
     go : (b : Bool) → cond b 0 1 ≤ 1
     go true = omega arith
@@ -33,35 +34,35 @@ weight-most code = go (eqb code 0xff)
 
 -- the count with a command, and with a jump
 module _ (code x m k : ℕ) (q : x ≡ code) where
-  pub count-command : (x ≡ 0xff → ⊥) → m ≡ k + 1 → m ≡ k + weight code
-  count-command d e = rw (← q, ne-eqb x 0xff d) e
+  pub count-command : (x ≡ JUMP → ⊥) → m ≡ k + 1 → m ≡ k + weight code
+  count-command d e = rw (← q, ne-eqb x JUMP d) e
 
-  pub count-jump : x ≡ 0xff → m ≡ k → m ≡ k + weight code
-  count-jump z e = rw (← q, eq-eqb x 0xff z) (omega arith)
+  pub count-jump : x ≡ JUMP → m ≡ k → m ≡ k + weight code
+  count-jump z e = rw (← q, eq-eqb x JUMP z) (omega arith)
 
 module _ (g : Group) (comps total n : ℕ) where
   counted : (r : Rec) (code i place target size : ℕ) (argument : Bytes) → Kind g comps total n r code i place target size argument → nonJumps (r ∷ []) ≡ weight code
-  counted r code i place target size argument k = go (eqb code 0xff) refl
+  counted r code i place target size argument k = go (eqb code JUMP) refl
     where
-      go : (b : Bool) → eqb code 0xff ≡ b → nonJumps (r ∷ []) ≡ cond b 0 1
+      go : (b : Bool) → eqb code JUMP ≡ b → nonJumps (r ∷ []) ≡ cond b 0 1
       go true e = ap (λ (x : Rec). nonJumps (x ∷ [])) (k .jumps (eqb-true _ _ e) .is)
       go false e = ap (λ (x : Rec). nonJumps (x ∷ [])) (k .does (eqb-false _ _ e) .is)
 
   -- the record at a place, and the place after it
   pub record Stands (p : Bytes) (at next : ℕ) (r : Rec) (q : Bytes) : Type 0 where
-    pub up : at + 10 ≤ next
+    pub up : at + recordSize ≤ next
     pub fits : next ≤ length p
     pub rest : q ≡ drop next p
-    pub kind : nonJumps (r ∷ []) ≡ weight (getD p (at + 2) 0)
+    pub kind : nonJumps (r ∷ []) ≡ weight (getD p (at + codeFrom) 0)
 
   stands : (p : Bytes) (at : ℕ) (r : Rec) (q : Bytes) → recordIn g comps total n (drop at p) ≡ got (r, q) → Stands p at (length p - length q) r q
   stands p at r q e =
       let (f, k, w) = record-read g comps total n (drop at p) r q e in
-      let len : ℕ = num (part (drop at p) 8 2) in
-      let l : at + 10 + len ≤ length p = omega (arith, length-drop at p) in
-      let k′ : q ≡ drop (at + 10 + len) p = k ∙ rw (drop-drop 10 at p, drop-drop len (at + 10) p) in
-      let m : length p - length q ≡ at + 10 + len = ap (λ (x : Bytes). length p - length x) k′ ∙ rest-at p (at + 10 + len) l in
-      record { up = omega arith; fits = omega arith; rest = k′ ∙ ap (λ (x : ℕ). drop x p) (sym m); kind = counted r _ _ _ _ _ _ w ∙ ap weight (getD-drop at p 2 0) }
+      let len : ℕ = num (part (drop at p) argumentFrom 2) in
+      let l : at + recordSize + len ≤ length p = omega (arith, length-drop at p) in
+      let k′ : q ≡ drop (at + recordSize + len) p = k ∙ rw (drop-drop recordSize at p, drop-drop len (at + recordSize) p) in
+      let m : length p - length q ≡ at + recordSize + len = ap (λ (x : Bytes). length p - length x) k′ ∙ rest-at p (at + recordSize + len) l in
+      record { up = omega arith; fits = omega arith; rest = k′ ∙ ap (λ (x : ℕ). drop x p) (sym m); kind = counted r _ _ _ _ _ _ w ∙ ap weight (getD-drop at p codeFrom 0) }
 
 count-more : (rs : List Rec) (r : Rec) → nonJumps (rs ++ (r ∷ [])) ≡ nonJumps rs + nonJumps (r ∷ [])
 count-more [] r = omega arith
@@ -108,14 +109,14 @@ module _ (g : Group) (comps total : ℕ) (p : Bytes) (at : ℕ) where
           go (refused k m) e = let b : all ≡ refused k m = turn ∙ rw e in rw b
           go (got a) e = absurd (omega (arith, ap (nextIn (length p)) e, stands g comps total n p next (a .0) (a .1) e .up))
 
-      pub sofar-room : (r ≡ 0 → ⊥) → next + 10 ≤ length p
+      pub sofar-room : (r ≡ 0 → ⊥) → next + recordSize ≤ length p
       sofar-room d = go one refl
         where
-          go : (x : Got (Rec × Bytes)) → one ≡ x → next + 10 ≤ length p
+          go : (x : Got (Rec × Bytes)) → one ≡ x → next + recordSize ≤ length p
           go (refused k m) e = absurd (d (q ∙ ap (nextIn (length p)) e))
           go (got a) e = let s = stands g comps total n p next (a .0) (a .1) e in omega (arith, s .up, s .fits)
 
-      pub sofar-next : (r ≡ 0 → ⊥) → (m : ℕ) → m ≡ commands + weight (getD p (next + 2) 0) → Sofar r m (n + 1)
+      pub sofar-next : (r ≡ 0 → ⊥) → (m : ℕ) → m ≡ commands + weight (getD p (next + codeFrom) 0) → Sofar r m (n + 1)
       sofar-next d m w = go one refl
         where
           go : (x : Got (Rec × Bytes)) → one ≡ x → Sofar r m (n + 1)
@@ -129,5 +130,5 @@ module _ (g : Group) (comps total : ℕ) (p : Bytes) (at : ℕ) where
                 reads = turn ∙ rw (e, ← t) (after-more (f .records) (a .0) (recordsIn g comps total (total - (n + 1)) (n + 1) (a .1)));
                 here = omega (arith, s .fits);
                 count = w ∙ omega (arith, count-more (f .records) (a .0), s .kind, f .count);
-                few = omega (arith, weight-most (getD p (next + 2) 0), f .few);
+                few = omega (arith, weight-most (getD p (next + codeFrom) 0), f .few);
               }

@@ -1,13 +1,21 @@
 -- Whether a reading was accepted, and what a record of a command may hold.
 use Prim.Native.Nat.{ℕ}
-use mathlib.Core.Bool.{Bool, true, false, _&&_, _||_}
+use mathlib.Core.Bool.{Bool, true, false, not, _&&_, _||_}
+use lib.Bits.{bitAnd}
 use lib.Dec.{eqb, ltb, leb}
+use Rattle.rules.specs.declared.answers.Group.{Group}
 use Rattle.rules.specs.ProgramFormat.{NONE}
 use Rattle.rules.specs.Got.{Got, refused, got}
+use Rattle.rules.specs.Run.{sectionsOf}
+use Rattle.rules.specs.Tables.{weights}
 
 abbrev pub accepted : {A : Type 0} → Got A → Bool
 accepted (refused r p) = false
 accepted (got a) = true
+
+-- a command that is allowed in a set of sections may stand in a program of the group: the set has a section of the group
+abbrev pub allowsIn : Group → ℕ → Bool
+allowsIn group sections = not (eqb (bitAnd sections (weights (sectionsOf group))) 0)
 
 -- 'targets of conditions are greater than the record's own number and at most the count (a condition's may be FFFF)'; others have FFFF
 abbrev pub targetFits : Bool → ℕ → ℕ → ℕ → Bool

@@ -1,5 +1,5 @@
 // Records of commands in a program: the parameters and arguments that they may hold, and where they end.
-pub mod argument;
+mod argument;
 pub mod parameters;
-pub mod record;
+mod record;
 pub mod records;

@@ -2,12 +2,14 @@
 ghost use mathlib.Core.Path.{_≡_};
 ghost use Prim.Native.Nat.{_+_, _≤_, _<_};
 ghost use lib.ListN.{length, drop};
+ghost use Rattle.rules.specs.Limits.{limits};
 ghost use Rattle.rules.specs.Tables.{byNumber};
 ghost use Rattle.rules.specs.ProgramTest as Rule;
 ghost use Rattle.program_records.specs.Records.{recordsAre};
 use crate::record::test_record;
 use byte_buffer::wide;
 use rules::answers::Group;
+use rules::program_format::CODE;
 use rules::program_format::JUMP;
 use rules_tables::Table;
 
@@ -26,7 +28,7 @@ pub fn test_records(
     components: usize,
     total: usize,
 ) -> Records
-    requires { ⌜ (at ≤ length (now p)) × (now table ≡ byNumber) × (total < 65536) ⌝ }
+    requires { ⌜ (at ≤ length (now p)) × (now table ≡ byNumber) × (total ≤ limits .records) ⌝ }
     ensures { λ r. ⌜ r ≡ recordsAre (length (now (p .entry))) (Rule.recordsIn group components total total 0 (drop at (now (p .entry)))) ⌝ }
 {
     let mut next = at;
@@ -41,7 +43,7 @@ pub fn test_records(
                 commands: 0,
             };
         }
-        if wide(p[from + 2]) != JUMP {
+        if wide(p[from + CODE]) != JUMP {
             commands += 1;
         }
         n += 1;

@@ -7,10 +7,12 @@ use lib.ListN.{length, getD}
 use borrow.Author.Tests.{ne-eqb}
 use Rattle.rules.specs.Answers.{endOf}
 use Rattle.rules.specs.Bytes.{Bytes, part}
+use Rattle.rules.specs.Limits.{limits}
 use Rattle.rules.specs.Program.{Rec, does}
-use Rattle.rules.specs.ProgramRun.{exec}
+use Rattle.rules.specs.ProgramFormat.{codeFrom, componentFrom, placeFrom, targetFrom, argumentFrom, recordSize}
+use Rattle.rules.specs.ProgramRun.{exec, resume}
 use Rattle.rules.specs.ProgramTest.{nonJumps}
-use Rattle.rules.specs.Step.{State, Out, out, step}
+use Rattle.rules.specs.Step.{State, Out, out, step, eventBytes}
 use Rattle.run_slots.specs.declared.params.Params.{Params}
 use Rattle.run_slots.specs.Params.{FitAll}
 use Rattle.run_commands.specs.declared.Progress.{Progress}
@@ -18,47 +20,48 @@ use Rattle.run_commands.specs.Machine.{stateAt, outAt}
 use Rattle.run_commands.specs.Op.{opOf, IsCode}
 use Rattle.run_commands.proofs.LentLaws.{moves-step, lent-after}
 use Rattle.program_run.specs.declared.step.ProgramState.{ProgramState}
-use Rattle.program_run.specs.Step.{ArgumentAt, valueOf, GivenAs, afterwards, OnwardJob, Onward, stateOf, ExecJob, Executed}
+use Rattle.program_run.specs.Step.{ArgumentAt, valueOf, GivenAs, OnwardJob, Onward, stateOf, ExecJob, Executed}
 use Rattle.program_run.proofs.FirstRecord.{numberAt, First, first-of}
+use Rattle.program_records.proofs.FormLaws.{op-code}
 use Rattle.program_records.proofs.ReadRecord.{Commands}
-use Rattle.program_run.proofs.GivenLaws.{argument-code, argument-sixteen}
-use Rattle.program_run.proofs.OnwardLaws.{exec-does}
+use Rattle.program_run.proofs.GivenLaws.{argument-sixteen}
+use Rattle.rules_theorems.proofs.RunLaws.{exec-does}
 
-module _ (p : Bytes) (components : ℕ) (walk : ProgramState) (vendor class : Bytes) (assigned : List ℕ) (answers slots : Bytes) (params : List ℕ) (trace : Bytes)
-    (j : ExecJob p components walk vendor class assigned answers slots params trace) where
+module _ (p : Bytes) (components : ℕ) (current : ProgramState) (vendor class : Bytes) (assigned : List ℕ) (answers slots : Bytes) (params : List ℕ) (trace : Bytes)
+    (j : ExecJob p components current vendor class assigned answers slots params trace) where
   abbrev at : ℕ
-  at = walk .at
+  at = current .at
 
-  abbrev here : First p (j .group) components (j .total) (walk .n) at (j .ready .place)
-  here = first-of p (j .group) components (j .total) (walk .n) at (j .ready .place) (j .before)
+  abbrev here : First p (j .group) components (j .total) (current .n) at (j .ready .place)
+  here = first-of p (j .group) components (j .total) (current .n) at (j .ready .place) (j .before)
 
-  abbrev command : Commands (j .group) components (j .total) (walk .n) (here .first) (getD p (at + 2) 0) (getD p (at + 3) 0) (numberAt p (at + 4)) (numberAt p (at + 6))
-      (part p (at + 10) (numberAt p (at + 8)))
+  abbrev command : Commands (j .group) components (j .total) (current .n) (here .first) (getD p (at + codeFrom) 0) (getD p (at + componentFrom) 0) (numberAt p (at + placeFrom)) (numberAt p (at + targetFrom))
+      (part p (at + recordSize) (numberAt p (at + argumentFrom)))
   command = here .kind .does (j .stands)
 
-  pub execute-room : at + 10 + numberAt p (at + 8) ≤ length p
+  pub execute-room : at + recordSize + numberAt p (at + argumentFrom) ≤ length p
   execute-room = here .room
 
-  pub execute-number : walk .n < 1024
+  pub execute-number : current .n < limits .records
   execute-number = omega (arith, j .before, j .ready .size)
 
-  pub execute-fit : FitAll p 8 params
+  pub execute-fit : FitAll p (limits .components) params
   execute-fit k h = record { source = omega (arith, j .ready .lent .fit k h .source, j .ready .lent .host .few); digest = j .ready .lent .fit k h .digest }
 
-  records-are : j .ready .place .records ≡ does (command .op) (getD p (at + 3) 0) (numberAt p (at + 4)) (numberAt p (at + 6)) ∷ here .others .records
+  records-are : j .ready .place .records ≡ does (command .op) (getD p (at + componentFrom) 0) (numberAt p (at + placeFrom)) (numberAt p (at + targetFrom)) ∷ here .others .records
   records-are = here .records ∙ ap (λ (r : Rec). r ∷ here .others .records) (command .is)
 
   -- an event of this command
   event-more : nonJumps (j .ready .place .records) ≡ nonJumps (here .others .records) + 1
   event-more = ap nonJumps records-are ∙ omega arith
 
-  pub execute-space : 8 * walk .events + 8 ≤ length trace
+  pub execute-space : eventBytes * current .events + eventBytes ≤ length trace
   execute-space = omega (arith, event-more, j .ready .few, j .ready .lent .room)
 
-  module _ (code i size : ℕ) (ec : code ≡ getD p (at + 2) 0) (ei : i ≡ getD p (at + 3) 0) (es : size ≡ numberAt p (at + 8)) where
-    abbrev pub argument-here : ArgumentAt p components code (at + 10) (at + 10 + size)
+  module _ (code i size : ℕ) (ec : code ≡ getD p (at + codeFrom) 0) (ei : i ≡ getD p (at + componentFrom) 0) (es : size ≡ numberAt p (at + argumentFrom)) where
+    abbrev pub argument-here : ArgumentAt p components code (at + recordSize) (at + recordSize + size)
     argument-here =
-        let z : at + 10 + size - (at + 10) ≡ numberAt p (at + 8) = omega arith in
+        let z : at + recordSize + size - (at + recordSize) ≡ numberAt p (at + argumentFrom) = omega arith in
         record {
           i = i;
           row = command .row;
@@ -73,7 +76,7 @@ module _ (p : Bytes) (components : ℕ) (walk : ProgramState) (vendor class : By
     pub execute-inside : i < length (j .env .ids)
     execute-inside = omega (arith, command .inside, j .ready .among)
 
-    abbrev pub onward-here : (target : ℕ) → target ≡ numberAt p (at + 6) → OnwardJob p (at + 10 + size) (walk .n + 1) target
+    abbrev pub onward-here : (target : ℕ) → target ≡ numberAt p (at + targetFrom) → OnwardJob p (at + recordSize + size) (current .n + 1) target
     onward-here target et =
         let o = here .others in
         record {
@@ -84,40 +87,40 @@ module _ (p : Bytes) (components : ℕ) (walk : ProgramState) (vendor class : By
           aims = λ k. let a = command .aims (λ q. k (et ∙ q)) in (omega (arith, a .0), omega (arith, a .1));
         }
 
-    module _ (v : ℕ) (ev : v ≡ valueOf code i (at + 10)) (w : Params) (g : GivenAs p components code (at + 10) (at + 10 + size) argument-here w) where
-      pub execute-sixteen : code < 3 → v + 16 ≤ length p
+    module _ (v : ℕ) (ev : v ≡ valueOf code i (at + recordSize)) (w : Params) (g : GivenAs p components code (at + recordSize) (at + recordSize + size) argument-here w) where
+      pub execute-sixteen : code < 3 → v + limits .class ≤ length p
       execute-sixteen l =
-          let e : v ≡ at + 10 = ev ∙ rw (ne-eqb code 12 (λ q. omega arith)) in
-          omega (arith, argument-sixteen p components code (at + 10) (at + 10 + size) argument-here l)
+          let e : v ≡ at + recordSize = ev ∙ rw (ne-eqb code 12 (λ q. omega arith)) in
+          omega (arith, argument-sixteen p components code (at + recordSize) (at + recordSize + size) argument-here l)
 
       pub execute-code : IsCode p code v w
-      execute-code = rw (ev, g .op) (argument-code p components code (at + 10) (at + 10 + size) argument-here)
+      execute-code = rw (ev, g .op) (op-code components i _ (command .op) code (command .row) (argument-here .listed) (argument-here .reads))
 
-      module _ (place : ℕ) (ep : place ≡ numberAt p (at + 4)) (target : ℕ) (et : target ≡ numberAt p (at + 6)) (d : Progress) (slots′ : Bytes) (words′ : List ℕ) (trace′ : Bytes)
-          (counted : d .events ≡ walk .events + 1)
-          (goes : outAt p (length (j .env .ids)) words′ slots′ trace′ d
-          ≡ step (j .env) (opOf p code v w) i place (stateAt p (length (j .env .ids)) params slots trace (walk .events) (walk .used)))
-          (fit : FitAll p (length (j .env .ids)) words′)
-          (r : ProgramState) (o : Onward p (j .group) components (j .total) (walk .n + 1) (at + 10 + size) (onward-here target et .place) target d r) where
+      module _ (place : ℕ) (ep : place ≡ numberAt p (at + placeFrom)) (target : ℕ) (et : target ≡ numberAt p (at + targetFrom)) (d : Progress) (slots′ : Bytes) (params′ : List ℕ) (trace′ : Bytes)
+          (counted : d .events ≡ current .events + 1)
+          (goes : outAt p (length (j .env .ids)) params′ slots′ trace′ d
+          ≡ step (j .env) (opOf p code v w) i place (stateAt p (length (j .env .ids)) params slots trace (current .events) (current .used)))
+          (fit : FitAll p (length (j .env .ids)) params′)
+          (r : ProgramState) (o : Onward p (j .group) components (j .total) (current .n + 1) (at + recordSize + size) (onward-here target et .place) target d r) where
         abbrev st : State
-        st = stateOf p components params slots trace walk
+        st = stateOf p components params slots trace current
 
         abbrev st′ : State
-        st′ = stateOf p components words′ slots′ trace′ r
+        st′ = stateOf p components params′ slots′ trace′ r
 
-        stepped : step (j .env) (command .op) (getD p (at + 3) 0) (numberAt p (at + 4)) st ≡ out (endOf (d .end)) st′
+        stepped : step (j .env) (command .op) (getD p (at + componentFrom) 0) (numberAt p (at + placeFrom)) st ≡ out (endOf (d .end)) st′
         stepped = rw (o .events, o .used) (sym (rw (j .ready .among, ev, g .op, ei, ep) at goes))
 
-        base : exec (j .env) (j .ready .place .records) (walk .n) 0 st ≡ afterwards (j .env) (here .others .records) (walk .n + 1) target (out (endOf (d .end)) st′)
+        base : exec (j .env) (j .ready .place .records) (current .n) 0 st ≡ resume (j .env) (here .others .records) (current .n + 1) target (out (endOf (d .end)) st′)
         base =
-            ap (λ (rs : List Rec). exec (j .env) rs (walk .n) 0 st) records-are
-            ∙ exec-does (j .env) (here .others .records) (command .op) (getD p (at + 3) 0) (numberAt p (at + 4)) (numberAt p (at + 6)) (walk .n) st
-            ∙ ap (λ (x : Out). afterwards (j .env) (here .others .records) (walk .n + 1) (numberAt p (at + 6)) x) stepped
-            ∙ ap (λ (t : ℕ). afterwards (j .env) (here .others .records) (walk .n + 1) t (out (endOf (d .end)) st′)) (sym et)
+            ap (λ (rs : List Rec). exec (j .env) rs (current .n) 0 st) records-are
+            ∙ exec-does (j .env) (command .op) (getD p (at + componentFrom) 0) (numberAt p (at + placeFrom)) (numberAt p (at + targetFrom)) (current .n) (here .others .records) st
+            ∙ ap (λ (x : Out). resume (j .env) (here .others .records) (current .n + 1) (numberAt p (at + targetFrom)) x) stepped
+            ∙ ap (λ (t : ℕ). resume (j .env) (here .others .records) (current .n + 1) t (out (endOf (d .end)) st′)) (sym et)
 
-        pub executed : Executed p components walk vendor class assigned answers slots params trace j r slots′ words′ trace′
+        pub executed : Executed p components current vendor class assigned answers slots params trace j r slots′ params′ trace′
         executed =
-            let st₀ : State = stateAt p (length (j .env .ids)) params slots trace (walk .events) (walk .used) in
+            let st₀ : State = stateAt p (length (j .env .ids)) params slots trace (current .events) (current .used) in
             record {
               moved =
                   record {
@@ -125,7 +128,7 @@ module _ (p : Bytes) (components : ℕ) (walk : ProgramState) (vendor class : By
                         record {
                           lent =
                               lent-after (j .env) p vendor class assigned answers slots params trace (j .ready .lent) st₀ _ 1 refl refl (moves-step (j .env) (opOf p code v w) i place st₀)
-                              slots′ words′ trace′ (ap (λ (x : Out). x .state .slots) goes) (ap (λ (x : Out). x .state .trace) goes) fit;
+                              slots′ params′ trace′ (ap (λ (x : Out). x .state .slots) goes) (ap (λ (x : Out). x .state .trace) goes) fit;
                           among = j .ready .among;
                           place = o .place;
                           size = j .ready .size;

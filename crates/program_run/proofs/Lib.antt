@@ -1,6 +1,6 @@
 pub mod FirstRecord
 pub mod GivenLaws
-pub mod WalkLaws
+pub mod JumpLaws
 pub mod OnwardLaws
 pub mod ExecuteLaws
 pub mod StepLaws

@@ -8,7 +8,7 @@ use lib.ListN.{length, replicate}
 use Rattle.rules.specs.declared.answers.Refusal.{Refusal}
 use Rattle.rules.specs.declared.answers.Refusal.the-variants.{BadProgram}
 use Rattle.rules.specs.Answers.{refusalOf, endOf}
-use Rattle.rules.specs.Limits.{limits}
+use Rattle.rules.specs.Limits.{limits, allParams}
 use Rattle.rules.specs.Bytes.{Bytes, spanAt}
 use Rattle.rules.specs.Got.{Got, refused, got}
 use Rattle.rules.specs.Program.{Program}
@@ -27,27 +27,33 @@ use Rattle.program_test.specs.declared.test.Tested.{Tested}
 use Rattle.program_test.specs.Test.{TestedAs}
 use Rattle.program_run.specs.Known.{Known}
 use Rattle.program_run.specs.Step.{StepJob, stateOf, startAt, Ran}
-use Rattle.rules.specs.Step.{out}
+use Rattle.rules.specs.Step.{out, eventBytes}
 use Rattle.rules_theorems.proofs.Effects.{program-effects}
 use Rattle.rules_theorems.proofs.ProgramFaults.{Only97, program97}
 use Rattle.run_slots.proofs.SearchLaws.{names-count}
 
-module _ (p : Bytes) (t : Tested) (ids : List ℕ) (a : Known p t ids) where
+module _ (p : Bytes) (t : Tested) (a : Known p t) where
+  group : t .group ≡ a .program .group
+  group = ap (λ (y : Tested). y .group) (a .stands .exact)
+
+  number : t .number ≡ a .program .number
+  number = ap (λ (y : Tested). y .number) (a .stands .exact)
+
   pub few : t .components ≤ limits .components
   few = a .stands .some-ids .1
 
-  pub inside : (k : ℕ) → k < t .components → (spanAt ids k .from ≤ spanAt ids k .to) × (spanAt ids k .to ≤ length p)
+  pub inside : (k : ℕ) → k < t .components → (spanAt (t .ids) k .from ≤ spanAt (t .ids) k .to) × (spanAt (t .ids) k .to ≤ length p)
   inside = a .stands .places
 
   pub number-small : t .number ≤ limits .largest
   number-small = a .stands .small
 
   counted : length (a .program .ids) ≡ t .components
-  counted = ap length (sym (a .stands .names)) ∙ names-count p ids (t .components)
+  counted = ap length (sym (a .stands .names)) ∙ names-count p (t .ids) (t .components)
 
-  module _ (x : Input) (refusal : ℕ) (e : refusal ≡ refusalIn (admit (t .group) (t .number) (namesAt p ids (t .components)) x)) where
+  module _ (x : Input) (refusal : ℕ) (e : refusal ≡ refusalIn (admit (t .group) (t .number) (namesAt p (t .ids) (t .components)) x)) where
     stops : refusal ≡ refusalIn (admit (a .program .group) (a .program .number) (a .program .ids) x)
-    stops = rw (← a .stands .group, ← a .stands .number, ← a .stands .names) e
+    stops = rw (← group, ← number, ← a .stands .names) e
 
     is-run : runProgram p x ≡ runOf (a .program .group) (a .program .number) (a .program .ids) (λ env st. exec env (a .program .records) 0 0 st) x
     unfolding runProgram
@@ -57,8 +63,8 @@ module _ (p : Bytes) (t : Tested) (ids : List ℕ) (a : Known p t ids) where
         Settles (x .device) (runProgram p x) (record { answer = The.Refused r 0; number = x .device .number }) (x .slots) (x .slots) (x .trace) (x .trace)
     refused-answer = Frame.refused-answer (a .program .group) (a .program .number) (a .program .ids) x _ (runProgram p x) is-run refusal stops
 
-    module _ (z : refusal ≡ 0) (assigned : List ℕ) (f : Found (namesAt p ids (t .components)) (x .slots) (replicate 8 0) assigned) where
-      unfoldable whole : StepJob p (t .components) (t .records) (startAt (t .from)) (x .device .vendor) (x .device .class) assigned (x .answers) (x .slots) (replicate 40 0) (x .trace)
+    module _ (z : refusal ≡ 0) (assigned : List ℕ) (f : Found (namesAt p (t .ids) (t .components)) (x .slots) (replicate (limits .components) 0) assigned) where
+      unfoldable whole : StepJob p (t .components) (t .records) (startAt (t .from)) (x .device .vendor) (x .device .class) assigned (x .answers) (x .slots) (replicate allParams 0) (x .trace)
       whole =
           record {
             env = envOf (a .program .ids) x;
@@ -80,23 +86,23 @@ module _ (p : Bytes) (t : Tested) (ids : List ℕ) (a : Known p t ids) where
             going = refl;
           }
 
-      pub job : StepJob p (t .components) (t .records) (startAt (t .from)) (x .device .vendor) (x .device .class) assigned (x .answers) (x .slots) (replicate 40 0) (x .trace)
+      pub job : StepJob p (t .components) (t .records) (startAt (t .from)) (x .device .vendor) (x .device .class) assigned (x .answers) (x .slots) (replicate allParams 0) (x .trace)
       job = whole
 
-      module _ (r : ProgramState) (slots′ : Bytes) (words′ : List ℕ) (trace′ : Bytes)
-          (d : (j : StepJob p (t .components) (t .records) (startAt (t .from)) (x .device .vendor) (x .device .class) assigned (x .answers) (x .slots) (replicate 40 0) (x .trace)) →
-          Ran p (t .components) (t .records) (t .from) (x .device .vendor) (x .device .class) assigned (x .answers) (x .slots) (replicate 40 0) (x .trace) j r slots′ words′ trace′) where
-        ran : Ran p (t .components) (t .records) (t .from) (x .device .vendor) (x .device .class) assigned (x .answers) (x .slots) (replicate 40 0) (x .trace) whole r slots′ words′ trace′
+      module _ (r : ProgramState) (slots′ : Bytes) (params′ : List ℕ) (trace′ : Bytes)
+          (d : (j : StepJob p (t .components) (t .records) (startAt (t .from)) (x .device .vendor) (x .device .class) assigned (x .answers) (x .slots) (replicate allParams 0) (x .trace)) →
+          Ran p (t .components) (t .records) (t .from) (x .device .vendor) (x .device .class) assigned (x .answers) (x .slots) (replicate allParams 0) (x .trace) j r slots′ params′ trace′) where
+        ran : Ran p (t .components) (t .records) (t .from) (x .device .vendor) (x .device .class) assigned (x .answers) (x .slots) (replicate allParams 0) (x .trace) whole r slots′ params′ trace′
         ran = d whole
 
-        done : out (endOf (r .end)) (stateOf p (t .components) words′ slots′ trace′ r) ≡ exec (envOf (a .program .ids) x) (a .program .records) 0 0 (startState (a .program .ids) x)
+        done : out (endOf (r .end)) (stateOf p (t .components) params′ slots′ trace′ r) ≡ exec (envOf (a .program .ids) x) (a .program .records) 0 0 (startState (a .program .ids) x)
         unfolding whole
         done =
             ran .goes
-            ∙ ap (λ (n : ℕ). exec (envOf (a .program .ids) x) (a .program .records) 0 0 (stateAt p n (replicate 40 0) (x .slots) (x .trace) 0 0)) (sym counted)
+            ∙ ap (λ (n : ℕ). exec (envOf (a .program .ids) x) (a .program .records) 0 0 (stateAt p n (replicate allParams 0) (x .slots) (x .trace) 0 0)) (sym counted)
             ∙ ap (exec (envOf (a .program .ids) x) (a .program .records) 0 0) (state-start p (a .program .ids) x)
 
-        pub last-event : (0 < r .end → 0 < r .events) × (8 * r .events ≤ length trace′)
+        pub last-event : (0 < r .end → 0 < r .events) × (eventBytes * r .events ≤ length trace′)
         unfolding report
         last-event =
             let f = program-effects p (a .program) x _ (a .tests) (Frame.run-as (a .program .group) (a .program .number) (a .program .ids) x _ (runProgram p x) is-run refusal stops z (r .end) (r .events) (r .used) _ slots′ trace′ done) in
@@ -106,25 +112,25 @@ module _ (p : Bytes) (t : Tested) (ids : List ℕ) (a : Known p t ids) where
             Settles (x .device) (runProgram p x) (record { answer = The.Ran ending; number = after }) (x .slots) slots′ (x .trace) trace′
         answered ending after q w =
             Frame.answered (a .program .group) (a .program .number) (a .program .ids) x _ (runProgram p x) is-run refusal stops z (r .end) (r .events) (r .used) _ slots′ trace′ done ending after q
-            (rw (← a .stands .group, ← a .stands .number) w)
+            (rw (← group, ← number) w)
 
 -- what the test answered
-module _ (p : Bytes) (t : Tested) (ids : List ℕ) (e : TestedAs p (programIn p) t ids) where
+module _ (p : Bytes) (t : Tested) (e : TestedAs p (programIn p) t) where
   no-program : t .good ≡ false → programIn p ≡ refused BadProgram 0
   no-program h = go (programIn p) refl e (program97 p)
     where
-      go : (y : Got Program) → programIn p ≡ y → TestedAs p y t ids → Only97 y → programIn p ≡ refused BadProgram 0
+      go : (y : Got Program) → programIn p ≡ y → TestedAs p y t → Only97 y → programIn p ≡ refused BadProgram 0
       go (refused r k) u v w = rw (← w .0, ← w .1) u
-      go (got x) u v w = let z : _≡_ {A = Bool} true false = sym (v .good) ∙ h in let y : _≡_ {A = ℕ} 0 1 = cc in absurd (omega arith)
+      go (got x) u v w = let z : _≡_ {A = Bool} true false = sym (ap (λ (s : Tested). s .good) (v .exact)) ∙ h in let y : _≡_ {A = ℕ} 0 1 = cc in absurd (omega arith)
 
   pub refused-program : t .good ≡ false → (x : Input) →
       Settles (x .device) (runProgram p x) (record { answer = The.Refused BadProgram 0; number = x .device .number }) (x .slots) (x .slots) (x .trace) (x .trace)
   unfolding runProgram
   refused-program h x = settles-refused x (runProgram p x) BadProgram 0 (rw (no-program h))
 
-  pub known : t .good ≡ true → Known p t ids
+  pub known : t .good ≡ true → Known p t
   known h = go (programIn p) refl e
     where
-      go : (y : Got Program) → programIn p ≡ y → TestedAs p y t ids → Known p t ids
-      go (refused r k) u v = let z : _≡_ {A = Bool} false true = sym v ∙ h in let y : _≡_ {A = ℕ} 0 1 = cc in absurd (omega arith)
+      go : (y : Got Program) → programIn p ≡ y → TestedAs p y t → Known p t
+      go (refused r k) u v = let z : _≡_ {A = Bool} false true = sym (ap (λ (s : Tested). s .good) v) ∙ h in let y : _≡_ {A = ℕ} 0 1 = cc in absurd (omega arith)
       go (got x) u v = record { program = x; tests = u; stands = v }

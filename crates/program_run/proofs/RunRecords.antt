@@ -4,6 +4,8 @@ use mathlib.Core.Path.{_≡_, refl, sym, ap, _∙_}
 use mathlib.Core.List.{List, []}
 use native.Mathlib.Omega.{arith}
 use Rattle.rules.specs.declared.answers.Group.{Group}
+use Rattle.rules.specs.declared.answers.End.the-variants.{Finished}
+use Rattle.rules.specs.Answers.{endNumber}
 use Rattle.rules.specs.Bytes.{Bytes}
 use Rattle.rules.specs.Program.{Rec}
 use Rattle.rules.specs.ProgramRun.{exec}
@@ -13,45 +15,45 @@ use Rattle.program_run.specs.declared.step.ProgramState.{ProgramState}
 use Rattle.program_run.specs.Step.{stateOf, Ready, rest, StepJob, Stepped, startAt, Ran}
 use Rattle.program_run.proofs.FirstRecord.{none-left}
 
-pub record Loop (p : Bytes) (components total : ℕ) (vendor class : Bytes) (assigned : List ℕ) (answers : Bytes) (env : Env) (group : Group) (whole : Out) (slots : Bytes) (params : List ℕ) (trace : Bytes) (walk : ProgramState) : Type 0 where
-  pub ready : Ready env group p components total walk vendor class assigned answers slots params trace
-  pub goes : whole ≡ rest env group p components total walk (ready .place) slots params trace
-  pub calm : walk .end ≡ 0
+pub record Loop (p : Bytes) (components total : ℕ) (vendor class : Bytes) (assigned : List ℕ) (answers : Bytes) (env : Env) (group : Group) (whole : Out) (slots : Bytes) (params : List ℕ) (trace : Bytes) (current : ProgramState) : Type 0 where
+  pub ready : Ready env group p components total current vendor class assigned answers slots params trace
+  pub goes : whole ≡ rest env group p components total current (ready .place) slots params trace
+  pub calm : current .end ≡ endNumber Finished
 
-module _ (p : Bytes) (components total from : ℕ) (vendor class : Bytes) (assigned : List ℕ) (answers slots₀ : Bytes) (words₀ : List ℕ) (trace₀ : Bytes)
-    (j : StepJob p components total (startAt from) vendor class assigned answers slots₀ words₀ trace₀) where
+module _ (p : Bytes) (components total from : ℕ) (vendor class : Bytes) (assigned : List ℕ) (answers slots₀ : Bytes) (params₀ : List ℕ) (trace₀ : Bytes)
+    (j : StepJob p components total (startAt from) vendor class assigned answers slots₀ params₀ trace₀) where
   abbrev pub whole : Out
-  whole = exec (j .env) (j .ready .place .records) 0 0 (stateAt p components words₀ slots₀ trace₀ 0 0)
+  whole = exec (j .env) (j .ready .place .records) 0 0 (stateAt p components params₀ slots₀ trace₀ 0 0)
 
   abbrev pub LoopAt : Bytes → List ℕ → Bytes → ProgramState → Type 0
-  LoopAt slots params trace walk = Loop p components total vendor class assigned answers (j .env) (j .group) whole slots params trace walk
+  LoopAt slots params trace current = Loop p components total vendor class assigned answers (j .env) (j .group) whole slots params trace current
 
-  pub loop-starts : LoopAt slots₀ words₀ trace₀ (startAt from)
+  pub loop-starts : LoopAt slots₀ params₀ trace₀ (startAt from)
   loop-starts = record { ready = j .ready; goes = refl; calm = refl }
 
-  module _ (slots : Bytes) (params : List ℕ) (trace : Bytes) (walk : ProgramState) (l : LoopAt slots params trace walk) where
-    abbrev pub loop-job : StepJob p components total walk vendor class assigned answers slots params trace
+  module _ (slots : Bytes) (params : List ℕ) (trace : Bytes) (current : ProgramState) (l : LoopAt slots params trace current) where
+    abbrev pub loop-job : StepJob p components total current vendor class assigned answers slots params trace
     loop-job = record { env = j .env; group = j .group; ready = l .ready; going = l .calm }
 
-    pub loop-done : total ≤ walk .n → Ran p components total from vendor class assigned answers slots₀ words₀ trace₀ j walk slots params trace
+    pub loop-done : total ≤ current .n → Ran p components total from vendor class assigned answers slots₀ params₀ trace₀ j current slots params trace
     unfolding exec
     loop-done h =
-        let e : l .ready .place .records ≡ [] = none-left p (j .group) components total (walk .n) (walk .at) (l .ready .place) (omega (arith, l .ready .place .below)) in
+        let e : l .ready .place .records ≡ [] = none-left p (j .group) components total (current .n) (current .at) (l .ready .place) (omega (arith, l .ready .place .below)) in
         record {
-          goes = rw (l .calm) (sym (l .goes ∙ ap (λ (rs : List Rec). exec (j .env) rs (walk .n) 0 (stateOf p components params slots trace walk)) e));
+          goes = rw (l .calm) (sym (l .goes ∙ ap (λ (rs : List Rec). exec (j .env) rs (current .n) 0 (stateOf p components params slots trace current)) e));
           late = λ z. absurd (omega (arith, l .calm));
           few = omega (arith, l .ready .few);
         }
 
-    module _ (h : walk .n < total) (r : ProgramState) (slots′ : Bytes) (words′ : List ℕ) (trace′ : Bytes)
-        (s : Stepped p components total walk vendor class assigned answers slots params trace loop-job r slots′ words′ trace′) where
-      pub loop-stops : (r .end ≡ 0 → ⊥) → Ran p components total from vendor class assigned answers slots₀ words₀ trace₀ j r slots′ words′ trace′
+    module _ (h : current .n < total) (r : ProgramState) (slots′ : Bytes) (params′ : List ℕ) (trace′ : Bytes)
+        (s : Stepped p components total current vendor class assigned answers slots params trace loop-job r slots′ params′ trace′) where
+      pub loop-stops : (r .end ≡ endNumber Finished → ⊥) → Ran p components total from vendor class assigned answers slots₀ params₀ trace₀ j r slots′ params′ trace′
       loop-stops z =
           let w : 0 < r .end = omega (arith, z) in
           record { goes = sym (l .goes ∙ s .moved .stops w); late = λ _. omega (arith, s .late w); few = omega (arith, s .moved .ready .few) }
 
-      pub loop-goes-on : r .end ≡ 0 → LoopAt slots′ words′ trace′ r
+      pub loop-goes-on : r .end ≡ endNumber Finished → LoopAt slots′ params′ trace′ r
       loop-goes-on z = record { ready = s .moved .ready; goes = l .goes ∙ s .moved .goes z; calm = z }
 
-      pub loop-further : (walk .n < r .n) × (r .n ≤ total)
+      pub loop-further : (current .n < r .n) × (r .n ≤ total)
       loop-further = (s .further h, s .moved .ready .place .below)

@@ -1,7 +1,5 @@
 -- What the program test assigned in a program that it accepted.
 use mathlib.Core.Path.{_≡_}
-use mathlib.Core.List.{List}
-use Prim.Native.Nat.{ℕ}
 use Rattle.rules.specs.Bytes.{Bytes}
 use Rattle.rules.specs.Got.{got}
 use Rattle.rules.specs.Program.{Program}
@@ -9,7 +7,7 @@ use Rattle.rules.specs.ProgramTest.{programIn}
 use Rattle.program_test.specs.declared.test.Tested.{Tested}
 use Rattle.program_test.specs.Test.{ProgramAt}
 
-pub record Known (p : Bytes) (t : Tested) (ids : List ℕ) : Type 0 where
+pub record Known (p : Bytes) (t : Tested) : Type 0 where
   pub program : Program
   pub tests : programIn p ≡ got program
-  pub stands : ProgramAt p program t ids
+  pub stands : ProgramAt p program t

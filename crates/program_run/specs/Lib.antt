@@ -1,3 +1,3 @@
-pub mod Walk
+pub mod Jump
 pub mod Step
 pub mod Known

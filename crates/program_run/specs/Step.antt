@@ -6,18 +6,17 @@ use mathlib.Core.List.{List}
 use mathlib.Core.Option.{some}
 use lib.Dec.{eqb}
 use lib.ListN.{length, getD}
-use Rattle.rules.specs.declared.answers.End.the-variants.{ConditionFailed}
+use Rattle.rules.specs.declared.answers.End.the-variants.{Finished}
 use Rattle.rules.specs.declared.answers.Group.{Group}
-use Rattle.rules.specs.Answers.{endOf}
+use Rattle.rules.specs.Answers.{endNumber, endOf}
 use Rattle.rules.specs.Bytes.{Bytes, part}
-use Rattle.rules.specs.Commands.{Op, Row, rowOf, commands}
+use Rattle.rules.specs.Commands.{Op, setIndex, code, Row, rowOf, commands}
 use Rattle.rules.specs.Got.{got}
 use Rattle.rules.specs.Limits.{limits}
 use Rattle.rules.specs.Program.{Rec}
-use Rattle.rules.specs.ProgramFormat.{NONE}
-use Rattle.rules.specs.ProgramRun.{exec}
+use Rattle.rules.specs.ProgramFormat.{JUMP, NONE, codeFrom}
+use Rattle.rules.specs.ProgramRun.{exec, resume}
 use Rattle.rules.specs.ProgramTest.{opIn, nonJumps}
-use Rattle.rules.specs.Run.{next}
 use Rattle.rules.specs.Step.{Env, State, Out, out}
 use Rattle.run_slots.specs.declared.params.Params.{Params}
 use Rattle.run_slots.specs.Params.{Fit}
@@ -25,7 +24,7 @@ use Rattle.run_commands.specs.declared.Progress.{Progress}
 use Rattle.run_commands.specs.Machine.{stateAt, Lent}
 use Rattle.run_commands.specs.Op.{opOf}
 use Rattle.program_run.specs.declared.step.ProgramState.{ProgramState}
-use Rattle.program_run.specs.Walk.{RecordsAt}
+use Rattle.program_run.specs.Jump.{RecordsAt}
 
 -- the argument of a command, as the program test read it
 pub record ArgumentAt (p : Bytes) (components code from to : ℕ) : Type 0 where
@@ -38,21 +37,13 @@ pub record ArgumentAt (p : Bytes) (components code from to : ℕ) : Type 0 where
   pub fits : to ≤ length p
   pub reads : opIn components i (row .form) (part p from (to - from)) ≡ got op
 
--- what a command of that code has beside its parameters: 12 the new index, any other the place of its argument
+-- what the command of code c has beside its parameters: set index the new index, any other the place of its argument
 abbrev pub valueOf : ℕ → ℕ → ℕ → ℕ
-valueOf code i from = cond (eqb code 12) i from
+valueOf c i from = cond (eqb c (code (setIndex i))) i from
 
 pub record GivenAs (p : Bytes) (components code from to : ℕ) (x : ArgumentAt p components code from to) (r : Params) : Type 0 where
   pub op : opOf p code (valueOf code (x .i) from) r ≡ x .op
   pub fit : Fit p components r
-
--- a condition with the target t failed before the records from number n on
-unfoldable pub failing : Env → List Rec → ℕ → ℕ → State → Out
-failing env rs n t st = elim (eqb t NONE) [ true ↦ out ConditionFailed st | false ↦ exec env rs n (t - n) st ]
-
--- after a command that gave o
-abbrev pub afterwards : Env → List Rec → ℕ → ℕ → Out → Out
-afterwards env rs n t o = next o (λ st. exec env rs n 0 st) (λ st. failing env rs n t st)
 
 -- record n at `at`, and a target, which is no record or a later one
 pub record OnwardJob (p : Bytes) (at n target : ℕ) : Type 0 where
@@ -69,69 +60,69 @@ pub record Onward (p : Bytes) (group : Group) (components total n at : ℕ) (x :
   pub few : nonJumps (place .records) ≤ nonJumps (x .records)
   pub events : r .events ≡ done .events
   pub used : r .used ≡ done .used
-  pub goes : r .end ≡ 0 → (env : Env) (st : State) → afterwards env (x .records) n target (out (endOf (done .end)) st) ≡ exec env (place .records) (r .n) 0 st
-  pub stops : 0 < r .end → (env : Env) (st : State) → afterwards env (x .records) n target (out (endOf (done .end)) st) ≡ out (endOf (r .end)) st
+  pub goes : r .end ≡ endNumber Finished → (env : Env) (st : State) → resume env (x .records) n target (out (endOf (done .end)) st) ≡ exec env (place .records) (r .n) 0 st
+  pub stops : 0 < r .end → (env : Env) (st : State) → resume env (x .records) n target (out (endOf (done .end)) st) ≡ out (endOf (r .end)) st
 
 -- the state that a run has reached
 abbrev pub stateOf : Bytes → ℕ → List ℕ → Bytes → Bytes → ProgramState → State
 stateOf p components params slots trace r = stateAt p components params slots trace (r .events) (r .used)
 
 -- a run over lent memory that is at a record or at the end of them, with room for an event of each command that is left
-pub record Ready (env : Env) (group : Group) (p : Bytes) (components total : ℕ) (walk : ProgramState) (vendor class : Bytes) (assigned : List ℕ) (answers slots : Bytes) (params : List ℕ) (trace : Bytes) : Type 0 where
+pub record Ready (env : Env) (group : Group) (p : Bytes) (components total : ℕ) (current : ProgramState) (vendor class : Bytes) (assigned : List ℕ) (answers slots : Bytes) (params : List ℕ) (trace : Bytes) : Type 0 where
   pub lent : Lent env p vendor class assigned answers slots params trace
   pub among : length (env .ids) ≡ components
-  pub place : RecordsAt p group components total (walk .n) (walk .at)
+  pub place : RecordsAt p group components total (current .n) (current .at)
   pub size : total ≤ limits .records
-  pub few : walk .events + nonJumps (place .records) ≤ limits .commands
+  pub few : current .events + nonJumps (place .records) ≤ limits .commands
 
 -- what the rule gives from there
-abbrev pub rest : (env : Env) (group : Group) (p : Bytes) (components total : ℕ) (walk : ProgramState) → RecordsAt p group components total (walk .n) (walk .at) → Bytes → List ℕ → Bytes → Out
-rest env group p components total walk x slots params trace = exec env (x .records) (walk .n) 0 (stateOf p components params slots trace walk)
+abbrev pub rest : (env : Env) (group : Group) (p : Bytes) (components total : ℕ) (current : ProgramState) → RecordsAt p group components total (current .n) (current .at) → Bytes → List ℕ → Bytes → Out
+rest env group p components total current x slots params trace = exec env (x .records) (current .n) 0 (stateOf p components params slots trace current)
 
 -- the run was taken on to r: it goes on there as the rule does, or ended as the rule says
-pub record Moved (env : Env) (group : Group) (p : Bytes) (components total : ℕ) (walk : ProgramState) (vendor class : Bytes) (assigned : List ℕ) (answers slots : Bytes) (params : List ℕ) (trace : Bytes)
-    (x : Ready env group p components total walk vendor class assigned answers slots params trace) (r : ProgramState) (slots′ : Bytes) (words′ : List ℕ) (trace′ : Bytes) : Type 0 where
-  pub ready : Ready env group p components total r vendor class assigned answers slots′ words′ trace′
-  pub goes : r .end ≡ 0 → rest env group p components total walk (x .place) slots params trace ≡ rest env group p components total r (ready .place) slots′ words′ trace′
-  pub stops : 0 < r .end → rest env group p components total walk (x .place) slots params trace ≡ out (endOf (r .end)) (stateOf p components words′ slots′ trace′ r)
+pub record Moved (env : Env) (group : Group) (p : Bytes) (components total : ℕ) (current : ProgramState) (vendor class : Bytes) (assigned : List ℕ) (answers slots : Bytes) (params : List ℕ) (trace : Bytes)
+    (x : Ready env group p components total current vendor class assigned answers slots params trace) (r : ProgramState) (slots′ : Bytes) (params′ : List ℕ) (trace′ : Bytes) : Type 0 where
+  pub ready : Ready env group p components total r vendor class assigned answers slots′ params′ trace′
+  pub goes : r .end ≡ endNumber Finished → rest env group p components total current (x .place) slots params trace ≡ rest env group p components total r (ready .place) slots′ params′ trace′
+  pub stops : 0 < r .end → rest env group p components total current (x .place) slots params trace ≡ out (endOf (r .end)) (stateOf p components params′ slots′ trace′ r)
 
 -- at a command
-pub record ExecJob (p : Bytes) (components : ℕ) (walk : ProgramState) (vendor class : Bytes) (assigned : List ℕ) (answers slots : Bytes) (params : List ℕ) (trace : Bytes) : Type 0 where
+pub record ExecJob (p : Bytes) (components : ℕ) (current : ProgramState) (vendor class : Bytes) (assigned : List ℕ) (answers slots : Bytes) (params : List ℕ) (trace : Bytes) : Type 0 where
   pub env : Env
   pub group : Group
   pub total : ℕ
-  pub ready : Ready env group p components total walk vendor class assigned answers slots params trace
-  pub before : walk .n < total
-  pub stands : getD p (walk .at + 2) 0 ≡ 0xff → ⊥
+  pub ready : Ready env group p components total current vendor class assigned answers slots params trace
+  pub before : current .n < total
+  pub stands : getD p (current .at + codeFrom) 0 ≡ JUMP → ⊥
 
 -- which was done
-pub record Executed (p : Bytes) (components : ℕ) (walk : ProgramState) (vendor class : Bytes) (assigned : List ℕ) (answers slots : Bytes) (params : List ℕ) (trace : Bytes)
-    (j : ExecJob p components walk vendor class assigned answers slots params trace) (r : ProgramState) (slots′ : Bytes) (words′ : List ℕ) (trace′ : Bytes) : Type 0 where
-  pub moved : Moved (j .env) (j .group) p components (j .total) walk vendor class assigned answers slots params trace (j .ready) r slots′ words′ trace′
-  pub wrote : r .events ≡ walk .events + 1
-  pub further : walk .n < r .n
+pub record Executed (p : Bytes) (components : ℕ) (current : ProgramState) (vendor class : Bytes) (assigned : List ℕ) (answers slots : Bytes) (params : List ℕ) (trace : Bytes)
+    (j : ExecJob p components current vendor class assigned answers slots params trace) (r : ProgramState) (slots′ : Bytes) (params′ : List ℕ) (trace′ : Bytes) : Type 0 where
+  pub moved : Moved (j .env) (j .group) p components (j .total) current vendor class assigned answers slots params trace (j .ready) r slots′ params′ trace′
+  pub wrote : r .events ≡ current .events + 1
+  pub further : current .n < r .n
 
-pub record StepJob (p : Bytes) (components total : ℕ) (walk : ProgramState) (vendor class : Bytes) (assigned : List ℕ) (answers slots : Bytes) (params : List ℕ) (trace : Bytes) : Type 0 where
+pub record StepJob (p : Bytes) (components total : ℕ) (current : ProgramState) (vendor class : Bytes) (assigned : List ℕ) (answers slots : Bytes) (params : List ℕ) (trace : Bytes) : Type 0 where
   pub env : Env
   pub group : Group
-  pub ready : Ready env group p components total walk vendor class assigned answers slots params trace
-  pub going : walk .end ≡ 0
+  pub ready : Ready env group p components total current vendor class assigned answers slots params trace
+  pub going : current .end ≡ endNumber Finished
 
 -- one event was written, or the end was reached without
-pub record Stepped (p : Bytes) (components total : ℕ) (walk : ProgramState) (vendor class : Bytes) (assigned : List ℕ) (answers slots : Bytes) (params : List ℕ) (trace : Bytes)
-    (j : StepJob p components total walk vendor class assigned answers slots params trace) (r : ProgramState) (slots′ : Bytes) (words′ : List ℕ) (trace′ : Bytes) : Type 0 where
-  pub moved : Moved (j .env) (j .group) p components total walk vendor class assigned answers slots params trace (j .ready) r slots′ words′ trace′
-  pub few : r .events ≤ walk .events + 1
-  pub wrote : r .n < total → r .events ≡ walk .events + 1
-  pub late : 0 < r .end → r .events ≡ walk .events + 1
-  pub further : walk .n < total → walk .n < r .n
+pub record Stepped (p : Bytes) (components total : ℕ) (current : ProgramState) (vendor class : Bytes) (assigned : List ℕ) (answers slots : Bytes) (params : List ℕ) (trace : Bytes)
+    (j : StepJob p components total current vendor class assigned answers slots params trace) (r : ProgramState) (slots′ : Bytes) (params′ : List ℕ) (trace′ : Bytes) : Type 0 where
+  pub moved : Moved (j .env) (j .group) p components total current vendor class assigned answers slots params trace (j .ready) r slots′ params′ trace′
+  pub few : r .events ≤ current .events + 1
+  pub wrote : r .n < total → r .events ≡ current .events + 1
+  pub late : 0 < r .end → r .events ≡ current .events + 1
+  pub further : current .n < total → current .n < r .n
 
 -- a run at the first record
 abbrev pub startAt : ℕ → ProgramState
-startAt from = record { at = from; n = 0; events = 0; used = 0; end = 0 }
+startAt from = record { at = from; n = 0; events = 0; used = 0; end = endNumber Finished }
 
 pub record Ran (p : Bytes) (components total from : ℕ) (vendor class : Bytes) (assigned : List ℕ) (answers slots : Bytes) (params : List ℕ) (trace : Bytes)
-    (j : StepJob p components total (startAt from) vendor class assigned answers slots params trace) (r : ProgramState) (slots′ : Bytes) (words′ : List ℕ) (trace′ : Bytes) : Type 0 where
-  pub goes : out (endOf (r .end)) (stateOf p components words′ slots′ trace′ r) ≡ exec (j .env) (j .ready .place .records) 0 0 (stateAt p components params slots trace 0 0)
+    (j : StepJob p components total (startAt from) vendor class assigned answers slots params trace) (r : ProgramState) (slots′ : Bytes) (params′ : List ℕ) (trace′ : Bytes) : Type 0 where
+  pub goes : out (endOf (r .end)) (stateOf p components params′ slots′ trace′ r) ≡ exec (j .env) (j .ready .place .records) 0 0 (stateAt p components params slots trace 0 0)
   pub late : 0 < r .end → 0 < r .events
   pub few : r .events ≤ limits .commands

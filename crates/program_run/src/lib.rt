@@ -8,8 +8,6 @@ use program_test::test::test_program;
 use rules::answers::Refusal;
 use rules::controller::ALL_PARAMETERS;
 use rules::controller::Controller;
-use rules::controller::PLACES;
-use rules::controller::Places;
 use run_admission::admit::admit;
 use run_admission::answer::Answer;
 use run_admission::answer::Outcome;
@@ -17,32 +15,32 @@ use run_admission::ending::ended;
 use run_admission::ending::number_after;
 use step::run_records;
 
-pub mod step;
-pub mod walk;
+mod jump;
+mod step;
 
 // The run of a program that the test has accepted, by what the test assigned.
 fn run_tested(
     p: &[u8],
     t: Tested,
-    ids: &Places,
     verdict: bool,
     device: Controller,
     slots: &mut [u8],
     answers: &[u8],
     trace: &mut [u8],
 ) -> Outcome
-    requires { ⌜ Known (now p) t (now ids) ⌝ }
+    requires { ⌜ Known (now p) t ⌝ }
     ensures { λ r. ⌜ Settles device (runProgram (now (p .entry)) (inputOf verdict device (now (slots .entry)) (now (answers .entry)) (now (trace .entry)))) r (now (slots .entry)) (now (slots .exit)) (now (trace .entry)) (now (trace .exit)) ⌝ }
 {
     let group = t.group;
     let number = t.number;
     let n = t.components;
+    let ids = t.ids;
     let mut assigned = [0usize; Controller::COMPONENTS];
     let refusal = admit(
         p,
         group,
         number,
-        ids,
+        &ids,
         n,
         verdict,
         device,
@@ -91,8 +89,7 @@ pub fn run_program(
 ) -> Outcome
     ensures { λ r. ⌜ Settles device (runProgram (now (p .entry)) (inputOf verdict device (now (slots .entry)) (now (answers .entry)) (now (trace .entry)))) r (now (slots .entry)) (now (slots .exit)) (now (trace .entry)) (now (trace .exit)) ⌝ }
 {
-    let mut ids = [0usize; PLACES];
-    let t = test_program(p, &mut ids);
+    let t = test_program(p);
     let good = t.good;
     if !good {
         return Outcome {
@@ -100,5 +97,5 @@ pub fn run_program(
             number: device.number,
         };
     }
-    run_tested(p, t, &ids, verdict, device, slots, answers, trace)
+    run_tested(p, t, verdict, device, slots, answers, trace)
 }

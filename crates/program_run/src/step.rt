@@ -1,16 +1,23 @@
 // One step of a program's run: the next record that writes an event.
 ghost use mathlib.Core.Path.{_≡_};
 ghost use Rattle.program_run.specs.Step.{ArgumentAt, GivenAs, valueOf, OnwardJob, Onward, ExecJob, Executed, StepJob, Stepped, startAt, Ran};
-use crate::walk::advance;
-use crate::walk::land;
+use crate::jump::advance;
+use crate::jump::land;
 use byte_buffer::two;
 use byte_buffer::wide;
 use program_records::parameters::read_params;
+use rules::answers::End;
+use rules::codes;
 use rules::controller::AllParameters;
 use rules::controller::Sixteen;
 use rules::controller::SlotNumbers;
+use rules::program_format::ARGUMENT_LENGTH;
+use rules::program_format::CODE;
+use rules::program_format::COMPONENT;
 use rules::program_format::NO_TARGET;
+use rules::program_format::PLACE;
 use rules::program_format::RECORD_BYTES;
+use rules::program_format::TARGET;
 use run_commands::Progress;
 use run_commands::perform::perform;
 use run_slots::params::Params;
@@ -25,11 +32,11 @@ pub struct ProgramState {
     pub end: usize,
 }
 
-// What a command of that code has beside its parameters: 12 the new index, any other the place of its argument.
+// What a command of that code has beside its parameters: set index the new index, any other the place of its argument.
 fn value(code: usize, i: usize, from: usize) -> usize
     ensures { λ r. ⌜ r ≡ valueOf code i from ⌝ }
 {
-    if code == 12 {
+    if code == codes::SET_INDEX {
         return i;
     }
     from
@@ -41,15 +48,9 @@ fn given(p: &[u8], components: usize, code: usize, from: usize, to: usize) -> Pa
     ensures { λ r. ⌜ ((x : ArgumentAt (now (p .entry)) components code from to) → GivenAs (now (p .entry)) components code from to x r) ⌝ }
 {
     match code {
-        19 | 20 => {
+        codes::SET_PARAMETERS | codes::OVERRIDE_PARAMETERS => {
             let e = read_params(p, from, to, components);
-            Params {
-                uri: e.uri,
-                length: e.length,
-                source: e.source,
-                digest: e.digest,
-                size: e.size,
-            }
+            e.params
         }
         _ => Params {
             uri: 0,
@@ -67,14 +68,14 @@ fn onward(p: &[u8], at: usize, n: usize, target: usize, done: Progress) -> Progr
     ensures { λ r. ⌜ ((j : OnwardJob (now (p .entry)) at n target) → Onward (now (p .entry)) (j .group) (j .components) (j .total) n at (j .place) target done r) ⌝ }
 {
     let end = done.end;
-    if end == 1 {
+    if end == End::CONDITION_FAILED {
         if target != NO_TARGET {
             return ProgramState {
                 at: advance(p, at, n, target),
                 n: target,
                 events: done.events,
                 used: done.used,
-                end: 0,
+                end: End::FINISHED,
             };
         }
     }
@@ -87,11 +88,11 @@ fn onward(p: &[u8], at: usize, n: usize, target: usize, done: Progress) -> Progr
     }
 }
 
-// The record at walk.at, which is a command, is done.
+// The record at current.at, which is a command, is done.
 fn execute(
     p: &[u8],
     components: usize,
-    walk: ProgramState,
+    current: ProgramState,
     vendor: &Sixteen,
     class: &Sixteen,
     assigned: &SlotNumbers,
@@ -100,22 +101,22 @@ fn execute(
     params: &mut AllParameters,
     trace: &mut [u8],
 ) -> ProgramState
-    requires { ⌜ ExecJob (now p) components walk (now vendor) (now class) (now assigned) (now answers) (now slots) (now params) (now trace) ⌝ }
-    ensures { λ r. ⌜ ((j : ExecJob (now (p .entry)) components walk (now (vendor .entry)) (now (class .entry)) (now (assigned .entry)) (now (answers .entry)) (now (slots .entry)) (now (params .entry)) (now (trace .entry))) → Executed (now (p .entry)) components walk (now (vendor .entry)) (now (class .entry)) (now (assigned .entry)) (now (answers .entry)) (now (slots .entry)) (now (params .entry)) (now (trace .entry)) j r (now (slots .exit)) (now (params .exit)) (now (trace .exit))) ⌝ }
+    requires { ⌜ ExecJob (now p) components current (now vendor) (now class) (now assigned) (now answers) (now slots) (now params) (now trace) ⌝ }
+    ensures { λ r. ⌜ ((j : ExecJob (now (p .entry)) components current (now (vendor .entry)) (now (class .entry)) (now (assigned .entry)) (now (answers .entry)) (now (slots .entry)) (now (params .entry)) (now (trace .entry))) → Executed (now (p .entry)) components current (now (vendor .entry)) (now (class .entry)) (now (assigned .entry)) (now (answers .entry)) (now (slots .entry)) (now (params .entry)) (now (trace .entry)) j r (now (slots .exit)) (now (params .exit)) (now (trace .exit))) ⌝ }
 {
-    let at = walk.at;
-    let code = wide(p[at + 2]);
-    let i = wide(p[at + 3]);
+    let at = current.at;
+    let code = wide(p[at + CODE]);
+    let i = wide(p[at + COMPONENT]);
     let from = at + RECORD_BYTES;
-    let to = from + two(p, at + 8);
-    let target = two(p, at + 6);
+    let to = from + two(p, at + ARGUMENT_LENGTH);
+    let target = two(p, at + TARGET);
     let d = perform(
         p,
         code,
         value(code, i, from),
         given(p, components, code, from, to),
         i,
-        two(p, at + 4),
+        two(p, at + PLACE),
         vendor,
         class,
         assigned,
@@ -123,18 +124,18 @@ fn execute(
         slots,
         params,
         trace,
-        walk.events,
-        walk.used,
+        current.events,
+        current.used,
     );
-    onward(p, to, walk.n + 1, target, d)
+    onward(p, to, current.n + 1, target, d)
 }
 
 // The next record that writes an event, through the jumps before it; nothing is done where the jumps lead to the end.
-pub fn step(
+fn step(
     p: &[u8],
     components: usize,
     total: usize,
-    walk: ProgramState,
+    current: ProgramState,
     vendor: &Sixteen,
     class: &Sixteen,
     assigned: &SlotNumbers,
@@ -143,17 +144,17 @@ pub fn step(
     params: &mut AllParameters,
     trace: &mut [u8],
 ) -> ProgramState
-    requires { ⌜ StepJob (now p) components total walk (now vendor) (now class) (now assigned) (now answers) (now slots) (now params) (now trace) ⌝ }
-    ensures { λ r. ⌜ ((j : StepJob (now (p .entry)) components total walk (now (vendor .entry)) (now (class .entry)) (now (assigned .entry)) (now (answers .entry)) (now (slots .entry)) (now (params .entry)) (now (trace .entry))) → Stepped (now (p .entry)) components total walk (now (vendor .entry)) (now (class .entry)) (now (assigned .entry)) (now (answers .entry)) (now (slots .entry)) (now (params .entry)) (now (trace .entry)) j r (now (slots .exit)) (now (params .exit)) (now (trace .exit))) ⌝ }
+    requires { ⌜ StepJob (now p) components total current (now vendor) (now class) (now assigned) (now answers) (now slots) (now params) (now trace) ⌝ }
+    ensures { λ r. ⌜ ((j : StepJob (now (p .entry)) components total current (now (vendor .entry)) (now (class .entry)) (now (assigned .entry)) (now (answers .entry)) (now (slots .entry)) (now (params .entry)) (now (trace .entry))) → Stepped (now (p .entry)) components total current (now (vendor .entry)) (now (class .entry)) (now (assigned .entry)) (now (answers .entry)) (now (slots .entry)) (now (params .entry)) (now (trace .entry)) j r (now (slots .exit)) (now (params .exit)) (now (trace .exit))) ⌝ }
 {
-    let stand = land(p, walk.at, walk.n, total);
-    let n = stand.n;
+    let place = land(p, current.at, current.n, total);
+    let n = place.n;
     let now = ProgramState {
-        at: stand.at,
+        at: place.at,
         n,
-        events: walk.events,
-        used: walk.used,
-        end: 0,
+        events: current.events,
+        used: current.used,
+        end: End::FINISHED,
     };
     if n == total {
         return now;
@@ -173,7 +174,7 @@ pub fn step(
 }
 
 // Steps until one stops the run or the records are over.
-pub fn run_records(
+pub(crate) fn run_records(
     p: &[u8],
     components: usize,
     total: usize,
@@ -189,19 +190,19 @@ pub fn run_records(
     requires { ⌜ StepJob (now p) components total (startAt from) (now vendor) (now class) (now assigned) (now answers) (now slots) (now params) (now trace) ⌝ }
     ensures { λ r. ⌜ ((j : StepJob (now (p .entry)) components total (startAt from) (now (vendor .entry)) (now (class .entry)) (now (assigned .entry)) (now (answers .entry)) (now (slots .entry)) (now (params .entry)) (now (trace .entry))) → Ran (now (p .entry)) components total from (now (vendor .entry)) (now (class .entry)) (now (assigned .entry)) (now (answers .entry)) (now (slots .entry)) (now (params .entry)) (now (trace .entry)) j r (now (slots .exit)) (now (params .exit)) (now (trace .exit))) ⌝ }
 {
-    let mut walk = ProgramState {
+    let mut current = ProgramState {
         at: from,
         n: 0,
         events: 0,
         used: 0,
-        end: 0,
+        end: End::FINISHED,
     };
-    while walk.n < total {
-        walk = step(
+    while current.n < total {
+        current = step(
             p,
             components,
             total,
-            walk,
+            current,
             vendor,
             class,
             assigned,
@@ -210,10 +211,10 @@ pub fn run_records(
             params,
             trace,
         );
-        let end = walk.end;
-        if end != 0 {
-            return walk;
+        let end = current.end;
+        if end != End::FINISHED {
+            return current;
         }
     }
-    walk
+    current
 }

@@ -7,26 +7,29 @@ use native.Mathlib.Omega.{arith}
 use native.Mathlib.Nat.{add-zero}
 use borrow.Author.Count.{below-more}
 use lib.Dec.{leb, eqb}
-use lib.ListN.{length, getD, drop, set, length-drop, length-set, length-append, List·getD-append}
+use lib.ListN.{length, getD, drop, replicate, set, length-drop, length-set, length-append, List·getD-append}
 use lib.Seq.{getD-drop, drop-drop, ext-getD, getD-at, getD-set-same, getD-set-other}
 use borrow.Author.Tests.{eqb-true, eqb-false, leb-true, le-leb, lt-leb, eq-eqb, ne-eqb}
 use Rattle.rules.specs.declared.answers.Refusal.{Refusal}
 use Rattle.rules.specs.declared.answers.Refusal.the-variants.{BadProgram}
 use Rattle.rules.specs.Limits.{limits}
+use Rattle.rules.specs.Limits as Limits
 use Rattle.rules.specs.Bytes.{Bytes, Span, part, span, spanAt, bytesAt}
 use Rattle.rules.specs.Got.{Got, refused, got, _>>=_}
+use Rattle.rules.specs.ProgramFormat.{NAME, codeFrom, lengthFrom, nameSize}
 use Rattle.rules.specs.ProgramTest.{need, bad, marked, idsIn}
 use Rattle.rules.proofs.GotLaws.{and-true, passed, split₂, both, after, after-more, after-none}
 use Rattle.run_slots.specs.Slot.{namesAt}
 use Rattle.run_slots.proofs.SearchLaws.{name-at, names-count}
 use Rattle.program_records.proofs.PartLaws.{rest-at, same-3}
 use Rattle.program_records.specs.Entries.{nextIn}
-use Rattle.program_test.specs.Test.{NamesAre}
+use Rattle.program_records.specs.Records.{mark₁, mark₂}
+use Rattle.program_test.specs.Test.{nameEnd, placesFrom, NamesAre}
 
 pub marked-at : (p : Bytes) (at c : ℕ) → at + 3 ≤ length p →
-    marked c (drop at p) ≡ (eqb (getD p at 0) 0x53 && (eqb (getD p (at + 1) 0) 0x50 && (eqb (getD p (at + 2) 0) c && true)))
+    marked c (drop at p) ≡ (eqb (getD p at 0) mark₁ && (eqb (getD p (at + 1) 0) mark₂ && (eqb (getD p (at + codeFrom) 0) c && true)))
 marked-at p at c h =
-    same-3 (drop at p) 0x53 0x50 c (omega (arith, length-drop at p)) ∙ rw (getD-drop at p 0 0, getD-drop at p 1 0, getD-drop at p 2 0, add-zero at)
+    same-3 (drop at p) mark₁ mark₂ c (omega (arith, length-drop at p)) ∙ rw (getD-drop at p 0 0, getD-drop at p 1 0, getD-drop at p codeFrom 0, add-zero at)
 
 -- one identifier before the others
 abbrev onto : Bytes → Got (List Bytes × Bytes) → Got (List Bytes × Bytes)
@@ -34,14 +37,14 @@ onto x g = g >>= λ a. got (x ∷ a .0, a .1)
 
 module _ (p : Bytes) (at : ℕ) where
   abbrev size : ℕ
-  size = getD p (at + 3) 0
+  size = getD p (at + lengthFrom) 0
 
   abbrev tests : Bool
-  tests = leb 4 (length p - at) && marked 0xfd (drop at p) && leb 1 size && leb size (limits .identifier) && leb (4 + size) (length p - at)
+  tests = leb nameSize (length p - at) && marked NAME (drop at p) && leb 1 size && leb size (limits .identifier) && leb (nameSize + size) (length p - at)
 
-  ids-turn : (k : ℕ) → idsIn (suc k) (drop at p) ≡ (need tests >>= λ _. onto (part p (at + 4) size) (idsIn k (drop (at + 4 + size) p)))
+  ids-turn : (k : ℕ) → idsIn (suc k) (drop at p) ≡ (need tests >>= λ _. onto (part p (at + nameSize) size) (idsIn k (drop (at + nameSize + size) p)))
   unfolding idsIn
-  ids-turn k = rw (length-drop at p, getD-drop at p 3 0, drop-drop 4 at p, drop-drop size (at + 4) p)
+  ids-turn k = rw (length-drop at p, getD-drop at p lengthFrom 0, drop-drop nameSize at p, drop-drop size (at + nameSize) p)
 
   abbrev one : Got (List Bytes × Bytes)
   one = idsIn 1 (drop at p)
@@ -49,37 +52,37 @@ module _ (p : Bytes) (at : ℕ) where
   bad-one : tests ≡ false → 0 ≡ nextIn (length p) one
   bad-one e = let g : one ≡ bad = ids-turn 0 ∙ rw e in sym (ap (nextIn (length p)) g)
 
-  good-one : tests ≡ true → at + 4 + size ≤ length p → at + 4 + size ≡ nextIn (length p) one
+  good-one : tests ≡ true → at + nameSize + size ≤ length p → at + nameSize + size ≡ nextIn (length p) one
   unfolding idsIn
   good-one e h =
-      let g : one ≡ got (part p (at + 4) size ∷ [], drop (at + 4 + size) p) = ids-turn 0 ∙ rw e in
-      sym (ap (nextIn (length p)) g ∙ rest-at p (at + 4 + size) h)
+      let g : one ≡ got (part p (at + nameSize) size ∷ [], drop (at + nameSize + size) p) = ids-turn 0 ∙ rw e in
+      sym (ap (nextIn (length p)) g ∙ rest-at p (at + nameSize + size) h)
 
-  fits : tests ≡ true → at + 4 + size ≤ length p
-  fits e = omega (arith, leb-true (4 + size) (length p - at) (and-true (leb 4 (length p - at) && marked 0xfd (drop at p) && leb 1 size && leb size (limits .identifier)) _ e .1))
+  fits : tests ≡ true → at + nameSize + size ≤ length p
+  fits e = omega (arith, leb-true (nameSize + size) (length p - at) (and-true (leb nameSize (length p - at) && marked NAME (drop at p) && leb 1 size && leb size (limits .identifier)) _ e .1))
 
   -- an identifier, as the code reads it
-  pub name-short : length p - at < 4 → 0 ≡ nextIn (length p) one
+  pub name-short : length p - at < nameSize → 0 ≡ nextIn (length p) one
   name-short l = bad-one (rw (lt-leb _ _ l))
 
-  module _ (h : 4 ≤ length p - at) where
+  module _ (h : nameSize ≤ length p - at) where
     tests-are : tests
-        ≡ ((eqb (getD p at 0) 0x53 && (eqb (getD p (at + 1) 0) 0x50 && (eqb (getD p (at + 2) 0) 0xfd && true))) && leb 1 size && leb size (limits .identifier) && leb (4 + size) (length p - at))
-    tests-are = rw (le-leb _ _ h, marked-at p at 0xfd (omega arith))
+        ≡ ((eqb (getD p at 0) mark₁ && (eqb (getD p (at + 1) 0) mark₂ && (eqb (getD p (at + codeFrom) 0) NAME && true))) && leb 1 size && leb size (limits .identifier) && leb (nameSize + size) (length p - at))
+    tests-are = rw (le-leb _ _ h, marked-at p at NAME (omega arith))
 
-    pub name-first : (getD p at 0 ≡ 0x53 → ⊥) → 0 ≡ nextIn (length p) one
+    pub name-first : (getD p at 0 ≡ mark₁ → ⊥) → 0 ≡ nextIn (length p) one
     name-first d = bad-one (tests-are ∙ rw (ne-eqb _ _ d))
 
-    module _ (a : getD p at 0 ≡ 0x53) where
-      pub name-second : (getD p (at + 1) 0 ≡ 0x50 → ⊥) → 0 ≡ nextIn (length p) one
+    module _ (a : getD p at 0 ≡ mark₁) where
+      pub name-second : (getD p (at + 1) 0 ≡ mark₂ → ⊥) → 0 ≡ nextIn (length p) one
       name-second d = bad-one (tests-are ∙ rw (eq-eqb _ _ a, ne-eqb _ _ d))
 
-      module _ (b : getD p (at + 1) 0 ≡ 0x50) where
-        pub name-third : (getD p (at + 2) 0 ≡ 0xfd → ⊥) → 0 ≡ nextIn (length p) one
+      module _ (b : getD p (at + 1) 0 ≡ mark₂) where
+        pub name-third : (getD p (at + codeFrom) 0 ≡ NAME → ⊥) → 0 ≡ nextIn (length p) one
         name-third d = bad-one (tests-are ∙ rw (eq-eqb _ _ a, eq-eqb _ _ b, ne-eqb _ _ d))
 
-        module _ (c : getD p (at + 2) 0 ≡ 0xfd) where
-          tests-left : tests ≡ (leb 1 size && leb size (limits .identifier) && leb (4 + size) (length p - at))
+        module _ (c : getD p (at + codeFrom) 0 ≡ NAME) where
+          tests-left : tests ≡ (leb 1 size && leb size (limits .identifier) && leb (nameSize + size) (length p - at))
           tests-left = tests-are ∙ rw (eq-eqb _ _ a, eq-eqb _ _ b, eq-eqb _ _ c)
 
           module _ (n : ℕ) (q : n ≡ size) where
@@ -91,14 +94,14 @@ module _ (p : Bytes) (at : ℕ) where
               name-long l = bad-one (tests-left ∙ rw (le-leb 1 size (omega arith), lt-leb size (limits .identifier) (omega arith)))
 
               module _ (s : n ≤ limits .identifier) where
-                pub name-cut : length p - at - 4 < n → 0 ≡ nextIn (length p) one
+                pub name-cut : length p - at - nameSize < n → 0 ≡ nextIn (length p) one
                 name-cut l =
-                    bad-one (tests-left ∙ rw (le-leb 1 size (omega arith), le-leb size (limits .identifier) (omega arith), lt-leb (4 + size) (length p - at) (omega arith)))
+                    bad-one (tests-left ∙ rw (le-leb 1 size (omega arith), le-leb size (limits .identifier) (omega arith), lt-leb (nameSize + size) (length p - at) (omega arith)))
 
-                pub name-good : n ≤ length p - at - 4 → at + 4 + n ≡ nextIn (length p) one
+                pub name-good : n ≤ length p - at - nameSize → at + nameSize + n ≡ nextIn (length p) one
                 name-good l =
-                    let t : tests ≡ true = tests-left ∙ rw (le-leb 1 size (omega arith), le-leb size (limits .identifier) (omega arith), le-leb (4 + size) (length p - at) (omega arith)) in
-                    ap (λ (x : ℕ). at + 4 + x) q ∙ good-one t (fits t)
+                    let t : tests ≡ true = tests-left ∙ rw (le-leb 1 size (omega arith), le-leb size (limits .identifier) (omega arith), le-leb (nameSize + size) (length p - at) (omega arith)) in
+                    ap (λ (x : ℕ). at + nameSize + x) q ∙ good-one t (fits t)
 
   -- the identifiers after it
   module _ (k r : ℕ) (q : r ≡ nextIn (length p) one) where
@@ -109,15 +112,15 @@ module _ (p : Bytes) (at : ℕ) where
         go true e = absurd (omega (arith, good-one e (fits e)))
         go false e = ids-turn k ∙ rw e
 
-    pub names-on : (r ≡ 0 → ⊥) → (at + 4 ≤ r) × (r ≤ length p) × (idsIn (suc k) (drop at p) ≡ onto (part p (at + 4) (r - (at + 4))) (idsIn k (drop r p)))
+    pub names-on : (r ≡ 0 → ⊥) → (at + nameSize ≤ r) × (r ≤ length p) × (r ≡ nameEnd p at) × (idsIn (suc k) (drop at p) ≡ onto (part p (at + nameSize) (r - (at + nameSize))) (idsIn k (drop r p)))
     names-on d = go tests refl
       where
-        go : (b : Bool) → tests ≡ b → (at + 4 ≤ r) × (r ≤ length p) × (idsIn (suc k) (drop at p) ≡ onto (part p (at + 4) (r - (at + 4))) (idsIn k (drop r p)))
+        go : (b : Bool) → tests ≡ b → (at + nameSize ≤ r) × (r ≤ length p) × (r ≡ nameEnd p at) × (idsIn (suc k) (drop at p) ≡ onto (part p (at + nameSize) (r - (at + nameSize))) (idsIn k (drop r p)))
         go true e =
-            let f : at + 4 + size ≤ length p = fits e in
-            let g : r ≡ at + 4 + size = q ∙ sym (good-one e f) in
-            let n : r - (at + 4) ≡ size = omega arith in
-            (omega arith, omega arith, ids-turn k ∙ rw (e, n, g))
+            let f : at + nameSize + size ≤ length p = fits e in
+            let g : r ≡ at + nameSize + size = q ∙ sym (good-one e f) in
+            let n : r - (at + nameSize) ≡ size = omega arith in
+            (omega arith, omega arith, g, ids-turn k ∙ rw (e, n, g))
         go false e = absurd (d (q ∙ sym (bad-one e)))
 
 -- what they leave starts at a place after them
@@ -134,8 +137,8 @@ ids-leave p zero at xs q h e =
     record { up = omega arith; fits = omega arith; rest = sym f ∙ ap (λ (x : ℕ). drop x p) (sym m) }
 ids-leave p (suc k) at xs q h e =
     let (t, e₁) = passed (tests p at) BadProgram 0 _ (xs, q) (sym (ids-turn p at k) ∙ e) in
-    split₂ _ (idsIn k (drop (at + 4 + size p at) p)) _ (xs, q) e₁ λ ys q′ e₂ e₃.
-    let l : Leaves p (at + 4 + size p at) q = ids-leave p k (at + 4 + size p at) ys q (fits p at t) (e₂ ∙ ap (λ (x : Bytes). got (ys, x)) (both e₃ .1)) in
+    split₂ _ (idsIn k (drop (at + nameSize + size p at) p)) _ (xs, q) e₁ λ ys q′ e₂ e₃.
+    let l : Leaves p (at + nameSize + size p at) q = ids-leave p k (at + nameSize + size p at) ys q (fits p at t) (e₂ ∙ ap (λ (x : Bytes). got (ys, x)) (both e₃ .1)) in
     record { up = omega (arith, l .up); fits = l .fits; rest = l .rest }
 
 -- one more place in the array
@@ -156,29 +159,39 @@ names-more s a b k h =
 abbrev Lies : Bytes → Span → Type 0
 Lies p x = (x .from ≤ x .to) × (x .to ≤ length p)
 
+-- an array that has no places yet
+abbrev zeros : List ℕ
+zeros = replicate Limits.places 0
+
+places-turn : (p : Bytes) (m k at r : ℕ) (a : List ℕ) → r ≡ nameEnd p at →
+    placesFrom p m (k + 1) r (set (set a (2 * k) (at + nameSize)) (2 * k + 1) r) ≡ placesFrom p (suc m) k at a
+unfolding placesFrom
+places-turn p m k at r a e = rw e
+
 -- k of the n identifiers from `at` on were read, and `next` is the place after them
 pub record Sofar (p : Bytes) (at n : ℕ) (places : List ℕ) (next k : ℕ) : Type 0 where
   pub all : idsIn n (drop at p) ≡ after (namesAt p places k) (idsIn (n - k) (drop next p))
+  pub left : placesFrom p (n - k) k next places ≡ placesFrom p n 0 at zeros
   pub here : next ≤ length p
   pub within : (j : ℕ) → j < k → Lies p (spanAt places j)
 
 module _ (p : Bytes) (at n : ℕ) (places : List ℕ) where
   -- as the code answers
   abbrev Answers : ℕ → List ℕ → Type 0
-  Answers r a = (r ≡ nextIn (length p) (idsIn n (drop at p))) × NamesAre p n (idsIn n (drop at p)) a
+  Answers r a = (r ≡ nextIn (length p) (idsIn n (drop at p))) × NamesAre p at n (idsIn n (drop at p)) a
 
-  pub sofar-start : at ≤ length p → Sofar p at n places at 0
-  sofar-start h =
+  pub sofar-start : places ≡ zeros → at ≤ length p → Sofar p at n places at 0
+  sofar-start q h =
       let z : n - 0 ≡ n = omega arith in
-      record { all = rw z (sym (after-none (idsIn n (drop at p)))); here = h; within = λ j l. absurd (omega arith) }
+      record { all = rw z (sym (after-none (idsIn n (drop at p)))); left = rw (z, q); here = h; within = λ j l. absurd (omega arith) }
 
   module _ (next k : ℕ) (f : Sofar p at n places next k) where
     pub sofar-end : k ≡ n → Answers next places
-    unfolding idsIn
+    unfolding idsIn placesFrom
     sofar-end q =
         let z : n - k ≡ 0 = omega arith in
         let g : idsIn n (drop at p) ≡ got (namesAt p places n, drop next p) = f .all ∙ rw (z, q, append-nil) in
-        rw g (sym (rest-at p next (f .here)), (refl, rw (← q) (f .within)))
+        rw g (sym (rest-at p next (f .here)), (rw z at (f .left), refl, rw (← q) (f .within)))
 
     module _ (l : k < n) (r : ℕ) (q : r ≡ nextIn (length p) (idsIn 1 (drop next p))) where
       left : n - k ≡ suc (n - (k + 1))
@@ -189,21 +202,22 @@ module _ (p : Bytes) (at n : ℕ) (places : List ℕ) where
           let g : idsIn n (drop at p) ≡ bad = f .all ∙ rw (left, names-stop p next (n - (k + 1)) r q z) in
           rw g (refl, tt)
 
-      pub sofar-next : (r ≡ 0 → ⊥) → 2 * k + 1 < length places → Sofar p at n (set (set places (2 * k) (next + 4)) (2 * k + 1) r) r (k + 1)
+      pub sofar-next : (r ≡ 0 → ⊥) → 2 * k + 1 < length places → Sofar p at n (set (set places (2 * k) (next + nameSize)) (2 * k + 1) r) r (k + 1)
       sofar-next d room =
-          let (u, v, g) = names-on p next (n - (k + 1)) r q d in
-          let inner : List ℕ = set places (2 * k) (next + 4) in
+          let (u, v, to-is, g) = names-on p next (n - (k + 1)) r q d in
+          let inner : List ℕ = set places (2 * k) (next + nameSize) in
           let new : List ℕ = set inner (2 * k + 1) r in
-          let w : length inner ≡ length places = length-set places (2 * k) (next + 4) in
-          let from : getD new (2 * k) 0 ≡ next + 4 = getD-set-other inner (2 * k + 1) (2 * k) r 0 (λ e. omega arith) ∙ getD-set-same places (2 * k) (next + 4) 0 (omega arith) in
+          let w : length inner ≡ length places = length-set places (2 * k) (next + nameSize) in
+          let from : getD new (2 * k) 0 ≡ next + nameSize = getD-set-other inner (2 * k + 1) (2 * k) r 0 (λ e. omega arith) ∙ getD-set-same places (2 * k) (next + nameSize) 0 (omega arith) in
           let to : getD new (2 * k + 1) 0 ≡ r = getD-set-same inner (2 * k + 1) r 0 (omega arith) in
           let other : (i : ℕ) → i < 2 * k → getD new i 0 ≡ getD places i 0 =
-          λ i h. getD-set-other inner (2 * k + 1) i r 0 (λ e. omega arith) ∙ getD-set-other places (2 * k) i (next + 4) 0 (λ e. omega arith) in
+          λ i h. getD-set-other inner (2 * k + 1) i r 0 (λ e. omega arith) ∙ getD-set-other places (2 * k) i (next + nameSize) 0 (λ e. omega arith) in
           let kept : (j : ℕ) → j < k → spanAt new j ≡ spanAt places j = λ j h. rw (other (2 * j) (omega arith), other (2 * j + 1) (omega arith)) in
-          let here : spanAt new k ≡ span (next + 4) r = rw (from, to) in
-          let names : namesAt p new (k + 1) ≡ namesAt p places k ++ (part p (next + 4) (r - (next + 4)) ∷ []) = names-more p places new k kept ∙ ap (λ (x : Span). namesAt p places k ++ (bytesAt p x ∷ [])) here in
+          let here : spanAt new k ≡ span (next + nameSize) r = rw (from, to) in
+          let names : namesAt p new (k + 1) ≡ namesAt p places k ++ (part p (next + nameSize) (r - (next + nameSize)) ∷ []) = names-more p places new k kept ∙ ap (λ (x : Span). namesAt p places k ++ (bytesAt p x ∷ [])) here in
           record {
-            all = f .all ∙ rw (left, g, names) (after-more (namesAt p places k) (part p (next + 4) (r - (next + 4))) (idsIn (n - (k + 1)) (drop r p)));
+            all = f .all ∙ rw (left, g, names) (after-more (namesAt p places k) (part p (next + nameSize) (r - (next + nameSize))) (idsIn (n - (k + 1)) (drop r p)));
+            left = places-turn p (n - (k + 1)) k next r places to-is ∙ ap (λ (x : ℕ). placesFrom p x k next places) (sym left) ∙ f .left;
             here = v;
             within =
                 below-more (λ j. Lies p (spanAt new j)) k (λ j h. subst (Lies p) (sym (kept j h)) (f .within j h)) (omega arith, omega arith);
@@ -212,6 +226,7 @@ module _ (p : Bytes) (at n : ℕ) (places : List ℕ) where
 -- the identifiers that were accepted, and the place after them
 pub record Named (p : Bytes) (at n from : ℕ) (places : List ℕ) : Type 0 where
   pub reads : idsIn n (drop at p) ≡ got (namesAt p places n, drop from p)
+  pub exact : places ≡ placesFrom p n 0 at zeros
   pub here : from ≤ length p
   pub within : (j : ℕ) → j < n → Lies p (spanAt places j)
 
@@ -231,9 +246,10 @@ module _ (p : Bytes) (at n from : ℕ) (places : List ℕ) (h : at ≤ length p)
       go (got a) e =
           let l : Leaves p at (a .1) = ids-leave p n at (a .0) (a .1) h e in
           let q : from ≡ length p - length (a .1) = f .0 ∙ ap (nextIn (length p)) e in
-          let (names, within) = rw e at (f .1) in
+          let (exact, names, within) = rw e at (f .1) in
           record {
             reads = e ∙ rw (names, q) (ap (λ (x : Bytes). got (a .0, x)) (l .rest));
+            exact = exact;
             here = omega (arith, l .fits);
             within = within;
           }

@@ -15,6 +15,7 @@ use Rattle.rules.specs.Limits.{limits}
 use Rattle.rules.specs.Bytes.{Bytes, part, num, same, repeats}
 use Rattle.rules.specs.Got.{Got, refused, got, _>>=_}
 use Rattle.rules.specs.Program.{Rec, Program}
+use Rattle.rules.specs.ProgramFormat.{START, codeFrom, groupFrom, numberFrom, componentsFrom, recordsFrom, startSize}
 use Rattle.rules.specs.ProgramTest.{need, bad, marked, idsIn, recordsIn, nonJumps, groupIn, programIn}
 use Rattle.rules.proofs.BytesLaws.{num-2, num-4}
 use Rattle.rules.proofs.GotLaws.{and-true}
@@ -25,8 +26,8 @@ use Rattle.component_ids.specs.Identifiers.{repeated}
 use Rattle.program_records.specs.declared.records.Records.{Records}
 use Rattle.program_test.specs.declared.test.Tested.{Tested}
 use Rattle.program_records.specs.Entries.{nextIn}
-use Rattle.program_records.specs.Records.{recordsAre}
-use Rattle.program_test.specs.Test.{NamesAre, startFits, TestedAs}
+use Rattle.program_records.specs.Records.{mark₁, mark₂, recordsAre}
+use Rattle.program_test.specs.Test.{NamesAre, startFits, noProgram, testedOf, TestedAs}
 use Rattle.program_test.proofs.NameLaws.{Named, none-named, all-named}
 use Rattle.program_records.proofs.PartLaws.{same-3}
 use Rattle.program_test.proofs.RepeatLaws.{again, repeated-law}
@@ -50,7 +51,7 @@ module _ (m : ℕ) where
 
 module _ (p : Bytes) where
   abbrev counts : Bool
-  counts = leb 1 (getD p 8 0) && leb (getD p 8 0) (limits .components) && leb (num (part p 9 2)) (limits .records)
+  counts = leb 1 (getD p componentsFrom 0) && leb (getD p componentsFrom 0) (limits .components) && leb (num (part p recordsFrom 2)) (limits .records)
 
   -- the start's tests, as the code makes them
   pub start-long : limits .program < length p → false ≡ startFits p
@@ -58,77 +59,77 @@ module _ (p : Bytes) where
   start-long l = rw (lt-leb _ _ l)
 
   module _ (s : length p ≤ limits .program) where
-    pub start-short : length p < 11 → false ≡ startFits p
+    pub start-short : length p < startSize → false ≡ startFits p
     unfolding startFits
     start-short l = rw (le-leb _ _ s, lt-leb _ _ l)
 
-    module _ (h : 11 ≤ length p) where
-      start-are : startFits p ≡ ((eqb (getD p 0 0) 0x53 && (eqb (getD p 1 0) 0x50 && (eqb (getD p 2 0) 0xfe && true))) && leb (getD p 3 0) 1 && counts)
+    module _ (h : startSize ≤ length p) where
+      start-are : startFits p ≡ ((eqb (getD p 0 0) mark₁ && (eqb (getD p 1 0) mark₂ && (eqb (getD p codeFrom 0) START && true))) && leb (getD p groupFrom 0) 1 && counts)
       unfolding startFits
-      start-are = rw (le-leb _ _ s, le-leb _ _ h, same-3 p 0x53 0x50 0xfe (omega arith))
+      start-are = rw (le-leb _ _ s, le-leb _ _ h, same-3 p mark₁ mark₂ START (omega arith))
 
-      pub start-first : (getD p 0 0 ≡ 0x53 → ⊥) → false ≡ startFits p
+      pub start-first : (getD p 0 0 ≡ mark₁ → ⊥) → false ≡ startFits p
       start-first d = sym (start-are ∙ rw (ne-eqb _ _ d))
 
-      module _ (a : getD p 0 0 ≡ 0x53) where
-        pub start-second : (getD p 1 0 ≡ 0x50 → ⊥) → false ≡ startFits p
+      module _ (a : getD p 0 0 ≡ mark₁) where
+        pub start-second : (getD p 1 0 ≡ mark₂ → ⊥) → false ≡ startFits p
         start-second d = sym (start-are ∙ rw (eq-eqb _ _ a, ne-eqb _ _ d))
 
-        module _ (b : getD p 1 0 ≡ 0x50) where
-          pub start-third : (getD p 2 0 ≡ 0xfe → ⊥) → false ≡ startFits p
+        module _ (b : getD p 1 0 ≡ mark₂) where
+          pub start-third : (getD p codeFrom 0 ≡ START → ⊥) → false ≡ startFits p
           start-third d = sym (start-are ∙ rw (eq-eqb _ _ a, eq-eqb _ _ b, ne-eqb _ _ d))
 
-          module _ (c : getD p 2 0 ≡ 0xfe) where
-            pub start-group : 1 < getD p 3 0 → false ≡ startFits p
+          module _ (c : getD p codeFrom 0 ≡ START) where
+            pub start-group : 1 < getD p groupFrom 0 → false ≡ startFits p
             start-group l = sym (start-are ∙ rw (eq-eqb _ _ a, eq-eqb _ _ b, eq-eqb _ _ c, lt-leb _ _ l))
 
-            module _ (g : getD p 3 0 ≤ 1) (n : ℕ) (q : n ≡ getD p 8 0) where
+            module _ (g : getD p groupFrom 0 ≤ 1) (n : ℕ) (q : n ≡ getD p componentsFrom 0) where
               start-left : startFits p ≡ counts
               start-left = start-are ∙ rw (eq-eqb _ _ a, eq-eqb _ _ b, eq-eqb _ _ c, le-leb _ _ g)
 
               pub start-none : n < 1 → false ≡ startFits p
-              start-none l = sym (start-left ∙ rw (lt-leb 1 (getD p 8 0) (omega arith)))
+              start-none l = sym (start-left ∙ rw (lt-leb 1 (getD p componentsFrom 0) (omega arith)))
 
               module _ (u : 1 ≤ n) where
                 pub start-many : limits .components < n → false ≡ startFits p
-                start-many l = sym (start-left ∙ rw (le-leb 1 (getD p 8 0) (omega arith), lt-leb (getD p 8 0) (limits .components) (omega arith)))
+                start-many l = sym (start-left ∙ rw (le-leb 1 (getD p componentsFrom 0) (omega arith), lt-leb (getD p componentsFrom 0) (limits .components) (omega arith)))
 
-                pub start-last : n ≤ limits .components → (m : ℕ) → m ≡ getD p 9 0 * 256 + getD p 10 0 → leb m (limits .records) ≡ startFits p
+                pub start-last : n ≤ limits .components → (m : ℕ) → m ≡ getD p recordsFrom 0 * 256 + getD p (recordsFrom + 1) 0 → leb m (limits .records) ≡ startFits p
                 start-last l m e =
-                    let k : m ≡ num (part p 9 2) = e ∙ sym (num-2 p 9 (omega arith)) in
-                    sym (start-left ∙ rw (le-leb 1 (getD p 8 0) (omega arith), le-leb (getD p 8 0) (limits .components) (omega arith), k))
+                    let k : m ≡ num (part p recordsFrom 2) = e ∙ sym (num-2 p recordsFrom (omega arith)) in
+                    sym (start-left ∙ rw (le-leb 1 (getD p componentsFrom 0) (omega arith), le-leb (getD p componentsFrom 0) (limits .components) (omega arith), k))
 
   abbrev first : Bool
-  first = leb (length p) (limits .program) && leb 11 (length p) && marked 0xfe p
+  first = leb (length p) (limits .program) && leb startSize (length p) && marked START p
 
   pub start-bad : startFits p ≡ false → programIn p ≡ bad
   unfolding startFits programIn
-  start-bad e = go first (leb (getD p 3 0) 1) counts refl refl refl e
+  start-bad e = go first (leb (getD p groupFrom 0) 1) counts refl refl refl e
     where
-      go : (a b c : Bool) → first ≡ a → leb (getD p 3 0) 1 ≡ b → counts ≡ c → (a && b && c) ≡ false → programIn p ≡ bad
+      go : (a b c : Bool) → first ≡ a → leb (getD p groupFrom 0) 1 ≡ b → counts ≡ c → (a && b && c) ≡ false → programIn p ≡ bad
       go false b c ea eb ec e = rw ea
-      go true false c ea eb ec e = rw (ea, no-group (getD p 3 0) (leb-false _ _ eb))
-      go true true false ea eb ec e = let (g, f) = one-group (getD p 3 0) (leb-true _ _ eb) in rw (ea, f, ec)
+      go true false c ea eb ec e = rw (ea, no-group (getD p groupFrom 0) (leb-false _ _ eb))
+      go true true false ea eb ec e = let (g, f) = one-group (getD p groupFrom 0) (leb-true _ _ eb) in rw (ea, f, ec)
       go true true true ea eb ec e = let z : _≡_ {A = ℕ} 0 1 = cc in absurd (omega arith)
 
   -- what a start that fits tells
   pub record Started : Type 0 where
-    pub room : 11 ≤ length p
+    pub room : startSize ≤ length p
     pub mark : first ≡ true
-    pub group : getD p 3 0 ≤ 1
+    pub group : getD p groupFrom 0 ≤ 1
     pub numbers : counts ≡ true
-    pub least : 1 ≤ getD p 8 0
-    pub most : getD p 8 0 ≤ limits .components
-    pub records : getD p 9 0 * 256 + getD p 10 0 ≤ limits .records
+    pub least : 1 ≤ getD p componentsFrom 0
+    pub most : getD p componentsFrom 0 ≤ limits .components
+    pub records : getD p recordsFrom 0 * 256 + getD p (recordsFrom + 1) 0 ≤ limits .records
 
   pub start-good : startFits p ≡ true → Started
   unfolding startFits
   start-good e =
-      let (ab, c) = and-true (first && leb (getD p 3 0) 1) counts e in
-      let (a, b) = and-true first (leb (getD p 3 0) 1) ab in
-      let room : 11 ≤ length p = leb-true 11 (length p) (and-true (leb (length p) (limits .program)) (leb 11 (length p)) (and-true (leb (length p) (limits .program) && leb 11 (length p)) (marked 0xfe p) a .0) .1) in
-      let (c₁₂, c₃) = and-true (leb 1 (getD p 8 0) && leb (getD p 8 0) (limits .components)) (leb (num (part p 9 2)) (limits .records)) c in
-      let (c₁, c₂) = and-true (leb 1 (getD p 8 0)) (leb (getD p 8 0) (limits .components)) c₁₂ in
+      let (ab, c) = and-true (first && leb (getD p groupFrom 0) 1) counts e in
+      let (a, b) = and-true first (leb (getD p groupFrom 0) 1) ab in
+      let room : startSize ≤ length p = leb-true startSize (length p) (and-true (leb (length p) (limits .program)) (leb startSize (length p)) (and-true (leb (length p) (limits .program) && leb startSize (length p)) (marked START p) a .0) .1) in
+      let (c₁₂, c₃) = and-true (leb 1 (getD p componentsFrom 0) && leb (getD p componentsFrom 0) (limits .components)) (leb (num (part p recordsFrom 2)) (limits .records)) c in
+      let (c₁, c₂) = and-true (leb 1 (getD p componentsFrom 0)) (leb (getD p componentsFrom 0) (limits .components)) c₁₂ in
       record {
         room = room;
         mark = a;
@@ -136,7 +137,7 @@ module _ (p : Bytes) where
         numbers = c;
         least = leb-true _ _ c₁;
         most = leb-true _ _ c₂;
-        records = omega (arith, leb-true (num (part p 9 2)) (limits .records) c₃, num-2 p 9 (omega arith));
+        records = omega (arith, leb-true (num (part p recordsFrom 2)) (limits .records) c₃, num-2 p recordsFrom (omega arith));
       }
 
   -- after the start, with n components and m records
@@ -144,7 +145,7 @@ module _ (p : Bytes) where
   finish g ids x = do
     _ ← need (leb (nonJumps (x .0)) (limits .commands))
     _ ← need (same (x .1) [])
-    got (record { group = g; number = num (part p 4 4); ids = ids; records = x .0 })
+    got (record { group = g; number = num (part p numberFrom 4); ids = ids; records = x .0 })
 
   abbrev named : Group → ℕ → ℕ → List Bytes × Bytes → Got Program
   named g n m x = do
@@ -153,17 +154,17 @@ module _ (p : Bytes) where
     finish g (x .0) y
 
   abbrev started : Group → ℕ → ℕ → Got Program
-  started g n m = idsIn n (drop 11 p) >>= named g n m
+  started g n m = idsIn n (drop startSize p) >>= named g n m
 
-  program-on : (g : Group) → Started → groupIn (getD p 3 0) ≡ some g → programIn p ≡ started g (getD p 8 0) (num (part p 9 2))
+  program-on : (g : Group) → Started → groupIn (getD p groupFrom 0) ≡ some g → programIn p ≡ started g (getD p componentsFrom 0) (num (part p recordsFrom 2))
   unfolding programIn
   program-on g s e = rw (s .mark, e, s .numbers)
 
-reject : (p : Bytes) (x : Tested) (a : List ℕ) (r : Refusal) (k : ℕ) → programIn p ≡ refused r k → x .good ≡ false → TestedAs p (programIn p) x a
-reject p x a r k e h = rw e h
+reject : (p : Bytes) (x : Tested) (r : Refusal) (k : ℕ) → programIn p ≡ refused r k → x ≡ noProgram → TestedAs p (programIn p) x
+reject p x r k e h = rw e h
 
-pub start-refused : (p : Bytes) (x : Tested) (a : List ℕ) → startFits p ≡ false → x .good ≡ false → TestedAs p (programIn p) x a
-start-refused p x a e h = rw (start-bad p e) h
+pub start-refused : (p : Bytes) (x : Tested) → startFits p ≡ false → x ≡ noProgram → TestedAs p (programIn p) x
+start-refused p x e h = rw (start-bad p e) h
 
 -- a list that is not empty, or is
 unlike : (q : Bytes) → (length q ≡ 0 → ⊥) → same q [] ≡ false
@@ -177,26 +178,26 @@ empty (x ∷ q) z = absurd (omega arith)
 -- a start that fits, as the code reads it: the group, n components and m records
 pub record Front (p : Bytes) (g : Group) (n m : ℕ) : Type 0 where
   pub start : Started p
-  pub group : groupIn (getD p 3 0) ≡ some g
-  pub components : n ≡ getD p 8 0
-  pub records : m ≡ getD p 9 0 * 256 + getD p 10 0
+  pub group : groupIn (getD p groupFrom 0) ≡ some g
+  pub components : n ≡ getD p componentsFrom 0
+  pub records : m ≡ getD p recordsFrom 0 * 256 + getD p (recordsFrom + 1) 0
 
 -- the test after the start, as the code makes it
 module _ (p : Bytes) (g : Group) (n m : ℕ) (h : Front p g n m) where
   on : programIn p ≡ started p g n m
   on =
-      let t : m ≡ num (part p 9 2) = h .records ∙ sym (num-2 p 9 (omega (arith, h .start .room))) in
+      let t : m ≡ num (part p recordsFrom 2) = h .records ∙ sym (num-2 p recordsFrom (omega (arith, h .start .room))) in
       program-on p g (h .start) (h .group) ∙ rw (h .components, t)
 
-  module _ (from : ℕ) (a : List ℕ) (f : (from ≡ nextIn (length p) (idsIn n (drop 11 p))) × NamesAre p n (idsIn n (drop 11 p)) a) where
-    pub names-refused : (x : Tested) → from ≡ 0 → x .good ≡ false → TestedAs p (programIn p) x a
+  module _ (from : ℕ) (a : List ℕ) (f : (from ≡ nextIn (length p) (idsIn n (drop startSize p))) × NamesAre p startSize n (idsIn n (drop startSize p)) a) where
+    pub names-refused : (x : Tested) → from ≡ 0 → x ≡ noProgram → TestedAs p (programIn p) x
     names-refused x z b =
-        let (r, k, u) = none-named p 11 n from a (h .start .room) f (omega arith) z in
-        reject p x a r k (on ∙ rw u) b
+        let (r, k, u) = none-named p startSize n from a (h .start .room) f (omega arith) z in
+        reject p x r k (on ∙ rw u) b
 
     module _ (d : from ≡ 0 → ⊥) where
-      pub read : Named p 11 n from a
-      read = all-named p 11 n from a (h .start .room) f d
+      pub read : Named p startSize n from a
+      read = all-named p startSize n from a (h .start .room) f d
 
       abbrev ids : List Bytes
       ids = namesAt p a n
@@ -211,7 +212,7 @@ module _ (p : Bytes) (g : Group) (n m : ℕ) (h : Front p g n m) where
         repeats-is : (b : Bool) → again w ≡ b → repeats ids ≡ b
         repeats-is b o = sym (repeated-law p a n) ∙ ap again (sym v) ∙ o
 
-        pub repeat-refused : (x : Tested) (j : ℕ) → w ≡ At j → x .good ≡ false → TestedAs p (programIn p) x a
+        pub repeat-refused : (x : Tested) (j : ℕ) → w ≡ At j → x ≡ noProgram → TestedAs p (programIn p) x
         repeat-refused x j o b = rw (on-names, repeats-is true (ap again o)) b
 
         module _ (o : w ≡ Nothing) where
@@ -220,17 +221,17 @@ module _ (p : Bytes) (g : Group) (n m : ℕ) (h : Front p g n m) where
 
           module _ (r : Records) (u : r ≡ recordsAre (length p) records) where
             abbrev Answer : Tested → Type 0
-            Answer x = TestedAs p (programIn p) x a
+            Answer x = TestedAs p (programIn p) x
 
             -- with records that are refused, and with others
-            either : (x : Tested) → x .good ≡ false → ((y : List Rec × Bytes) → records ≡ got y → r ≡ record { next = length p - length (y .1); commands = nonJumps (y .0) } → finish p g ids y ≡ bad) → Answer x
+            either : (x : Tested) → x ≡ noProgram → ((y : List Rec × Bytes) → records ≡ got y → r ≡ record { next = length p - length (y .1); commands = nonJumps (y .0) } → finish p g ids y ≡ bad) → Answer x
             either x b k = go records refl
               where
                 go : (z : Got (List Rec × Bytes)) → records ≡ z → Answer x
-                go (refused i j) l = reject p x a i j (on-records ∙ rw l) b
+                go (refused i j) l = reject p x i j (on-records ∙ rw l) b
                 go (got y) l = rw (on-records, l, k y l (u ∙ ap (recordsAre (length p)) l)) b
 
-            pub records-refused : (x : Tested) → (r .next ≡ length p → ⊥) → x .good ≡ false → Answer x
+            pub records-refused : (x : Tested) → (r .next ≡ length p → ⊥) → x ≡ noProgram → Answer x
             records-refused x c b =
                 either x b λ y l i.
                 let nonempty : length (y .1) ≡ 0 → ⊥ = λ z. c (ap (λ (y : Records). y .next) i ∙ omega arith) in
@@ -240,31 +241,30 @@ module _ (p : Bytes) (g : Group) (n m : ℕ) (h : Front p g n m) where
                 go y true f₁ f₂ = rw (f₁, f₂)
                 go y false f₁ f₂ = rw f₁
 
-            pub commands-refused : (x : Tested) → limits .commands < r .commands → x .good ≡ false → Answer x
+            pub commands-refused : (x : Tested) → limits .commands < r .commands → x ≡ noProgram → Answer x
             commands-refused x c b =
                 either x b λ y l i.
                 let f₁ : leb (nonJumps (y .0)) (limits .commands) ≡ false =
                 lt-leb (nonJumps (y .0)) (limits .commands) (omega (arith, ap (λ (y : Records). y .commands) i)) in
                 rw f₁
 
-            pub program-good : (k : ℕ) → (k ≡ ((getD p 4 0 * 256 + getD p 5 0) * 256 + getD p 6 0) * 256 + getD p 7 0) × (k < 4294967296) → r .next ≡ length p → r .commands ≤ limits .commands →
-                Answer (record { good = true; group = g; number = k; components = n; records = m; from = from })
+            pub program-good : (k : ℕ) → (k ≡ ((getD p numberFrom 0 * 256 + getD p (numberFrom + 1) 0) * 256 + getD p (numberFrom + 2) 0) * 256 + getD p (numberFrom + 3) 0) × (k < 4294967296) → r .next ≡ length p → r .commands ≤ limits .commands →
+                Answer (record { good = true; group = g; number = k; components = n; records = m; from = from; ids = a })
             program-good k b c few = go records refl
               where
-                go : (z : Got (List Rec × Bytes)) → records ≡ z → Answer (record { good = true; group = g; number = k; components = n; records = m; from = from })
+                go : (z : Got (List Rec × Bytes)) → records ≡ z → Answer (record { good = true; group = g; number = k; components = n; records = m; from = from; ids = a })
                 go (refused i j) l = absurd (omega (arith, h .start .room, ap (λ (y : Records). y .next) (u ∙ ap (recordsAre (length p)) l)))
                 go (got y) l =
                     let i : r ≡ record { next = length p - length (y .1); commands = nonJumps (y .0) } = u ∙ ap (recordsAre (length p)) l in
                     let none-left : y .1 ≡ [] = empty (y .1) (omega (arith, h .start .room, ap (λ (y : Records). y .next) i)) in
                     let fewer : nonJumps (y .0) ≤ limits .commands = omega (arith, ap (λ (y : Records). y .commands) i) in
-                    let number : k ≡ num (part p 4 4) = b .0 ∙ sym (num-4 p 4 (omega (arith, h .start .room))) in
-                    let whole : programIn p ≡ got (record { group = g; number = num (part p 4 4); ids = ids; records = y .0 }) =
+                    let number : k ≡ num (part p numberFrom 4) = b .0 ∙ sym (num-4 p numberFrom (omega (arith, h .start .room))) in
+                    let whole : programIn p ≡ got (record { group = g; number = num (part p numberFrom 4); ids = ids; records = y .0 }) =
                     on-records ∙ rw (l, le-leb (nonJumps (y .0)) (limits .commands) fewer, none-left) in
+                    let counted : m ≡ num (part p recordsFrom 2) = h .records ∙ sym (num-2 p recordsFrom (omega (arith, h .start .room))) in
                     rw whole
                     (record {
-                      good = refl;
-                      group = refl;
-                      number = number;
+                      exact = rw (number, counted, read .exact, f .0, h .components);
                       small = omega (arith, b .1);
                       some-ids = (omega (arith, h .start .least, h .components), omega (arith, h .start .most, h .components));
                       names = refl;

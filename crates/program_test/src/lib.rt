@@ -1,3 +1,3 @@
 // The program test.
-pub mod names;
+mod names;
 pub mod test;

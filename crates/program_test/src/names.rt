@@ -1,17 +1,25 @@
 // The identifiers of a program's components.
 ghost use mathlib.Core.Path.{_≡_};
 ghost use Prim.Native.Nat.{_+_, _≤_, _<_};
-ghost use lib.ListN.{length, drop};
+ghost use lib.ListN.{length, drop, replicate};
+ghost use Rattle.rules.specs.Limits.{limits, places};
 ghost use Rattle.rules.specs.ProgramTest as Rule;
 ghost use Rattle.program_records.specs.Entries.{nextIn};
 ghost use Rattle.program_test.specs.Test.{NamesAre};
 use byte_buffer::wide;
 use rules::controller::Controller;
 use rules::controller::Places;
+use rules::program_format::CODE;
+use rules::program_format::MARK;
+use rules::program_format::MARK_2;
+use rules::program_format::NAME;
 use rules::program_format::NAME_BYTES;
+use rules::program_format::NAME_LENGTH;
+
+const NAME_CODE: u8 = NAME as u8;
 
 // The place after the identifier at `at`; 0 if it is not well formed.
-pub fn test_name(p: &[u8], at: usize) -> usize
+fn test_name(p: &[u8], at: usize) -> usize
     requires { ⌜ at ≤ length (now p) ⌝ }
     ensures { λ r. ⌜ r ≡ nextIn (length (now (p .entry))) (Rule.idsIn 1 (drop at (now (p .entry)))) ⌝ }
 {
@@ -19,16 +27,16 @@ pub fn test_name(p: &[u8], at: usize) -> usize
     if left < NAME_BYTES {
         return 0;
     }
-    if p[at] != 0x53 {
+    if p[at] != MARK {
         return 0;
     }
-    if p[at + 1] != 0x50 {
+    if p[at + 1] != MARK_2 {
         return 0;
     }
-    if p[at + 2] != 0xfd {
+    if p[at + CODE] != NAME_CODE {
         return 0;
     }
-    let size = wide(p[at + 3]);
+    let size = wide(p[at + NAME_LENGTH]);
     if size < 1 {
         return 0;
     }
@@ -42,9 +50,9 @@ pub fn test_name(p: &[u8], at: usize) -> usize
 }
 
 // The place after the n identifiers from `at` on, 0 if one is not well formed; and their places.
-pub fn test_names(p: &[u8], at: usize, n: usize, ids: &mut Places) -> usize
-    requires { ⌜ (0 < at) × (at ≤ length (now p)) × (n ≤ 8) ⌝ }
-    ensures { λ r. ⌜ (r ≡ nextIn (length (now (p .entry))) (Rule.idsIn n (drop at (now (p .entry))))) × NamesAre (now (p .entry)) n (Rule.idsIn n (drop at (now (p .entry)))) (now (ids .exit)) ⌝ }
+pub(crate) fn test_names(p: &[u8], at: usize, n: usize, ids: &mut Places) -> usize
+    requires { ⌜ (0 < at) × (at ≤ length (now p)) × (n ≤ limits .components) × (now ids ≡ replicate places 0) ⌝ }
+    ensures { λ r. ⌜ (r ≡ nextIn (length (now (p .entry))) (Rule.idsIn n (drop at (now (p .entry))))) × NamesAre (now (p .entry)) at n (Rule.idsIn n (drop at (now (p .entry)))) (now (ids .exit)) ⌝ }
 {
     let places: &mut [usize] = ids;
     let mut next = at;

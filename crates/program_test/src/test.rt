@@ -1,10 +1,9 @@
 // The program test: refusal 97, or what a run of the program needs.
 ghost use mathlib.Core.Path.{_≡_};
-ghost use mathlib.Core.Bool.{false};
 ghost use mathlib.Core.Option.{some};
 ghost use Prim.Native.Nat.{_≤_};
 ghost use Rattle.rules.specs.ProgramTest as Rule;
-ghost use Rattle.program_test.specs.Test.{startFits, TestedAs};
+ghost use Rattle.program_test.specs.Test.{startFits, noProgram, TestedAs};
 use crate::names::test_names;
 use byte_buffer::four;
 use byte_buffer::two;
@@ -14,11 +13,23 @@ use component_ids::repeated_one;
 use program_records::records::test_records;
 use rules::answers::Group;
 use rules::controller::Controller;
+use rules::controller::PLACES;
 use rules::controller::Places;
+use rules::program_format::CODE;
+use rules::program_format::MARK;
+use rules::program_format::MARK_2;
+use rules::program_format::START;
 use rules::program_format::START_BYTES;
+use rules::program_format::START_COMPONENTS;
+use rules::program_format::START_GROUP;
+use rules::program_format::START_NUMBER;
+use rules::program_format::START_RECORDS;
 use rules_tables::tables;
 
-// The group and the number, how many components and records there are, and where the first record is.
+const START_CODE: u8 = START as u8;
+
+// The group and the number, how many components and records there are, where the first record is, and the places of the components'
+// identifiers; all 0 where the program is refused.
 pub struct Tested {
     pub good: bool,
     pub group: Group,
@@ -26,10 +37,11 @@ pub struct Tested {
     pub components: usize,
     pub records: usize,
     pub from: usize,
+    pub ids: Places,
 }
 
 fn bad() -> Tested
-    ensures { λ r. ⌜ r .good ≡ false ⌝ }
+    ensures { λ r. ⌜ r ≡ noProgram ⌝ }
 {
     Tested {
         good: false,
@@ -38,11 +50,12 @@ fn bad() -> Tested
         components: 0,
         records: 0,
         from: 0,
+        ids: [0usize; PLACES],
     }
 }
 
 // Whether the start is well formed: its mark, the group, and how many components and records it names.
-pub fn start_fits(p: &[u8]) -> bool
+fn start_fits(p: &[u8]) -> bool
     ensures { λ r. ⌜ r ≡ startFits (now (p .entry)) ⌝ }
 {
     if Controller::PROGRAM_BYTES < p.len() {
@@ -51,29 +64,29 @@ pub fn start_fits(p: &[u8]) -> bool
     if p.len() < START_BYTES {
         return false;
     }
-    if p[0] != 0x53 {
+    if p[0] != MARK {
         return false;
     }
-    if p[1] != 0x50 {
+    if p[1] != MARK_2 {
         return false;
     }
-    if p[2] != 0xfe {
+    if p[CODE] != START_CODE {
         return false;
     }
-    if 1 < p[3] {
+    if 1 < p[START_GROUP] {
         return false;
     }
-    let components = wide(p[8]);
+    let components = wide(p[START_COMPONENTS]);
     if components < 1 {
         return false;
     }
     if Controller::COMPONENTS < components {
         return false;
     }
-    two(p, 9) <= Controller::RECORDS
+    two(p, START_RECORDS) <= Controller::RECORDS
 }
 
-pub fn group_of(mark: u8) -> Group
+fn group_of(mark: u8) -> Group
     requires { ⌜ mark ≤ 1 ⌝ }
     ensures { λ r. ⌜ Rule.groupIn mark ≡ some r ⌝ }
 {
@@ -83,20 +96,21 @@ pub fn group_of(mark: u8) -> Group
     Group::Boot
 }
 
-pub fn test_program(p: &[u8], ids: &mut Places) -> Tested
-    ensures { λ r. ⌜ TestedAs (now (p .entry)) (Rule.programIn (now (p .entry))) r (now (ids .exit)) ⌝ }
+pub fn test_program(p: &[u8]) -> Tested
+    ensures { λ r. ⌜ TestedAs (now (p .entry)) (Rule.programIn (now (p .entry))) r ⌝ }
 {
     if !start_fits(p) {
         return bad();
     }
-    let group = group_of(p[3]);
-    let components = wide(p[8]);
-    let records = two(p, 9);
-    let from = test_names(p, START_BYTES, components, ids);
+    let group = group_of(p[START_GROUP]);
+    let components = wide(p[START_COMPONENTS]);
+    let records = two(p, START_RECORDS);
+    let mut ids = [0usize; PLACES];
+    let from = test_names(p, START_BYTES, components, &mut ids);
     if from == 0 {
         return bad();
     }
-    let Repeat::Nothing = repeated_one(p, ids, components) else {
+    let Repeat::Nothing = repeated_one(p, &ids, components) else {
         return bad();
     };
     let table = tables();
@@ -112,9 +126,10 @@ pub fn test_program(p: &[u8], ids: &mut Places) -> Tested
     Tested {
         good: true,
         group,
-        number: four(p, 4),
+        number: four(p, START_NUMBER),
         components,
         records,
         from,
+        ids,
     }
 }

@@ -18,6 +18,13 @@ module _ (env : Env) where
       next (step env op i p st) (λ st′. exec rs (suc n) 0 st′)
       (λ st′. elim (eqb t NONE) [ true ↦ out ConditionFailed st′ | false ↦ exec rs (suc n) (t - suc n) st′ ])
 
+  -- after records that gave o: m is the number of the record after them, t 'the record where a failure goes on, FFFF if uncaught'
+  unfoldable pub goto : List Rec → ℕ → ℕ → State → Out
+  goto rest m t st = elim (eqb t NONE) [ true ↦ out ConditionFailed st | false ↦ exec rest m (t - m) st ]
+
+  abbrev pub resume : List Rec → ℕ → ℕ → Out → Out
+  resume rest m t o = next o (λ st. exec rest m 0 st) (λ st. goto rest m t st)
+
 unfoldable pub runProgram : Bytes → Input → Got Ran
 runProgram b x = do
   p ← programIn b

@@ -16,10 +16,10 @@ use Rattle.rules.specs.declared.answers.Failure.{Failure}
 use Rattle.rules.specs.Commands.{Op, vendor, class, imageMatch, setIndex, abort, setParams, overrideParams, fetch, copy, run, swap, component}
 use Rattle.rules.specs.Manifest.{Seq, end, then, Cmd, one, sub, try, Alts, last, or}
 use Rattle.rules.specs.Step.{Env, State, Out, out, step, acts, fetches, copies, swaps, unless, given}
-use Rattle.rules.specs.Run.{on, next, runSeq, runCmd, runAlts, runAll, indexAfter, coerceAfter}
+use Rattle.rules.specs.Run.{on, runSeq, runCmd, runAlts, runAll, indexAfter, coerceAfter}
 use Rattle.rules.specs.Program.{Rec, does, jump, targetOf, size, sizeCmd, sizeAlts, flatSeq, flatCmd, flatAlts, flatAll}
 use Rattle.rules.specs.ProgramFormat.{NONE}
-use Rattle.rules.specs.ProgramRun.{exec}
+use Rattle.rules.specs.ProgramRun.{exec, goto, resume}
 
 mutual
   unfolding size flatSeq
@@ -70,14 +70,7 @@ cond-fits true false z t m k h e l = omega arith
 cond-fits false b z t m k h e l = omega arith
 
 module _ (env : Env) where
-  -- what stands after records, once these gave o: m is the number of the record after them, t where a failed condition goes on
-  unfoldable pub goto : List Rec → ℕ → ℕ → State → Out
-  goto rest m t st = elim (eqb t NONE) [ true ↦ out ConditionFailed st | false ↦ exec env rest m (t - m) st ]
-
-  abbrev pub resume : List Rec → ℕ → ℕ → Out → Out
-  resume rest m t o = next o (λ st. exec env rest m 0 st) (λ st. goto rest m t st)
-
-  resume-sound : (rest : List Rec) (m t t′ : ℕ) (e : End) (st : State) → Sound e → resume rest m t (out e st) ≡ resume rest m t′ (out e st)
+  resume-sound : (rest : List Rec) (m t t′ : ℕ) (e : End) (st : State) → Sound e → resume env rest m t (out e st) ≡ resume env rest m t′ (out e st)
   unfolding on
   resume-sound rest m t t′ Finished st h = refl
   resume-sound rest m t t′ ConditionFailed st h = absurd h
@@ -90,8 +83,8 @@ module _ (env : Env) where
   skip [] ys n k st = rw (zero-add, add-zero)
   skip (x ∷ xs) ys n k st = rw (suc-add (length xs) k, add-suc, ← suc-add n (length xs)) (skip xs ys (suc n) k st)
 
-  exec-does : (op : Op) (i p t n : ℕ) (rest : List Rec) (st : State) →
-      exec env (does op i p t ∷ rest) n 0 st ≡ resume rest (n + 1) t (step env op i p st)
+  pub exec-does : (op : Op) (i p t n : ℕ) (rest : List Rec) (st : State) →
+      exec env (does op i p t ∷ rest) n 0 st ≡ resume env rest (n + 1) t (step env op i p st)
   unfolding exec goto
   exec-does op i p t n rest st = rw add-one
 
@@ -101,14 +94,14 @@ module _ (env : Env) where
 
   -- a command with the target of its record: only a condition fails as one
   one-law : (op : Op) (i p t n : ℕ) (rest : List Rec) (st : State) →
-      exec env (does op i p (targetOf op t) ∷ rest) n 0 st ≡ resume rest (n + 1) t (step env op i p st)
+      exec env (does op i p (targetOf op t) ∷ rest) n 0 st ≡ resume env rest (n + 1) t (step env op i p st)
   unfolding step acts fetches copies swaps
   one-law op i p t n rest st = exec-does op i p (targetOf op t) n rest st ∙ go op
     where
-      sound : (o : Op) → Sound (step env o i p st .end) → resume rest (n + 1) NONE (step env o i p st) ≡ resume rest (n + 1) t (step env o i p st)
+      sound : (o : Op) → Sound (step env o i p st .end) → resume env rest (n + 1) NONE (step env o i p st) ≡ resume env rest (n + 1) t (step env o i p st)
       sound o h = resume-sound rest (n + 1) NONE t (step env o i p st .end) (step env o i p st .state) h
 
-      go : (o : Op) → resume rest (n + 1) (targetOf o t) (step env o i p st) ≡ resume rest (n + 1) t (step env o i p st)
+      go : (o : Op) → resume env rest (n + 1) (targetOf o t) (step env o i p st) ≡ resume env rest (n + 1) t (step env o i p st)
       go (vendor v) = refl
       go (class v) = refl
       go imageMatch = refl
@@ -128,12 +121,12 @@ module _ (env : Env) where
       let e : t - m ≡ length f + (t - (m + k)) = omega arith in
       rw (e, skip f rest m (t - (m + k)) st, len)
 
-  goto-past : (f rest : List Rec) (m k t : ℕ) (st : State) → length f ≡ k → m + k ≤ t → goto (f ++ rest) m t st ≡ goto rest (m + k) t st
+  goto-past : (f rest : List Rec) (m k t : ℕ) (st : State) → length f ≡ k → m + k ≤ t → goto env (f ++ rest) m t st ≡ goto env rest (m + k) t st
   unfolding goto
   goto-past f rest m k t st len fits =
       ap (λ (y : Out). elim (eqb t NONE) as (λ _. Out) [ true ↦ out ConditionFailed st | false ↦ y ]) (pass f rest m k t st len fits)
 
-  goto-here : (rest : List Rec) (m : ℕ) (st : State) → m < NONE → goto rest m m st ≡ exec env rest m 0 st
+  goto-here : (rest : List Rec) (m : ℕ) (st : State) → m < NONE → goto env rest m m st ≡ exec env rest m 0 st
   unfolding goto
   goto-here rest m st small =
       let d : m - m ≡ 0 = omega arith in
@@ -141,9 +134,9 @@ module _ (env : Env) where
 
   -- after the first command of a sequence, which gave e and st; f are the records of the others, and g what these do
   seq-step : (b : Bool) (t z m k : ℕ) (f rest : List Rec) (g : State → Out) → length f ≡ k → m + k ≤ t → (T b → z ≡ m + k) → m + k < NONE →
-      ((st : State) → exec env (f ++ rest) m 0 st ≡ resume rest (m + k) t (g st)) → (e : End) (st : State) →
-      on e st (λ st′. exec env (f ++ rest) m 0 st′) (λ st′. goto (f ++ rest) m (cond b z t) st′)
-      ≡ resume rest (m + k) t (on e st g (λ st′. out (cond b Finished ConditionFailed) st′))
+      ((st : State) → exec env (f ++ rest) m 0 st ≡ resume env rest (m + k) t (g st)) → (e : End) (st : State) →
+      on e st (λ st′. exec env (f ++ rest) m 0 st′) (λ st′. goto env (f ++ rest) m (cond b z t) st′)
+      ≡ resume env rest (m + k) t (on e st g (λ st′. out (cond b Finished ConditionFailed) st′))
   unfolding on
   seq-step b t z m k f rest g len fits coercible small ih Finished st = ih st
   seq-step true t z m k f rest g len fits coercible small ih ConditionFailed st =
@@ -154,9 +147,9 @@ module _ (env : Env) where
 
   -- after an alternative that is not the last: f are the records of the others, and g what these do
   alts-step : (t z m k : ℕ) (f rest : List Rec) (g : State → Out) → length f ≡ k → z ≡ m + 1 + k → m + 1 + k < NONE →
-      ((st : State) → exec env (f ++ rest) (m + 1) 0 st ≡ resume rest (m + 1 + k) t (g st)) → (e : End) (st : State) →
-      on e st (λ st′. exec env (jump z ∷ (f ++ rest)) m 0 st′) (λ st′. goto (jump z ∷ (f ++ rest)) m (m + 1) st′)
-      ≡ resume rest (m + 1 + k) t (on e st (λ st′. out Finished st′) g)
+      ((st : State) → exec env (f ++ rest) (m + 1) 0 st ≡ resume env rest (m + 1 + k) t (g st)) → (e : End) (st : State) →
+      on e st (λ st′. exec env (jump z ∷ (f ++ rest)) m 0 st′) (λ st′. goto env (jump z ∷ (f ++ rest)) m (m + 1) st′)
+      ≡ resume env rest (m + 1 + k) t (on e st (λ st′. out Finished st′) g)
   unfolding on
   alts-step t z m k f rest g len ez small ih Finished st =
       let d : m + 1 + k - (m + 1 + k) ≡ 0 = omega arith in
@@ -171,7 +164,7 @@ module _ (env : Env) where
 
     pub seq-law : (s : Seq) (coercible : Bool) (i : ℕ) (c : Bool) (t z n : ℕ) (rest : List Rec) (st : State) →
         n + size s ≤ t → (T coercible → z ≡ n + size s) → n + size s < NONE →
-        exec env (flatSeq s coercible i c t z n ++ rest) n 0 st ≡ resume rest (n + size s) t (runSeq env s coercible i c st)
+        exec env (flatSeq s coercible i c t z n ++ rest) n 0 st ≡ resume env rest (n + size s) t (runSeq env s coercible i c st)
     seq-law end coercible i c t z n rest st fits h small = rw add-zero
     seq-law (then x xs) coercible i c t z n rest st fits h small =
         let f : List Rec = flatSeq xs coercible (indexAfter x i) (coerceAfter x c) t z (n + sizeCmd x) in
@@ -184,13 +177,13 @@ module _ (env : Env) where
         (runCmd env x i st .end) (runCmd env x i st .state))
 
     pub cmd-law : (x : Cmd) (i t n : ℕ) (rest : List Rec) (st : State) → n + sizeCmd x ≤ t → n + sizeCmd x < NONE →
-        exec env (flatCmd x i t n ++ rest) n 0 st ≡ resume rest (n + sizeCmd x) t (runCmd env x i st)
+        exec env (flatCmd x i t n ++ rest) n 0 st ≡ resume env rest (n + sizeCmd x) t (runCmd env x i st)
     cmd-law (one p op b) i t n rest st fits small = one-law op (component op i) p t n rest st
     cmd-law (sub s) i t n rest st fits small = seq-law s true i false t (n + size s) n rest st fits (λ _. refl) small
     cmd-law (try a) i t n rest st fits small = alts-law a i t (n + sizeAlts a) n rest st fits refl small
 
     pub alts-law : (a : Alts) (i t z n : ℕ) (rest : List Rec) (st : State) → n + sizeAlts a ≤ t → z ≡ n + sizeAlts a → n + sizeAlts a < NONE →
-        exec env (flatAlts a i t z n ++ rest) n 0 st ≡ resume rest (n + sizeAlts a) t (runAlts env a i st)
+        exec env (flatAlts a i t z n ++ rest) n 0 st ≡ resume env rest (n + sizeAlts a) t (runAlts env a i st)
     alts-law (last s) i t z n rest st fits e small = seq-law s false i false t z n rest st fits (λ q. absurd q) small
     alts-law (or s a) i t z n rest st fits e small =
         let f : List Rec = flatAlts a i t z (n + size s + 1) in
@@ -202,7 +195,7 @@ module _ (env : Env) where
         (runSeq env s false i false st .end) (runSeq env s false i false st .state))
 
   all-step : (rest : List Rec) (m : ℕ) (g : State → Out) → ((st : State) → exec env rest m 0 st ≡ g st) → (e : End) (st : State) →
-      resume rest m NONE (out e st) ≡ on e st g (λ st′. out ConditionFailed st′)
+      resume env rest m NONE (out e st) ≡ on e st g (λ st′. out ConditionFailed st′)
   unfolding on goto
   all-step rest m g ih Finished st = ih st
   all-step rest m g ih ConditionFailed st = refl

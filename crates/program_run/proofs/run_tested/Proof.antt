@@ -5,22 +5,22 @@ use Rattle.program_run.proofs.run_tested.Statement.{statement}
 use Rattle.program_run.proofs.run_tested.Tie as tie
 
 admit-requires : tie.Need-admit-requires
-admit-requires c κs = (few _ _ _ (c .before .before .before .before .before .before .before .pre), inside _ _ _ (c .before .before .before .before .before .before .before .pre))
+admit-requires c κs = (few _ _ (c .before .before .before .before .before .before .before .before .before .pre), inside _ _ (c .before .before .before .before .before .before .before .before .before .pre))
 
 refused : tie.Need-returns
-refused c = refused-answer _ _ _ (c .before .before .before .before .before .before .before .before .before .before .pre) _ _ (c .before .before .admit .ensures .0) (c .before .if1 .taken) _ (c .of .ensures)
+refused c = refused-answer _ _ (c .before .before .before .before .before .before .before .before .before .before .before .before .pre) _ _ (c .before .before .admit .ensures .0) (c .before .if1 .taken) _ (c .of .ensures)
 
 records-requires : tie.Need-run-records-requires
-records-requires c κs = job _ _ _ (c .before .before .before .before .before .before .before .before .before .before .before .before .before .before .before .before .before .pre) _ _ (c .before .before .before .before .before .before .before .before .before .admit .ensures .0) (c .before .before .before .before .before .before .before .before .if1 .left) _ (c .before .before .before .before .before .before .before .before .before .admit .ensures .1 (c .before .before .before .before .before .before .before .before .if1 .left))
+records-requires c κs = job _ _ (c .before .before .before .before .before .before .before .before .before .before .before .before .before .before .before .before .before .before .before .pre) _ _ (c .before .before .before .before .before .before .before .before .before .admit .ensures .0) (c .before .before .before .before .before .before .before .before .if1 .left) _ (c .before .before .before .before .before .before .before .before .before .admit .ensures .1 (c .before .before .before .before .before .before .before .before .if1 .left))
 
 ended-requires : tie.Need-ended-requires
 ended-requires c κs =
-    last-event _ _ _ (c .before .before .before .before .before .before .before .before .before .before .before .before .before .before .before .before .before .before .before .before .before .before .before .pre) _ _ (c .before .before .before .before .before .before .before .before .before .before .before .before .before .before .before .admit .ensures .0) (c .before .before .before .before .before .before .before .before .before .before .before .before .before .before .if1 .left) _ (c .before .before .before .before .before .before .before .before .before .before .before .before .before .before .before .admit .ensures .1 (c .before .before .before .before .before .before .before .before .before .before .before .before .before .before .if1 .left))
+    last-event _ _ (c .before .before .before .before .before .before .before .before .before .before .before .before .before .before .before .before .before .before .before .before .before .before .before .before .before .pre) _ _ (c .before .before .before .before .before .before .before .before .before .before .before .before .before .before .before .admit .ensures .0) (c .before .before .before .before .before .before .before .before .before .before .before .before .before .before .if1 .left) _ (c .before .before .before .before .before .before .before .before .before .before .before .before .before .before .before .admit .ensures .1 (c .before .before .before .before .before .before .before .before .before .before .before .before .before .before .if1 .left))
     _ _ _ _ (c .before .before .before .before .before .run-records .ensures)
 
 ran : tie.Need-returns-2
 ran c =
-    answered _ _ _ (c .before .before .before .before .before .before .before .before .before .before .before .before .before .before .before .before .before .before .before .before .before .before .before .before .before .pre) _ _ (c .before .before .before .before .before .before .before .before .before .before .before .before .before .before .before .before .before .admit .ensures .0) (c .before .before .before .before .before .before .before .before .before .before .before .before .before .before .before .before .if1 .left) _ (c .before .before .before .before .before .before .before .before .before .before .before .before .before .before .before .before .before .admit .ensures .1 (c .before .before .before .before .before .before .before .before .before .before .before .before .before .before .before .before .if1 .left))
+    answered _ _ (c .before .before .before .before .before .before .before .before .before .before .before .before .before .before .before .before .before .before .before .before .before .before .before .before .before .before .before .pre) _ _ (c .before .before .before .before .before .before .before .before .before .before .before .before .before .before .before .before .before .admit .ensures .0) (c .before .before .before .before .before .before .before .before .before .before .before .before .before .before .before .before .if1 .left) _ (c .before .before .before .before .before .before .before .before .before .before .before .before .before .before .before .before .before .admit .ensures .1 (c .before .before .before .before .before .before .before .before .before .before .before .before .before .before .before .before .if1 .left))
     _ _ _ _ (c .before .before .before .before .before .before .before .run-records .ensures) _ _ (c .before .ended .ensures) (c .number-after .ensures)
 
 pub run-tested-spec : {M : Type 1} → statement M
@@ -34,7 +34,7 @@ run-tested-spec =
     refused
     records-requires
     ended-requires
-    (λ c. omega (arith, number-small _ _ _ (c .before .before .before .before .before .before .before .before .before .before .before .before .before .before .before .before .before .before .before .before .before .before .before .before .pre)))
+    (λ c. omega (arith, number-small _ _ (c .before .before .before .before .before .before .before .before .before .before .before .before .before .before .before .before .before .before .before .before .before .before .before .before .before .before .pre)))
     (λ c κs. search needs)
     (λ c. search needs)
     (λ c. search needs)

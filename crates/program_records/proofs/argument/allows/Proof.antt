@@ -1,13 +1,12 @@
 use borrow.Author.Needs.{needs}
-use Rattle.program_records.proofs.ArgumentLaws.{install-allows, boot-allows}
 use Rattle.program_records.proofs.argument.allows.Statement.{statement}
 use Rattle.program_records.proofs.argument.allows.Tie as tie
 
 install : tie.Need-returns
-install c code row r e = install-allows code row r _ e _ (c .enum-told .given .1)
+install c = rw (c .enum-told .given .1)
 
 boot : tie.Need-returns-2
-boot c code row r e = boot-allows code row r _ e _ (c .enum-told2 .given .1)
+boot c = rw (c .enum-told2 .given .1)
 
 pub allows-spec : {M : Type 1} → statement M
 allows-spec = tie.close (tie.spec (λ c. search needs) (λ c. search needs) install boot)

@@ -49,7 +49,7 @@ source-requires c κs =
     let s = source-step _ 0 _ _ (c .before .before .before .before .before .before .before .before .before .pre)
     _ (c .before .before .before .before .before .before .before .optional .ensures) (c .before .before .before .before .before .before .if1 .left)
     _ (c .before .before .before .before .before .optional2 .ensures) (c .before .before .before .before .if2 .left) in
-    step-in _ _ _ _ _ _ _ s 3 (omega arith) (omega arith)
+    step-in _ _ _ _ _ _ _ s (omega arith)
 
 past : tie.Need-returns-5
 past c =
@@ -95,7 +95,7 @@ size-requires c κs =
     _ (c .before .before .before .before .before .before .before .before .optional3 .ensures)
     (c .before .before .before .before .before .before .before .if3 .left) _ (c .before .before .before .before .before .before .optional4 .ensures)
     (c .before .before .before .before .before .if4 .left) in
-    step-in _ _ _ _ _ _ _ s 6 (omega arith) (omega arith)
+    step-in _ _ _ _ _ _ _ s (omega arith)
 
 good : tie.Need-returns-6
 good c =

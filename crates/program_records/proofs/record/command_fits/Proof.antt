@@ -2,6 +2,7 @@ use mathlib.Core.Path.{sym, _∙_}
 use native.Mathlib.Omega.{arith}
 use borrow.Author.Needs.{needs}
 use denote.Ref.{now}
+use Rattle.rules.specs.ProgramFormat.{targetFrom}
 use Rattle.program_records.proofs.RecordLaws.{two-is, not-listed, not-allowed, no-component, not-fitting, decided}
 use Rattle.program_records.proofs.record.command_fits.Statement.{statement}
 use Rattle.program_records.proofs.record.command_fits.Tie as tie
@@ -43,7 +44,7 @@ fit c =
     _ (sym (c .before .before .before .before .before .before .before .before .before .before .before .before .look-up .ensures) ∙ c .before .before .before .before .before .before .before .before .before .before .row .given .1)
     _ (c .before .before .before .before .before .before .before .before .allows .ensures) (c .before .before .before .before .before .before .before .if1 .left) (omega arith)
     _ (c .before .before .before .argument-fits .ensures) (c .before .before .if3 .left)
-    _ (two-is (now (a .p)) (a .at) 6 _ (omega arith) (c .before .two .ensures .0)) _ (c .target-fits .ensures)
+    _ (two-is (now (a .p)) (a .at) targetFrom _ (omega arith) (c .before .two .ensures .0)) _ (c .target-fits .ensures)
 
 pub command-fits-spec : {M : Type 1} → statement M
 command-fits-spec =

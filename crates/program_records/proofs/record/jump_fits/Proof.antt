@@ -1,6 +1,7 @@
 use native.Mathlib.Omega.{arith}
 use borrow.Author.Needs.{needs}
 use denote.Ref.{now}
+use Rattle.rules.specs.ProgramFormat.{placeFrom, targetFrom}
 use Rattle.program_records.proofs.RecordLaws.{two-is, jump-component, jump-place, jump-size, jump-back, jump-on}
 use Rattle.program_records.proofs.record.jump_fits.Statement.{statement}
 use Rattle.program_records.proofs.record.jump_fits.Tie as tie
@@ -14,27 +15,27 @@ place : tie.Need-returns-2
 place c =
     let a = c .before .before .before .before .before .args in
     jump-place (now (a .p)) (a .at) (a .size) (a .total) (a .n) (c .before .before .if1 .left) _
-    (two-is (now (a .p)) (a .at) 4 _ (omega arith) (c .before .two .ensures .0)) (c .if2 .taken)
+    (two-is (now (a .p)) (a .at) placeFrom _ (omega arith) (c .before .two .ensures .0)) (c .if2 .taken)
 
 argument : tie.Need-returns-3
 argument c =
     let a = c .before .before .before .before .before .before .args in
     jump-size (now (a .p)) (a .at) (a .size) (a .total) (a .n) (c .before .before .before .if1 .left) _
-    (two-is (now (a .p)) (a .at) 4 _ (omega arith) (c .before .before .two .ensures .0)) (c .before .if2 .left) (c .if3 .taken)
+    (two-is (now (a .p)) (a .at) placeFrom _ (omega arith) (c .before .before .two .ensures .0)) (c .before .if2 .left) (c .if3 .taken)
 
 back : tie.Need-returns-4
 back c =
     let a = c .before .before .before .before .before .before .before .before .args in
     jump-back (now (a .p)) (a .at) (a .size) (a .total) (a .n) (c .before .before .before .before .before .if1 .left) _
-    (two-is (now (a .p)) (a .at) 4 _ (omega arith) (c .before .before .before .before .two .ensures .0)) (c .before .before .before .if2 .left)
-    (c .before .before .if3 .left) _ (two-is (now (a .p)) (a .at) 6 _ (omega arith) (c .before .two2 .ensures .0)) (omega arith)
+    (two-is (now (a .p)) (a .at) placeFrom _ (omega arith) (c .before .before .before .before .two .ensures .0)) (c .before .before .before .if2 .left)
+    (c .before .before .if3 .left) _ (two-is (now (a .p)) (a .at) targetFrom _ (omega arith) (c .before .two2 .ensures .0)) (omega arith)
 
 on : tie.Need-returns-5
 on c =
     let a = c .before .before .before .before .before .before .before .before .args in
     jump-on (now (a .p)) (a .at) (a .size) (a .total) (a .n) (c .before .before .before .before .before .if1 .left) _
-    (two-is (now (a .p)) (a .at) 4 _ (omega arith) (c .before .before .before .before .two .ensures .0)) (c .before .before .before .if2 .left)
-    (c .before .before .if3 .left) _ (two-is (now (a .p)) (a .at) 6 _ (omega arith) (c .before .two2 .ensures .0)) (omega arith)
+    (two-is (now (a .p)) (a .at) placeFrom _ (omega arith) (c .before .before .before .before .two .ensures .0)) (c .before .before .before .if2 .left)
+    (c .before .before .if3 .left) _ (two-is (now (a .p)) (a .at) targetFrom _ (omega arith) (c .before .two2 .ensures .0)) (omega arith)
 
 pub jump-fits-spec : {M : Type 1} → statement M
 jump-fits-spec =

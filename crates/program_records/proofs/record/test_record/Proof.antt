@@ -2,6 +2,7 @@ use mathlib.Core.Path.{sym, _∙_}
 use native.Mathlib.Omega.{arith}
 use borrow.Author.Needs.{needs}
 use denote.Ref.{now}
+use Rattle.rules.specs.ProgramFormat.{argumentFrom}
 use Rattle.program_records.proofs.RecordLaws.{two-is, record-short, record-mark, record-mark-2, record-long, record-jump, record-no-jump, record-command, record-no-command}
 use Rattle.program_records.proofs.record.test_record.Statement.{statement}
 use Rattle.program_records.proofs.record.test_record.Tie as tie
@@ -29,7 +30,7 @@ long c =
     let a = c .before .before .before .before .before .before .before .before .args in
     record-long (a .group) (a .components) (a .total) (a .n) (now (a .p)) (a .at)
     (omega arith) (c .before .before .before .before .if2 .left) (c .before .before .if3 .left)
-    _ (two-is (now (a .p)) (a .at) 8 _ (omega arith) (c .before .two .ensures .0)) (omega arith)
+    _ (two-is (now (a .p)) (a .at) argumentFrom _ (omega arith) (c .before .two .ensures .0)) (omega arith)
 
 jump : tie.Need-returns-5
 jump c =
@@ -37,7 +38,7 @@ jump c =
     record-jump (a .group) (a .components) (a .total) (a .n) (now (a .p)) (a .at)
     (omega arith) (c .before .before .before .before .before .before .before .before .before .if2 .left)
     (c .before .before .before .before .before .before .before .if3 .left)
-    _ (two-is (now (a .p)) (a .at) 8 _ (omega arith) (c .before .before .before .before .before .before .two .ensures .0)) (omega arith)
+    _ (two-is (now (a .p)) (a .at) argumentFrom _ (omega arith) (c .before .before .before .before .before .before .two .ensures .0)) (omega arith)
     (sym (c .before .before .before .wide .ensures .0) ∙ c .before .before .if5 .taken) _ (c .before .jump-fits .ensures) (c .if6 .taken)
 
 no-jump : tie.Need-returns-6
@@ -46,7 +47,7 @@ no-jump c =
     record-no-jump (a .group) (a .components) (a .total) (a .n) (now (a .p)) (a .at)
     (omega arith) (c .before .before .before .before .before .before .before .before .before .if2 .left)
     (c .before .before .before .before .before .before .before .if3 .left)
-    _ (two-is (now (a .p)) (a .at) 8 _ (omega arith) (c .before .before .before .before .before .before .two .ensures .0)) (omega arith)
+    _ (two-is (now (a .p)) (a .at) argumentFrom _ (omega arith) (c .before .before .before .before .before .before .two .ensures .0)) (omega arith)
     (sym (c .before .before .before .wide .ensures .0) ∙ c .before .before .if5 .taken) _ (c .before .jump-fits .ensures) (c .if6 .left)
 
 command : tie.Need-returns-7
@@ -55,7 +56,7 @@ command c =
     record-command (a .group) (a .components) (a .total) (a .n) (now (a .p)) (a .at)
     (omega arith) (c .before .before .before .before .before .before .before .before .before .if2 .left)
     (c .before .before .before .before .before .before .before .if3 .left)
-    _ (two-is (now (a .p)) (a .at) 8 _ (omega arith) (c .before .before .before .before .before .before .two .ensures .0)) (omega arith)
+    _ (two-is (now (a .p)) (a .at) argumentFrom _ (omega arith) (c .before .before .before .before .before .before .two .ensures .0)) (omega arith)
     (λ e. c .before .before .if5 .left (c .before .before .before .wide .ensures .0 ∙ e)) _ (c .before .command-fits .ensures) (c .if7 .taken)
 
 no-command : tie.Need-returns-8
@@ -64,7 +65,7 @@ no-command c =
     record-no-command (a .group) (a .components) (a .total) (a .n) (now (a .p)) (a .at)
     (omega arith) (c .before .before .before .before .before .before .before .before .before .if2 .left)
     (c .before .before .before .before .before .before .before .if3 .left)
-    _ (two-is (now (a .p)) (a .at) 8 _ (omega arith) (c .before .before .before .before .before .before .two .ensures .0)) (omega arith)
+    _ (two-is (now (a .p)) (a .at) argumentFrom _ (omega arith) (c .before .before .before .before .before .before .two .ensures .0)) (omega arith)
     (λ e. c .before .before .if5 .left (c .before .before .before .wide .ensures .0 ∙ e)) _ (c .before .command-fits .ensures) (c .if7 .left)
 
 pub test-record-spec : {M : Type 1} → statement M

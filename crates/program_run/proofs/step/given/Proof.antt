@@ -7,7 +7,7 @@ reads : tie.Need-read-params-requires
 reads c κs = let x = c .before .before .before .pre in (x .lead, x .up, x .fits)
 
 parameters : tie.Need-returns
-parameters c = λ x. given-read _ _ _ _ _ x (omega (arith, c .before .before .if1 .left)) (omega (arith, c .before .if2 .taken)) _ (c .read-params .ensures)
+parameters c = λ x. given-read _ _ _ _ _ x (omega (arith, c .before .before .before .if1 .left)) (omega (arith, c .before .before .if2 .taken)) _ (c .before .read-params .ensures)
 
 others : tie.Need-returns-2
 others c = λ x. given-none _ _ _ _ _ x (λ l. omega (arith, c .if1 .taken))

@@ -9,13 +9,13 @@ use Rattle.program_run.proofs.step.run_records.Statement.{statement}
 use Rattle.program_run.proofs.step.run_records.Tie as tie
 
 abbrev Inv-loop : tie.InvT-loop
-Inv-loop p components total from vendor class assigned answers slots₀ words₀ trace₀ walk₀ slots params trace walk =
-    (length slots ≡ length slots₀) × (length trace ≡ length trace₀) × ((j : StepJob p components total (startAt from) vendor class assigned answers slots₀ words₀ trace₀) →
-    LoopAt p components total from vendor class assigned answers slots₀ words₀ trace₀ j slots params trace walk)
+Inv-loop p components total from vendor class assigned answers slots₀ params₀ trace₀ current₀ slots params trace current =
+    (length slots ≡ length slots₀) × (length trace ≡ length trace₀) × ((j : StepJob p components total (startAt from) vendor class assigned answers slots₀ params₀ trace₀) →
+    LoopAt p components total from vendor class assigned answers slots₀ params₀ trace₀ j slots params trace current)
 
 abbrev μ-loop : tie.MeasureT-loop
-μ-loop p components total from vendor class assigned answers slots₀ words₀ trace₀ walk₀ slots params trace walk =
-    total - walk .n
+μ-loop p components total from vendor class assigned answers slots₀ params₀ trace₀ current₀ slots params trace current =
+    total - current .n
 
 holds : tie.Need-loop-holds Inv-loop μ-loop
 holds c = (refl, refl, λ j. loop-starts _ _ _ _ _ _ _ _ _ _ _ j)

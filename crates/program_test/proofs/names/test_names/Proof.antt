@@ -1,22 +1,23 @@
--- The invariant: k identifiers were read, and their places stand in the array, which has 16 numbers.
+-- The invariant: k identifiers were read, and their places stand in the array, which had none.
 use Prim.Native.Nat.{_-_, _≤_}
 use mathlib.Core.Path.{_≡_}
 use native.Mathlib.Omega.{arith}
 use borrow.Author.Needs.{needs}
 use lib.ListN.{length}
 use lib.Seq.{lt-length-set}
+use Rattle.rules.specs.Limits as Limits
 use Rattle.program_test.proofs.NameLaws.{Sofar, sofar-start, sofar-stop, sofar-next, sofar-end}
 use Rattle.program_test.proofs.names.test_names.Statement.{statement}
 use Rattle.program_test.proofs.names.test_names.Tie as tie
 
 abbrev Inv-loop : tie.InvT-loop
-Inv-loop p at n places₀ next₀ k₀ places next k = (k ≤ n) × (length places ≡ 16) × Sofar p at n places next k
+Inv-loop p at n places₀ next₀ k₀ places next k = (k ≤ n) × (length places ≡ Limits.places) × Sofar p at n places next k
 
 abbrev μ-loop : tie.MeasureT-loop
 μ-loop p at n places₀ next₀ k₀ places next k = n - k
 
 loop-holds : tie.Need-loop-holds Inv-loop μ-loop
-loop-holds c = (omega arith, search needs, sofar-start _ _ _ _ (omega arith))
+loop-holds c = (omega arith, search needs, sofar-start _ _ _ _ (c .before .before .pre .3) (omega arith))
 
 test-name-requires : tie.Need-test-name-requires Inv-loop μ-loop
 test-name-requires c κs = c .before .loop .inv .2 .here

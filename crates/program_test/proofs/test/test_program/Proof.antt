@@ -1,4 +1,4 @@
-use mathlib.Core.Path.{sym, _∙_}
+use mathlib.Core.Path.{refl, sym, _∙_}
 use native.Mathlib.Omega.{arith}
 use borrow.Author.Needs.{needs}
 use borrow.Author.Tests.{not-true, not-false}
@@ -10,7 +10,7 @@ start : (c : tie.Else1) → Started (c .before .before .before .args .p .now)
 start c = start-good _ (sym (c .before .start-fits .ensures) ∙ not-false (c .before .start-fits .result) (c .if1 .left))
 
 returns : tie.Need-returns
-returns c = start-refused _ _ _ (sym (c .before .before .start-fits .ensures) ∙ not-true (c .before .before .start-fits .result) (c .before .if1 .taken)) (c .bad .ensures)
+returns c = start-refused _ _ (sym (c .before .before .start-fits .ensures) ∙ not-true (c .before .before .start-fits .result) (c .before .if1 .taken)) (c .bad .ensures)
 
 shared-slice-read-group-of : tie.Need-shared-slice-read-group-of
 shared-slice-read-group-of c = omega (arith, start (c .before) .room)
@@ -28,7 +28,7 @@ front : (c : tie.After-two) → Front (c .before .before .before .before .before
 front c = record { start = start (c .before .before .before .before .before); group = c .before .before .before .group-of .ensures; components = c .before .wide .ensures .0; records = c .two .ensures .0 }
 
 test-names-requires : tie.Need-test-names-requires
-test-names-requires c κs = (omega arith, start (c .before .before .before .before .before .before) .room, omega (arith, start (c .before .before .before .before .before .before) .most, c .before .before .wide .ensures .0))
+test-names-requires c κs = (omega arith, start (c .before .before .before .before .before .before) .room, omega (arith, start (c .before .before .before .before .before .before) .most, c .before .before .wide .ensures .0), refl)
 
 returns-2 : tie.Need-returns-2
 returns-2 c =
@@ -49,7 +49,7 @@ test-records-requires : tie.Need-test-records-requires
 test-records-requires c κs = (
   read _ _ _ _ (front (c .before .before .before .before .before .before .before .before .before)) _ _ (c .before .before .before .before .before .before .before .test-names .ensures) (c .before .before .before .before .before .before .if2 .left) .here,
   c .before .tables .ensures,
-  c .before .before .before .before .before .before .before .before .before .two .ensures .1,
+  omega (arith, start (c .before .before .before .before .before .before .before .before .before .before .before .before .before .before) .records, c .before .before .before .before .before .before .before .before .before .two .ensures .0),
 )
 
 returns-4 : tie.Need-returns-4

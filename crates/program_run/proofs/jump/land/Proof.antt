@@ -2,10 +2,10 @@ use Prim.Native.Nat.{_-_, _≤_}
 use mathlib.Core.Path.{sym, _∙_}
 use native.Mathlib.Omega.{arith}
 use borrow.Author.Needs.{needs}
-use Rattle.program_run.specs.Walk.{LandJob, Reached}
-use Rattle.program_run.proofs.WalkLaws.{reach-start, reach-room, jump-job, reach-next, reach-far}
-use Rattle.program_run.proofs.walk.land.Statement.{statement}
-use Rattle.program_run.proofs.walk.land.Tie as tie
+use Rattle.program_run.specs.Jump.{LandJob, Reached}
+use Rattle.program_run.proofs.JumpLaws.{reach-start, reach-room, jump-job, reach-next, reach-far}
+use Rattle.program_run.proofs.jump.land.Statement.{statement}
+use Rattle.program_run.proofs.jump.land.Tie as tie
 
 abbrev Inv-loop : tie.InvT-loop
 Inv-loop p at n total next₀ k₀ next k = (k ≤ total) × ((j : LandJob p at n total) → Reached p (j .group) (j .components) total n at (j .place) k next)

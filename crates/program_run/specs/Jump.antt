@@ -7,10 +7,11 @@ use Rattle.rules.specs.declared.answers.Group.{Group}
 use Rattle.rules.specs.Bytes.{Bytes}
 use Rattle.rules.specs.Got.{got}
 use Rattle.rules.specs.Program.{Rec}
+use Rattle.rules.specs.ProgramFormat.{JUMP, codeFrom}
 use Rattle.rules.specs.ProgramRun.{exec}
 use Rattle.rules.specs.ProgramTest.{recordsIn, nonJumps}
 use Rattle.rules.specs.Step.{Env, State}
-use Rattle.program_run.specs.declared.walk.RecordPlace.{RecordPlace}
+use Rattle.program_run.specs.declared.jump.RecordPlace.{RecordPlace}
 
 -- the records from number n on, at `at`, as the program test read them
 pub record RecordsAt (p : Bytes) (group : Group) (components total n at : ℕ) : Type 0 where
@@ -47,4 +48,4 @@ pub record Reached (p : Bytes) (group : Group) (components total n at : ℕ) (x 
 -- and that is a command, or the end
 pub record Landed (p : Bytes) (group : Group) (components total n at : ℕ) (x : RecordsAt p group components total n at) (r : RecordPlace) : Type 0 where
   pub reached : Reached p group components total n at x (r .n) (r .at)
-  pub stands : r .n < total → getD p (r .at + 2) 0 ≡ 0xff → ⊥
+  pub stands : r .n < total → getD p (r .at + codeFrom) 0 ≡ JUMP → ⊥

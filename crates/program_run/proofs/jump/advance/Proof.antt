@@ -1,10 +1,10 @@
 use Prim.Native.Nat.{_-_, _≤_}
 use native.Mathlib.Omega.{arith}
 use borrow.Author.Needs.{needs}
-use Rattle.program_run.specs.Walk.{AdvanceJob, Advanced}
-use Rattle.program_run.proofs.WalkLaws.{advance-start, advance-room, advance-next, advance-done}
-use Rattle.program_run.proofs.walk.advance.Statement.{statement}
-use Rattle.program_run.proofs.walk.advance.Tie as tie
+use Rattle.program_run.specs.Jump.{AdvanceJob, Advanced}
+use Rattle.program_run.proofs.JumpLaws.{advance-start, advance-room, advance-next, advance-done}
+use Rattle.program_run.proofs.jump.advance.Statement.{statement}
+use Rattle.program_run.proofs.jump.advance.Tie as tie
 
 abbrev Inv-loop : tie.InvT-loop
 Inv-loop p at n t next₀ k₀ next k =

@@ -10,10 +10,11 @@ use lib.Seq.{drop-drop, drop-nil}
 use Rattle.rules.specs.declared.answers.Group.{Group}
 use Rattle.rules.specs.Bytes.{Bytes}
 use Rattle.rules.specs.Program.{Rec, does, jump}
+use Rattle.rules.specs.ProgramFormat.{JUMP, codeFrom, targetFrom, argumentFrom, recordSize}
 use Rattle.rules.specs.ProgramRun.{exec}
 use Rattle.rules.specs.ProgramTest.{nonJumps}
 use Rattle.rules.specs.Step.{Env, State}
-use Rattle.program_run.specs.Walk.{RecordsAt, AdvanceJob, Advanced, Reached}
+use Rattle.program_run.specs.Jump.{RecordsAt, AdvanceJob, Advanced, Reached}
 use Rattle.program_run.proofs.FirstRecord.{numberAt, First, first-of}
 use Rattle.program_records.proofs.ReadRecord.{Jumps}
 
@@ -48,10 +49,10 @@ module _ (p : Bytes) (g : Group) (comps total n at : ℕ) (x : RecordsAt p g com
     abbrev here : First p g comps total k next (a .place)
     here = first-of p g comps total k next (a .place) l
 
-    pub advance-room : next + 10 + numberAt p (next + 8) ≤ length p
+    pub advance-room : next + recordSize + numberAt p (next + argumentFrom) ≤ length p
     advance-room = here .room
 
-    pub advance-next : n ≤ k → Advanced p g comps total n at x (k + 1) (next + 10 + numberAt p (next + 8))
+    pub advance-next : n ≤ k → Advanced p g comps total n at x (k + 1) (next + recordSize + numberAt p (next + argumentFrom))
     advance-next h =
         let e : k + 1 - n ≡ k - n + 1 = omega arith in
         let q : drop (k - n) (x .records) ≡ here .first ∷ here .others .records = sym (a .records) ∙ here .records in
@@ -66,19 +67,19 @@ module _ (p : Bytes) (g : Group) (comps total n at : ℕ) (x : RecordsAt p g com
     abbrev jumper : First p g comps total k next (a .place)
     jumper = first-of p g comps total k next (a .place) l
 
-    pub reach-room : next + 10 ≤ length p
+    pub reach-room : next + recordSize ≤ length p
     reach-room = omega (arith, jumper .room)
 
-    module _ (code target : ℕ) (ec : code ≡ getD p (next + 2) 0) (c : code ≡ 0xff) (et : target ≡ numberAt p (next + 6)) where
-      pub jumps : Jumps g comps total k (jumper .first) (numberAt p (next + 6)) (numberAt p (next + 8))
+    module _ (code target : ℕ) (ec : code ≡ getD p (next + codeFrom) 0) (c : code ≡ JUMP) (et : target ≡ numberAt p (next + targetFrom)) where
+      pub jumps : Jumps g comps total k (jumper .first) (numberAt p (next + targetFrom)) (numberAt p (next + argumentFrom))
       jumps = jumper .kind .jumps (sym ec ∙ c)
 
       pub reach-far : (k < target) × (target ≤ total)
       reach-far = (omega (arith, jumps .forward), omega (arith, jumps .within))
 
-      abbrev pub jump-job : AdvanceJob p (next + 10) (k + 1) target
+      abbrev pub jump-job : AdvanceJob p (next + recordSize) (k + 1) target
       jump-job =
-          let z : next + 10 + numberAt p (next + 8) ≡ next + 10 = omega (arith, jumps .none) in
+          let z : next + recordSize + numberAt p (next + argumentFrom) ≡ next + recordSize = omega (arith, jumps .none) in
           let o = jumper .others in
           record {
             group = g;
@@ -89,7 +90,7 @@ module _ (p : Bytes) (g : Group) (comps total n at : ℕ) (x : RecordsAt p g com
             within = omega (arith, jumps .within);
           }
 
-      pub reach-next : (r : ℕ) → Advanced p g comps total (k + 1) (next + 10) (jump-job .place) target r → Reached p g comps total n at x target r
+      pub reach-next : (r : ℕ) → Advanced p g comps total (k + 1) (next + recordSize) (jump-job .place) target r → Reached p g comps total n at x target r
       reach-next r b =
           let w : k < target = omega (arith, jumps .forward) in
           let e : a .place .records ≡ jump target ∷ jumper .others .records =
