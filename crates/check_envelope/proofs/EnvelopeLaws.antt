@@ -1,11 +1,10 @@
 -- Check, one step after the other, and what its report says.
 use Prim.Native.Nat.{ℕ, _+_, _≤_, _<_}
 use mathlib.Core.Path.{_≡_, refl, sym, ap, _∙_}
-use mathlib.Core.List.{List}
 use mathlib.Core.Logic.{_⊎_, inl, inr}
 use native.Mathlib.Omega.{arith}
 use lib.Dec.{leb, eqb}
-use lib.ListN.{length, replicate}
+use lib.ListN.{length}
 use borrow.Author.Tests.{le-leb, lt-leb, eq-eqb, ne-eqb}
 use Rattle.rules.specs.declared.answers.Refusal.{Refusal}
 use Rattle.rules.specs.declared.answers.Refusal.the-variants.{EnvelopeTooLong, NotCbor}
@@ -26,12 +25,10 @@ use Rattle.check_envelope.specs.declared.report.Checked.the-variants.{Ac
 use Rattle.check_envelope.specs.declared.report.Report.{Report}
 use Rattle.cbor.specs.Reading.{reading}
 use Rattle.check_manifest.specs.Body.{bodyOf}
-use Rattle.component_ids.specs.Identifiers.{laid}
-use Rattle.check_manifest.specs.Sections.{placed}
 use Rattle.check_envelope.specs.Outer.{outerAt}
-use Rattle.check_envelope.specs.Report.{place, refusedReport, reportOf}
+use Rattle.check_envelope.specs.Report.{place, refusedReport, reportOf, numbersIn, numbersOf}
 use Rattle.cbor.proofs.ReadingLaws.{Stopped, alike, bind-assoc, reading-stopped, reading-went}
-use Rattle.check_manifest.proofs.ManifestLaws.{BodyPromise, manifest-part}
+use Rattle.check_manifest.proofs.ManifestLaws.{manifest-part}
 
 -- the envelope around the manifest
 check-law : (s : Bytes) →
@@ -52,10 +49,12 @@ check-law s =
     bind-assoc (need (eqb (m .1) (after b)) NotCbor (m .1)) _ _
 
 module _ (s : Bytes) where
+  -- no bytes are left over, in the manifest's byte string that ends at `to`, or after it
+  abbrev closed : ℕ → Manifest × ℕ → Got Manifest
+  closed to m = need (eqb (m .1) to) NotCbor (m .1) >>= λ _. need (eqb (m .1) (length s)) NotCbor (m .1) >>= λ _. got (m .0)
+
   inner : ℕ × ℕ → Got Manifest
-  inner o =
-      manifestAt s (o .1 + o .0) (o .1) >>= λ m.
-      need (eqb (m .1) (o .1 + o .0)) NotCbor (m .1) >>= λ _. need (eqb (m .1) (length s)) NotCbor (m .1) >>= λ _. got (m .0)
+  inner o = manifestAt s (o .1 + o .0) (o .1) >>= closed (o .1 + o .0)
 
   -- the envelope's own items, and then the manifest in its byte string
   parts : check s ≡ (need (leb (length s) (limits .envelope)) EnvelopeTooLong 0 >>= λ _. outerAt s (length s) >>= inner)
@@ -110,93 +109,73 @@ module _ (s : Bytes) where
       at-manifest : check s ≡ inner (o .value, o .at)
       at-manifest = parts ∙ rw (le-leb _ _ fits, opened)
 
-      -- a refusal of the manifest
-      pub check-bad : (b : Body) (i i′ p p′ : List ℕ) → BodyPromise (manifestAt s (o .at + o .value) (o .at)) b i i′ p p′ → (b .refusal ≡ 0 → ⊥) → (k : Refusal) → k ≡ refusalOf (b .refusal) →
-          (r : Report) → r ≡ refusedReport k (b .at) → r ≡ reportOf (check s)
-      unfolding inner
-      check-bad b i i′ p p′ w h k e r y = rw at-manifest (go (manifestAt s (o .at + o .value) (o .at)) (w .0))
-        where
-          go : (x : Got (Manifest × ℕ)) → b ≡ bodyOf x →
-              r ≡ reportOf (x >>= λ m. need (eqb (m .1) (o .at + o .value)) NotCbor (m .1) >>= λ _. need (eqb (m .1) (length s)) NotCbor (m .1) >>= λ _. got (m .0))
-          go (refused c d) u =
-              y ∙ λ j. refusedReport ((e ∙ ap (λ (z : Body). refusalOf (z .refusal)) u ∙ of-number c) j) (ap (λ (z : Body). z .at) u j)
-          go (got m) u = absurd (h (ap (λ (z : Body). z .refusal) u))
-
-      module _ (b : Body) (i i′ p p′ : List ℕ) (w : BodyPromise (manifestAt s (o .at + o .value) (o .at)) b i i′ p p′) (h : b .refusal ≡ 0) where
-        -- left-over bytes, in the manifest's byte string or after it
-        pub check-left-over : (b .at ≡ o .at + o .value → ⊥) ⊎ ((b .at ≡ o .at + o .value) × (b .at ≡ length s → ⊥)) → (r : Report) → r ≡ refusedReport NotCbor (b .at) → r ≡ reportOf (check s)
+      module _ (b : Body) (w : b ≡ bodyOf (manifestAt s (o .at + o .value) (o .at))) where
+        -- a refusal of the manifest
+        pub check-bad : (b .refusal ≡ 0 → ⊥) → (k : Refusal) → k ≡ refusalOf (b .refusal) → (r : Report) → r ≡ refusedReport k (b .at) → r ≡ reportOf (check s)
         unfolding inner
-        check-left-over n r y = rw at-manifest (go (manifestAt s (o .at + o .value) (o .at)) (w .0))
+        check-bad h k e r y = rw at-manifest (go (manifestAt s (o .at + o .value) (o .at)) w)
           where
-            over : (m : Manifest × ℕ) → b .at ≡ m .1 → r ≡ reportOf (need (eqb (m .1) (o .at + o .value)) NotCbor (m .1) >>= λ _. need (eqb (m .1) (length s)) NotCbor (m .1) >>= λ _. got (m .0))
-            over m u = rw (← u) (side n)
-              where
-                side : (b .at ≡ o .at + o .value → ⊥) ⊎ ((b .at ≡ o .at + o .value) × (b .at ≡ length s → ⊥)) →
-                    r ≡ reportOf (need (eqb (b .at) (o .at + o .value)) NotCbor (b .at) >>= λ _. need (eqb (b .at) (length s)) NotCbor (b .at) >>= λ _. got (m .0))
-                side (inl x) = rw (ne-eqb _ _ x) y
-                side (inr x) = rw (eq-eqb _ _ (x .0), ne-eqb _ _ (x .1)) y
+            go : (x : Got (Manifest × ℕ)) → b ≡ bodyOf x → r ≡ reportOf (x >>= closed (o .at + o .value))
+            go (refused c d) u =
+                y ∙ λ j. refusedReport ((e ∙ ap (λ (z : Body). refusalOf (z .refusal)) u ∙ of-number c) j) (ap (λ (z : Body). z .at) u j)
+            go (got m) u = absurd (h (ap (λ (z : Body). z .refusal) u))
 
-            go : (x : Got (Manifest × ℕ)) → b ≡ bodyOf x →
-                r ≡ reportOf (x >>= λ m. need (eqb (m .1) (o .at + o .value)) NotCbor (m .1) >>= λ _. need (eqb (m .1) (length s)) NotCbor (m .1) >>= λ _. got (m .0))
-            go (refused c d) u = absurd (not-zero c (ap (λ (z : Body). z .refusal) (sym u) ∙ h))
-            go (got m) u = over m (ap (λ (z : Body). z .at) u)
+        module _ (h : b .refusal ≡ 0) where
+          -- the manifest was read: what is to show, is to show of what follows it
+          onward : (r : Report) → ((m : Manifest × ℕ) → manifestAt s (o .at + o .value) (o .at) ≡ got m → b ≡ bodyOf (got m) → r ≡ reportOf (closed (o .at + o .value) m)) → r ≡ reportOf (check s)
+          unfolding inner
+          onward r f = rw at-manifest (go (manifestAt s (o .at + o .value) (o .at)) refl w)
+            where
+              go : (x : Got (Manifest × ℕ)) → manifestAt s (o .at + o .value) (o .at) ≡ x → b ≡ bodyOf x → r ≡ reportOf (x >>= closed (o .at + o .value))
+              go (refused c d) t u = absurd (not-zero c (ap (λ (z : Body). z .refusal) (sym u) ∙ h))
+              go (got m) t u = f m t u
 
-        -- all is accepted
-        pub check-good : b .at ≡ o .at + o .value → b .at ≡ length s → i ≡ replicate 16 0 → p ≡ replicate 12 0 →
-            _≡_ {A = Report}
-            (record {
-              answer = Accepted;
-              number = b .number;
-              components = b .components;
-              ids = i′;
-              manifest = record { from = o .at; to = b .at };
-              common = record { from = b .from; to = b .to };
-              sections = p′;
-            })
-            (reportOf (check s))
-        unfolding inner
-        check-good n l ei ep = rw at-manifest (go (manifestAt s (o .at + o .value) (o .at)) refl w)
-          where
-            over : (m : Manifest × ℕ) → b ≡ bodyOf (got m) → m .0 .part ≡ span (o .at) (m .1) → i′ ≡ laid (m .0 .ids) i → p′ ≡ placed (m .0 .sections) p →
-                _≡_ {A = Report}
-                (record {
-                  answer = Accepted;
-                  number = b .number;
-                  components = b .components;
-                  ids = i′;
-                  manifest = record { from = o .at; to = b .at };
-                  common = record { from = b .from; to = b .to };
-                  sections = p′;
-                })
-                (reportOf (need (eqb (m .1) (o .at + o .value)) NotCbor (m .1) >>= λ _. need (eqb (m .1) (length s)) NotCbor (m .1) >>= λ _. got (m .0)))
-            over m u v a c =
-                let at : b .at ≡ m .1 = ap (λ (z : Body). z .at) u in
-                rw (← at, eq-eqb _ _ n, eq-eqb _ _ l)
-                (λ j.
-                record {
-                  answer = Accepted;
-                  number = u j .number;
-                  components = u j .components;
-                  ids = (a ∙ ap (laid (m .0 .ids)) ei) j;
-                  manifest = (ap (λ (t : ℕ). place (span (o .at) t)) at ∙ sym (ap place v)) j;
-                  common = record { from = u j .from; to = u j .to };
-                  sections = (c ∙ ap (placed (m .0 .sections)) ep) j;
-                })
+          -- left-over bytes, in the manifest's byte string or after it
+          pub check-left-over : (b .at ≡ o .at + o .value → ⊥) ⊎ ((b .at ≡ o .at + o .value) × (b .at ≡ length s → ⊥)) → (r : Report) → r ≡ refusedReport NotCbor (b .at) → r ≡ reportOf (check s)
+          check-left-over n r y = onward r λ m t u. over m (ap (λ (z : Body). z .at) u) n
+            where
+              over : (m : Manifest × ℕ) → b .at ≡ m .1 → (b .at ≡ o .at + o .value → ⊥) ⊎ ((b .at ≡ o .at + o .value) × (b .at ≡ length s → ⊥)) → r ≡ reportOf (closed (o .at + o .value) m)
+              over m u (inl x) = rw (← u, ne-eqb _ _ x) y
+              over m u (inr x) = rw (← u, eq-eqb _ _ (x .0), ne-eqb _ _ (x .1)) y
 
-            go : (x : Got (Manifest × ℕ)) → manifestAt s (o .at + o .value) (o .at) ≡ x → BodyPromise x b i i′ p p′ →
-                _≡_ {A = Report}
-                (record {
-                  answer = Accepted;
-                  number = b .number;
-                  components = b .components;
-                  ids = i′;
-                  manifest = record { from = o .at; to = b .at };
-                  common = record { from = b .from; to = b .to };
-                  sections = p′;
-                })
-                (reportOf (x >>= λ m. need (eqb (m .1) (o .at + o .value)) NotCbor (m .1) >>= λ _. need (eqb (m .1) (length s)) NotCbor (m .1) >>= λ _. got (m .0)))
-            go (refused c d) t (u, k) = absurd (not-zero c (ap (λ (z : Body). z .refusal) (sym u) ∙ h))
-            go (got m) t (u, k) = over m u (manifest-part s (o .at + o .value) (o .at) (m .0) (m .1) t) (k .0) (k .1)
+          abbrev accepted : Report
+          accepted =
+              record {
+                answer = Accepted;
+                number = b .number;
+                components = b .components;
+                ids = b .ids;
+                manifest = record { from = o .at; to = b .at };
+                common = record { from = b .from; to = b .to };
+                sections = b .sections;
+              }
+
+          -- all is accepted
+          pub check-good : b .at ≡ o .at + o .value → b .at ≡ length s → accepted ≡ reportOf (check s)
+          check-good n l = onward accepted λ m t u. over m u (manifest-part s (o .at + o .value) (o .at) (m .0) (m .1) t)
+            where
+              over : (m : Manifest × ℕ) → b ≡ bodyOf (got m) → m .0 .part ≡ span (o .at) (m .1) → accepted ≡ reportOf (closed (o .at + o .value) m)
+              over m u v =
+                  let at : b .at ≡ m .1 = ap (λ (z : Body). z .at) u in
+                  rw (← at, eq-eqb _ _ n, eq-eqb _ _ l)
+                  (λ j.
+                  record {
+                    answer = Accepted;
+                    number = u j .number;
+                    components = u j .components;
+                    ids = u j .ids;
+                    manifest = (ap (λ (t : ℕ). place (span (o .at) t)) at ∙ sym (ap place v)) j;
+                    common = record { from = u j .from; to = u j .to };
+                    sections = u j .sections;
+                  })
+
+-- the report, and the report in numbers
+pub promised : (s : Bytes) (r : Report) → r ≡ reportOf (check s) → (r ≡ reportOf (check s)) × (numbersIn r ≡ numbersOf (check s))
+promised s r e = (e, ap numbersIn e ∙ go (check s))
+  where
+    go : (x : Got Manifest) → numbersIn (reportOf x) ≡ numbersOf x
+    go (refused k p) = refl
+    go (got m) = refl
 
 -- a refused report is not an accepted one
 pub differ : (k : Refusal) (p : ℕ) → _≡_ {A = Checked} (Refused k p) Accepted → ⊥

@@ -2,7 +2,7 @@
 ghost use mathlib.Core.Path.{_≡_};
 ghost use Rattle.rules.specs.Check as Check;
 ghost use Rattle.rules.specs.Newer as Rule;
-ghost use Rattle.check_envelope.specs.Report.{reportOf};
+ghost use Rattle.check_envelope.specs.Report.{reportOf, numbersIn, numbersOf};
 ghost use Rattle.check_envelope.specs.Newer.{Handed};
 use cbor::reader::left_at;
 use check_manifest::read_body;
@@ -14,8 +14,6 @@ use report::Report;
 use report::refused;
 use rules::answers::Refusal;
 use rules::controller::Controller;
-use rules::controller::PLACES;
-use rules::controller::SECTION_PLACES;
 use rules_tables::tables;
 
 pub mod newest;
@@ -24,45 +22,45 @@ pub mod report;
 
 // Checks an envelope: what it holds and where, or the first fault.
 pub fn check(s: &[u8]) -> Report
-    ensures { λ r. ⌜ r ≡ reportOf (Check.check (now (s .entry))) ⌝ }
+    ensures { λ r. ⌜ (r ≡ reportOf (Check.check (now (s .entry)))) × (numbersIn r ≡ numbersOf (Check.check (now (s .entry)))) ⌝ }
 {
-    let e = s.len();
-    if Controller::ENVELOPE_BYTES < e {
+    let end = s.len();
+    if Controller::ENVELOPE_BYTES < end {
         return refused(Refusal::EnvelopeTooLong, 0);
     }
-    let o = read_outer(s, e);
-    let a = o.refusal;
-    if a != 0 {
-        return refused(Refusal::of(a), o.at);
+    let o = read_outer(s, end);
+    let refusal = o.refusal;
+    if refusal != 0 {
+        return refused(Refusal::of(refusal), o.at);
     }
     let from = o.at;
     let to = from + o.value;
     let table = tables();
-    let mut ids = [0usize; PLACES];
-    let mut places = [0usize; SECTION_PLACES];
-    let b = read_body(s, &table, to, from, &mut ids, &mut places);
-    let c = b.refusal;
-    if c != 0 {
-        return refused(Refusal::of(c), b.at);
+    let b = read_body(s, &table, to, from);
+    let refusal = b.refusal;
+    if refusal != 0 {
+        return refused(Refusal::of(refusal), b.at);
     }
-    let end = b.at;
-    if end != to {
-        return refused(Refusal::NotCbor, end);
+    let next = b.at;
+    if next != to {
+        return refused(Refusal::NotCbor, next);
     }
-    if left_at(s, end) != 0 {
-        return refused(Refusal::NotCbor, end);
+    if left_at(s, next) != 0 {
+        return refused(Refusal::NotCbor, next);
     }
+    let ids = b.ids;
+    let sections = b.sections;
     Report {
         answer: Checked::Accepted,
         number: b.number,
         components: b.components,
         ids,
-        manifest: Place { from, to: end },
+        manifest: Place { from, to: next },
         common: Place {
             from: b.from,
             to: b.to,
         },
-        sections: places,
+        sections,
     }
 }
 

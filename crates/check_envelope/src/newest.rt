@@ -7,13 +7,13 @@ use crate::check;
 use crate::report::Checked;
 
 // The rank is 0 where the envelope is refused, and else one more than the sequence number.
-pub struct Part {
-    pub rank: usize,
-    pub from: usize,
-    pub to: usize,
+struct Part {
+    rank: usize,
+    from: usize,
+    to: usize,
 }
 
-pub fn part_in(s: &[u8]) -> Part
+fn part_in(s: &[u8]) -> Part
     ensures { λ r. ⌜ r ≡ partIn (Check.check (now (s .entry))) ⌝ }
 {
     let r = check(s);

@@ -12,12 +12,19 @@ use cbor::reading::refuse;
 use rules::answers::Refusal;
 use rules::controller::Controller;
 
+// The keys of an envelope, which are all that it has.
+const AUTHENTICATION: usize = 1;
+
+const MANIFEST: usize = 3;
+
+const ENTRIES: usize = 2;
+
 // Nil or a byte string: the place after it.
-pub fn unread(s: &[u8], e: usize, at: usize) -> Reading
-    requires { ⌜ e ≤ length (now s) ⌝ }
-    ensures { λ r. ⌜ r ≡ placeReading (Check.unread (now (s .entry)) e at) ⌝ }
+fn unread(s: &[u8], end: usize, at: usize) -> Reading
+    requires { ⌜ end ≤ length (now s) ⌝ }
+    ensures { λ r. ⌜ r ≡ placeReading (Check.unread (now (s .entry)) end at) ⌝ }
 {
-    match cbor::read_one_of(s, e, at, cbor::NIL, cbor::BYTES) {
+    match cbor::read_one_of(s, end, at, cbor::NIL, cbor::BYTES) {
         ItemRead::Item(h) => {
             let kind = h.kind;
             if kind == cbor::BYTES {
@@ -39,29 +46,29 @@ pub fn unread(s: &[u8], e: usize, at: usize) -> Reading
 }
 
 // The byte string that holds the manifest: where its bytes start, and how many they are.
-pub fn read_outer(s: &[u8], e: usize) -> Reading
-    requires { ⌜ e ≤ length (now s) ⌝ }
-    ensures { λ r. ⌜ r ≡ reading (λ n. n) (outerAt (now (s .entry)) e) ⌝ }
+pub(crate) fn read_outer(s: &[u8], end: usize) -> Reading
+    requires { ⌜ end ≤ length (now s) ⌝ }
+    ensures { λ r. ⌜ r ≡ reading (λ n. n) (outerAt (now (s .entry)) end) ⌝ }
 {
-    let h = item(s, e, 0, cbor::MAP, 2, 2);
-    let a = h.refusal;
-    if a != 0 {
+    let h = item(s, end, 0, cbor::MAP, ENTRIES, ENTRIES);
+    let refusal = h.refusal;
+    if refusal != 0 {
         return h;
     }
-    let k = item(s, e, h.at, cbor::NUMBER, 1, 1);
-    let b = k.refusal;
-    if b != 0 {
+    let k = item(s, end, h.at, cbor::NUMBER, AUTHENTICATION, AUTHENTICATION);
+    let refusal = k.refusal;
+    if refusal != 0 {
         return k;
     }
-    let u = unread(s, e, k.at);
-    let c = u.refusal;
-    if c != 0 {
+    let u = unread(s, end, k.at);
+    let refusal = u.refusal;
+    if refusal != 0 {
         return u;
     }
-    let m = item(s, e, u.at, cbor::NUMBER, 3, 3);
-    let d = m.refusal;
-    if d != 0 {
+    let m = item(s, end, u.at, cbor::NUMBER, MANIFEST, MANIFEST);
+    let refusal = m.refusal;
+    if refusal != 0 {
         return m;
     }
-    item(s, e, m.at, cbor::BYTES, 0, Controller::LARGEST_NUMBER)
+    item(s, end, m.at, cbor::BYTES, 0, Controller::LARGEST_NUMBER)
 }

@@ -31,7 +31,7 @@ pub struct Report {
 }
 
 // The report of a refusal.
-pub fn refused(refusal: Refusal, at: usize) -> Report
+pub(crate) fn refused(refusal: Refusal, at: usize) -> Report
     ensures { λ r. ⌜ r ≡ refusedReport refusal at ⌝ }
 {
     Report {

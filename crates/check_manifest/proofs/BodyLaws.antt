@@ -12,6 +12,7 @@ use Rattle.rules.specs.Limits.{limits}
 use Rattle.rules.specs.Bytes.{Bytes, span}
 use Rattle.rules.specs.Got.{Got, refused, got, need, _>>=_}
 use Rattle.rules.specs.Cbor.{NUMBER, BYTES, MAP, Head, after, item}
+use Rattle.rules.specs.Commands.{COMMON, PAYLOAD_FETCH}
 use Rattle.rules.specs.Manifest.{countAll}
 use Rattle.rules.specs.Check.{number, key, inBytes, components, commonSeq, commonAt, sectionsAt, manifestAt}
 use Rattle.rules.proofs.CheckLaws.{item-law}
@@ -65,7 +66,7 @@ module _ (s : Bytes) where
   pub manifest-law : (e at : ℕ) →
       manifestAt s e at
       ≡ (frontAt s e at >>= λ f. commonIn s e (f .1) >>= λ c.
-      sectionsAt s (length (c .0 .0)) (f .0 .0 - 3) 8 (countAll (c .0 .1)) e (c .1 .to) >>= λ y.
+      sectionsAt s (length (c .0 .0)) (f .0 .0 - 3) PAYLOAD_FETCH (countAll (c .0 .1)) e (c .1 .to) >>= λ y.
       got (record { part = span at (y .1); number = f .0 .1; ids = c .0 .0; common = c .1; sections = c .0 .1 ++ y .0 }, y .1))
   unfolding manifestAt frontAt versionAt numberedAt commonIn
   manifest-law e at =
@@ -75,7 +76,7 @@ module _ (s : Bytes) where
       bind-assoc (need (eqb (a .0) 1) WrongVersion p) _ _ ∙ alike (need (eqb (a .0) 1) WrongVersion p) _ _ λ u q₃.
       bind-assoc (numberedAt s e (a .1)) _ _ ∙ bind-assoc (key s 2 e (a .1)) _ _ ∙ alike (key s 2 e (a .1)) _ _ λ p₂ q₄.
       bind-assoc (number s e p₂) _ _ ∙ alike (number s e p₂) _ _ λ n q₅.
-      bind-assoc (key s 3 e (n .1)) _ _)
+      bind-assoc (key s COMMON e (n .1)) _ _)
 
   -- common in its byte string
   pub common-law : (e at : ℕ) →

@@ -3,14 +3,16 @@ use Prim.Native.Nat.{ℕ, _+_, _-_, _≤_}
 use mathlib.Core.Path.{_≡_, refl, sym, ap, _∙_}
 use mathlib.Core.List.{List, [], _∷_, _++_}
 use native.Mathlib.Omega.{arith}
-use lib.ListN.{length}
+use lib.ListN.{length, replicate}
 use Rattle.rules.proofs.AnswerLaws.{not-zero}
+use Rattle.rules.specs.Limits.{places, sectionPlaces}
 use Rattle.rules.specs.Bytes.{Bytes, Span, span}
 use Rattle.rules.specs.Got.{Got, refused, got, _>>=_}
 use Rattle.rules.specs.Cbor.{MAP, item}
 use Rattle.rules.proofs.GotLaws.{both, split}
 use Rattle.rules.proofs.CheckLaws.{item-law}
 use Rattle.component_ids.specs.Identifiers.{laid}
+use Rattle.rules.specs.Commands.{PAYLOAD_FETCH}
 use Rattle.rules.specs.Manifest.{Section, countAll, Manifest}
 use Rattle.rules.specs.Check.{sectionsAt, manifestAt}
 use Rattle.cbor.specs.declared.reading.Reading.{Reading}
@@ -18,18 +20,11 @@ use Rattle.check_manifest.specs.declared.Front.{Front}
 use Rattle.check_manifest.specs.declared.Common.{Common}
 use Rattle.check_manifest.specs.declared.Body.{Body}
 use Rattle.check_manifest.specs.Sections.{placed}
-use Rattle.check_manifest.specs.Body.{versionAt, numberedAt, frontAt, frontOf, commonIn, commonOf, bodyOf, Kept}
+use Rattle.check_manifest.specs.Body.{versionAt, numberedAt, frontAt, frontOf, commonIn, commonOf, refusedBody, bodyOf}
 use Rattle.cbor.proofs.ReadingLaws.{reading-stopped, reading-went}
 use Rattle.check_manifest.proofs.SectionLaws.{Promise}
 use Rattle.check_manifest.proofs.BodyLaws.{manifest-law}
 use Rattle.check_manifest.proofs.CommonLaws.{CommonPromise}
-
-abbrev none : ℕ → ℕ → Body
-none n p = record { refusal = n; at = p; number = 0; components = 0; from = 0; to = 0 }
-
--- what is promised of the manifest
-abbrev pub BodyPromise : Got (Manifest × ℕ) → Body → List ℕ → List ℕ → List ℕ → List ℕ → Type 0
-BodyPromise x b ids ids′ places places′ = (b ≡ bodyOf x) × Kept (λ m. m .ids) (λ m. m .sections) x ids ids′ places places′
 
 placed-append : (xs ys : List Section) (a : List ℕ) → placed (xs ++ ys) a ≡ placed ys (placed xs a)
 placed-append [] ys a = refl
@@ -52,50 +47,52 @@ common-is (got a) c e h = (
 )
 
 -- the start stopped
-pub manifest-no-front : (s : Bytes) (e at : ℕ) (f : Front) (i i₂ b b₂ : List ℕ) → f ≡ frontOf (frontAt s e at) → (f .refusal ≡ 0 → ⊥) →
-    BodyPromise (manifestAt s e at) (none (f .refusal) (f .at)) i i₂ b b₂
-manifest-no-front s e at f i i₂ b b₂ q h = rw (manifest-law s e at) (go (frontAt s e at) _ q)
+pub manifest-no-front : (s : Bytes) (e at : ℕ) (f : Front) → f ≡ frontOf (frontAt s e at) → (f .refusal ≡ 0 → ⊥) → refusedBody (f .refusal) (f .at) ≡ bodyOf (manifestAt s e at)
+manifest-no-front s e at f q h = rw (manifest-law s e at) (go (frontAt s e at) _ q)
   where
-    go : (x : Got ((ℕ × ℕ) × ℕ)) (g : (ℕ × ℕ) × ℕ → Got (Manifest × ℕ)) → f ≡ frontOf x → BodyPromise (x >>= g) (none (f .refusal) (f .at)) i i₂ b b₂
-    go (refused k p) g u = (ap (λ (z : Front). none (z .refusal) (z .at)) u, tt)
+    go : (x : Got ((ℕ × ℕ) × ℕ)) (g : (ℕ × ℕ) × ℕ → Got (Manifest × ℕ)) → f ≡ frontOf x → refusedBody (f .refusal) (f .at) ≡ bodyOf (x >>= g)
+    go (refused k p) g u = ap (λ (z : Front). refusedBody (z .refusal) (z .at)) u
     go (got a) g u = absurd (h (ap (λ (z : Front). z .refusal) u))
 
-module _ (s : Bytes) (e at : ℕ) (f : Front) (i i′ b : List ℕ) where
-  module _ (q : f ≡ frontOf (frontAt s e at)) (h : f .refusal ≡ 0) (c : Common) (b₂ : List ℕ) (y : CommonPromise (commonIn s e (f .at)) c i i′ b b₂) where
+module _ (s : Bytes) (e at : ℕ) (f : Front) (i b : List ℕ) where
+  module _ (q : f ≡ frontOf (frontAt s e at)) (h : f .refusal ≡ 0) (c : Common) (y : CommonPromise (commonIn s e (f .at)) c (replicate places 0) i (replicate sectionPlaces 0) b) where
     -- common stopped
-    pub manifest-no-common : (c .refusal ≡ 0 → ⊥) → BodyPromise (manifestAt s e at) (none (c .refusal) (c .at)) i i′ b b₂
+    pub manifest-no-common : (c .refusal ≡ 0 → ⊥) → refusedBody (c .refusal) (c .at) ≡ bodyOf (manifestAt s e at)
     manifest-no-common n = rw (manifest-law s e at, front-is (frontAt s e at) f q h) (go (commonIn s e (f .at)) _ (y .0))
       where
         go : (x : Got ((List Span × List Section) × Span)) (g : (List Span × List Section) × Span → Got (Manifest × ℕ)) → c ≡ commonOf x →
-            BodyPromise (x >>= g) (none (c .refusal) (c .at)) i i′ b b₂
-        go (refused k p) g u = (ap (λ (z : Common). none (z .refusal) (z .at)) u, tt)
+            refusedBody (c .refusal) (c .at) ≡ bodyOf (x >>= g)
+        go (refused k p) g u = ap (λ (z : Common). refusedBody (z .refusal) (z .at)) u
         go (got a) g u = absurd (n (ap (λ (z : Common). z .refusal) u))
 
-    module _ (z : c .refusal ≡ 0) (r : Reading) (b₃ : List ℕ)
-        (w : Promise (λ xs. c .commands + countAll xs) (λ xs. xs) (sectionsAt s (c .components) (f .entries - 3) 8 (c .commands) e (c .at)) r b₂ b₃) where
+    module _ (z : c .refusal ≡ 0) (r : Reading) (b′ : List ℕ)
+        (w : Promise (λ xs. c .commands + countAll xs) (λ xs. xs) (sectionsAt s (c .components) (f .entries - 3) PAYLOAD_FETCH (c .commands) e (c .at)) r b b′) where
       -- the sections stopped
-      pub manifest-bad : (r .refusal ≡ 0 → ⊥) → BodyPromise (manifestAt s e at) (none (r .refusal) (r .at)) i i′ b b₃
+      pub manifest-bad : (r .refusal ≡ 0 → ⊥) → refusedBody (r .refusal) (r .at) ≡ bodyOf (manifestAt s e at)
       manifest-bad n =
           let (ids, xs, g, u, v) = common-is (commonIn s e (f .at)) c (y .0) z in
-          let x = reading-stopped (λ xs. c .commands + countAll xs) (sectionsAt s (c .components) (f .entries - 3) 8 (c .commands) e (c .at)) r (w .0) n in
-          rw (manifest-law s e at, front-is (frontAt s e at) f q h, g, ← u, ← v, x .was) (ap (λ (t : Reading). none (t .refusal) (t .at)) (x .is), tt)
+          let x = reading-stopped (λ xs. c .commands + countAll xs) (sectionsAt s (c .components) (f .entries - 3) PAYLOAD_FETCH (c .commands) e (c .at)) r (w .0) n in
+          rw (manifest-law s e at, front-is (frontAt s e at) f q h, g, ← u, ← v, x .was) (ap (λ (t : Reading). refusedBody (t .refusal) (t .at)) (x .is))
+
+      abbrev accepted : Body
+      accepted = record { refusal = 0; at = r .at; number = f .number; components = c .components; from = c .from; to = c .at; ids = i; sections = b′ }
 
       -- all is accepted
-      pub manifest-good : r .refusal ≡ 0 →
-          BodyPromise (manifestAt s e at) (record { refusal = 0; at = r .at; number = f .number; components = c .components; from = c .from; to = c .at }) i i′ b b₃
+      pub manifest-good : r .refusal ≡ 0 → accepted ≡ bodyOf (manifestAt s e at)
       manifest-good n =
           let (ids, xs, g, u, v) = common-is (commonIn s e (f .at)) c (y .0) z in
-          let (ys, t, _) = reading-went (λ xs. c .commands + countAll xs) (sectionsAt s (c .components) (f .entries - 3) 8 (c .commands) e (c .at)) r (w .0) n in
+          let (ys, t, _) = reading-went (λ xs. c .commands + countAll xs) (sectionsAt s (c .components) (f .entries - 3) PAYLOAD_FETCH (c .commands) e (c .at)) r (w .0) n in
           go ids xs ys g u v t (rw g at (y .1)) (rw t at (w .1))
         where
           go : (ids : List Span) (xs ys : List Section) → commonIn s e (f .at) ≡ got ((ids, xs), span (c .from) (c .at)) → c .components ≡ length ids → c .commands ≡ countAll xs →
-              sectionsAt s (c .components) (f .entries - 3) 8 (c .commands) e (c .at) ≡ got (ys, r .at) → (i′ ≡ laid ids i) × (b₂ ≡ placed xs b) → b₃ ≡ placed ys b₂ →
-              BodyPromise (manifestAt s e at) (record { refusal = 0; at = r .at; number = f .number; components = c .components; from = c .from; to = c .at }) i i′ b b₃
+              sectionsAt s (c .components) (f .entries - 3) PAYLOAD_FETCH (c .commands) e (c .at) ≡ got (ys, r .at) →
+              (i ≡ laid ids (replicate places 0)) × (b ≡ placed xs (replicate sectionPlaces 0)) → b′ ≡ placed ys b → accepted ≡ bodyOf (manifestAt s e at)
           go ids xs ys g u v t (k, l) o =
               let all : manifestAt s e at ≡ got (record { part = span at (r .at); number = f .number; ids = ids; common = span (c .from) (c .at); sections = xs ++ ys }, r .at) =
               manifest-law s e at ∙ rw (front-is (frontAt s e at) f q h, g, ← u, ← v, t) in
+              let all-placed : b′ ≡ placed (xs ++ ys) (replicate sectionPlaces 0) = o ∙ ap (placed ys) l ∙ sym (placed-append xs ys (replicate sectionPlaces 0)) in
               rw all
-              ((λ j. record { refusal = 0; at = r .at; number = f .number; components = u j; from = c .from; to = c .at }), (k, o ∙ ap (placed ys) l ∙ sym (placed-append xs ys b)))
+              (λ j. record { refusal = 0; at = r .at; number = f .number; components = u j; from = c .from; to = c .at; ids = k j; sections = all-placed j })
 
 -- a manifest has at least three entries
 pub front-entries : (s : Bytes) (e at : ℕ) (f : Front) → f ≡ frontOf (frontAt s e at) → f .refusal ≡ 0 → 3 ≤ f .entries
@@ -115,6 +112,6 @@ pub manifest-part : (s : Bytes) (e at : ℕ) (m : Manifest) (q : ℕ) → manife
 manifest-part s e at m q x =
     split _ (frontAt s e at) _ (m, q) (sym (manifest-law s e at) ∙ x) λ f qf x₁.
     split _ (commonIn s e (f .1)) _ (m, q) x₁ λ c qc x₂.
-    split _ (sectionsAt s (length (c .0 .0)) (f .0 .0 - 3) 8 (countAll (c .0 .1)) e (c .1 .to)) _ (m, q) x₂ λ y qy x₃.
+    split _ (sectionsAt s (length (c .0 .0)) (f .0 .0 - 3) PAYLOAD_FETCH (countAll (c .0 .1)) e (c .1 .to)) _ (m, q) x₂ λ y qy x₃.
     let (em, eq) = both x₃ in
     sym (ap (λ (z : Manifest). z .part) em) ∙ ap (span at) eq

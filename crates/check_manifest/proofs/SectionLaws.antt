@@ -8,10 +8,11 @@ use lib.Dec.{eqb}
 use lib.ListN.{set}
 use borrow.Author.Tests.{eq-eqb, ne-eqb}
 use Rattle.rules.specs.declared.answers.Refusal.the-variants.{NotCbor}
-use Rattle.rules.specs.Limits.{limits}
+use Rattle.rules.specs.Limits.{limits, sectionCount}
 use Rattle.rules.specs.Bytes.{Bytes, span}
 use Rattle.rules.specs.Got.{Got, refused, got, need, _>>=_}
 use Rattle.rules.specs.Cbor.{NUMBER, BYTES, after, item}
+use Rattle.rules.specs.Commands.{COMMON, PAYLOAD_FETCH, RUN}
 use Rattle.rules.specs.Manifest.{Seq, count, Section, countAll}
 use Rattle.rules.specs.Check.{key, inBytes, sequenceAt, sectionAt, sectionsAt, commonSeq}
 use Rattle.cbor.specs.declared.reading.Reading.{Reading}
@@ -70,10 +71,10 @@ module _ (s : Bytes) (n k m e at : ℕ) where
         rw (g, u) ((λ j. record { refusal = z j; at = o j; value = c j }), refl)
 
 -- keys from 8 to 12 are those of sections
-pub key-section : (k low : ℕ) → 8 ≤ low → low ≤ k → k ≤ 12 → Q.Section k
-key-section k low l a b = let e : k ≡ 8 + (k - 8) = omega arith in rw e (go (k - 8) (omega arith))
+pub key-section : (k low : ℕ) → PAYLOAD_FETCH ≤ low → low ≤ k → k ≤ RUN → Q.Section k
+key-section k low l a b = let e : k ≡ PAYLOAD_FETCH + (k - PAYLOAD_FETCH) = omega arith in rw e (go (k - PAYLOAD_FETCH) (omega arith))
   where
-    go : (i : ℕ) → i < 5 → Q.Section (8 + i)
+    go : (i : ℕ) → suc i < sectionCount → Q.Section (PAYLOAD_FETCH + i)
     go zero h = refl
     go (suc zero) h = refl
     go (suc (suc zero)) h = refl
@@ -102,11 +103,11 @@ module _ (s : Bytes) (n k low m e at : ℕ) where
   sections-none z m₀ all b now l = ((rw (z, add-zero)) ∙ sym (l .reads), l .places now (rw z refl))
 
   module _ (j : ℕ) (h : k ≡ suc j) where
-    pub sections-stop : (r : Reading) → Stopped (item NUMBER low 12 s e at) r → Stopped (sectionsAt s n k low m e at) r
+    pub sections-stop : (r : Reading) → Stopped (item NUMBER low RUN s e at) r → Stopped (sectionsAt s n k low m e at) r
     unfolding sectionsAt
     sections-stop r x = record { refusal = x .refusal; place = x .place; was = rw (h, x .was); is = x .is }
 
-    module _ (name p : ℕ) (q : item NUMBER low 12 s e at ≡ got (record { kind = NUMBER; num = name; next = p })) where
+    module _ (name p : ℕ) (q : item NUMBER low RUN s e at ≡ got (record { kind = NUMBER; num = name; next = p })) where
       pub sections-bad : (r : Reading) → Stopped (sectionAt s n name m e p) r → Stopped (sectionsAt s n k low m e at) r
       unfolding sectionsAt
       sections-bad r x = record { refusal = x .refusal; place = x .place; was = rw (h, q, x .was); is = x .is }
@@ -152,9 +153,9 @@ module _ (s : Bytes) (n k e at : ℕ) where
         stopped-promise countAll (λ xs. xs) (commonSeq s n k e at) r b a (record { refusal = x .refusal; place = x .place; was = rw (h, x .was); is = x .is })
 
     pub common-more : (v p : ℕ) → item NUMBER 4 4 s e at ≡ got (record { kind = NUMBER; num = v; next = p }) → (r : Reading) (b a : List ℕ) →
-        Promise (λ x. 0 + count (x .seq)) (λ x. x ∷ []) (sectionAt s n 3 0 e p) r b a → Promise countAll (λ xs. xs) (commonSeq s n k e at) r b a
+        Promise (λ x. 0 + count (x .seq)) (λ x. x ∷ []) (sectionAt s n COMMON 0 e p) r b a → Promise countAll (λ xs. xs) (commonSeq s n k e at) r b a
     unfolding commonSeq key
-    common-more v p q r b a y = rw (h, q) (go (sectionAt s n 3 0 e p) y)
+    common-more v p q r b a y = rw (h, q) (go (sectionAt s n COMMON 0 e p) y)
       where
         go : (t : Got (Section × ℕ)) → Promise (λ x. 0 + count (x .seq)) (λ x. x ∷ []) t r b a → Promise countAll (λ xs. xs) (t >>= λ u. got (u .0 ∷ [], u .1)) r b a
         go (refused k w) y = y

@@ -3,12 +3,14 @@ use Prim.Native.Nat.{ℕ}
 use mathlib.Core.Path.{_≡_}
 use mathlib.Core.List.{List}
 use lib.Dec.{eqb}
-use lib.ListN.{length}
+use lib.ListN.{length, replicate}
 use Rattle.rules.specs.declared.answers.Refusal.the-variants.{WrongVersion}
 use Rattle.rules.specs.Answers.{refusalNumber}
+use Rattle.rules.specs.Limits.{places, sectionPlaces}
 use Rattle.rules.specs.Bytes.{Bytes, Span}
 use Rattle.rules.specs.Got.{Got, refused, got, need, _>>=_}
 use Rattle.rules.specs.Cbor.{MAP, item}
+use Rattle.rules.specs.Commands.{COMMON}
 use Rattle.rules.specs.Manifest.{Section, countAll, Manifest}
 use Rattle.rules.specs.Check.{number, key, inBytes, commonAt}
 use Rattle.check_manifest.specs.declared.Front.{Front}
@@ -33,7 +35,7 @@ module _ (s : Bytes) where
   numberedAt e at = do
     p ← key s 2 e at
     (n, q) ← number s e p
-    next ← key s 3 e q
+    next ← key s COMMON e q
     got (n, next)
 
   -- the manifest up to common: how many entries it has, the number, and the place after
@@ -64,12 +66,35 @@ abbrev pub commonOf : Got ((List Span × List Section) × Span) → Common
 commonOf (refused r p) = record { refusal = refusalNumber r; at = p; components = 0; commands = 0; from = 0 }
 commonOf (got a) = record { refusal = 0; at = a .1 .to; components = length (a .0 .0); commands = countAll (a .0 .1); from = a .1 .from }
 
+-- a refused manifest: all but the refusal's number and place is 0
+abbrev pub refusedBody : ℕ → ℕ → Body
+refusedBody r p =
+    record {
+      refusal = r;
+      at = p;
+      number = 0;
+      components = 0;
+      from = 0;
+      to = 0;
+      ids = replicate places 0;
+      sections = replicate sectionPlaces 0;
+    }
+
 abbrev pub bodyOf : Got (Manifest × ℕ) → Body
-bodyOf (refused r p) = record { refusal = refusalNumber r; at = p; number = 0; components = 0; from = 0; to = 0 }
+bodyOf (refused r p) = refusedBody (refusalNumber r) p
 bodyOf (got a) =
-    record { refusal = 0; at = a .1; number = a .0 .number; components = length (a .0 .ids); from = a .0 .common .from; to = a .0 .common .to }
+    record {
+      refusal = 0;
+      at = a .1;
+      number = a .0 .number;
+      components = length (a .0 .ids);
+      from = a .0 .common .from;
+      to = a .0 .common .to;
+      ids = laid (a .0 .ids) (replicate places 0);
+      sections = placed (a .0 .sections) (replicate sectionPlaces 0);
+    }
 
 -- where a reading is accepted, the places of its identifiers and sections stand in the arrays
 abbrev pub Kept : {A P : Type 0} → (A → List Span) → (A → List Section) → Got (A × P) → List ℕ → List ℕ → List ℕ → List ℕ → Type 0
-Kept f g (refused r p) ids ids′ places places′ = Unit {0}
-Kept f g (got a) ids ids′ places places′ = (ids′ ≡ laid (f (a .0)) ids) × (places′ ≡ placed (g (a .0)) places)
+Kept f g (refused r p) ids ids′ at at′ = Unit {0}
+Kept f g (got a) ids ids′ at at′ = (ids′ ≡ laid (f (a .0)) ids) × (at′ ≡ placed (g (a .0)) at)

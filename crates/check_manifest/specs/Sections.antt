@@ -5,12 +5,13 @@ use mathlib.Core.List.{List, [], _∷_}
 use mathlib.Core.Bool.{cond}
 use lib.Dec.{eqb}
 use lib.ListN.{set}
+use Rattle.rules.specs.Commands.{COMMON, PAYLOAD_FETCH}
 use Rattle.rules.specs.Got.{Got, refused, got}
 use Rattle.rules.specs.Manifest.{Section}
 
 -- the number of a section in the array: 0 for common's sequence, 1 to 5 for sections 8 to 12
 abbrev pub sectionNo : ℕ → ℕ
-sectionNo k = cond (eqb k 3) 0 (k - 7)
+sectionNo k = cond (eqb k COMMON) 0 (k - (PAYLOAD_FETCH - 1))
 
 abbrev pub placedOne : Section → List ℕ → List ℕ
 placedOne x a = set (set a (2 * sectionNo (x .key)) (x .place .from)) (2 * sectionNo (x .key) + 1) (x .place .to)

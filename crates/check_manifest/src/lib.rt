@@ -5,47 +5,66 @@ ghost use lib.ListN.{length};
 ghost use Rattle.rules.specs.Tables.{byNumber};
 ghost use Rattle.rules.specs.Check as Check;
 ghost use Rattle.cbor.specs.Reading.{placeReading, reading};
-ghost use Rattle.check_manifest.specs.Body.{versionAt, numberedAt, frontAt, frontOf, listReading, Ids, commonIn, commonOf, bodyOf, Kept};
+ghost use Rattle.check_manifest.specs.Body.{versionAt, numberedAt, frontAt, frontOf, listReading, Ids, commonIn, commonOf, refusedBody, bodyOf, Kept};
 use cbor::reading::Reading;
 use cbor::reading::item;
 use cbor::reading::refuse;
 use check_sequence::argument::number;
 use component_ids::components;
 use rules::answers::Refusal;
+use rules::codes;
 use rules::controller::Controller;
+use rules::controller::PLACES;
 use rules::controller::Places;
+use rules::controller::SECTION_PLACES;
+use rules::controller::SECTIONS;
 use rules::controller::SectionPlaces;
 use rules_tables::Table;
 use sections::common_sequence;
 use sections::sections;
 
-pub mod sections;
+mod sections;
 
-pub struct Front {
-    pub refusal: usize,
-    pub at: usize,
-    pub entries: usize,
-    pub number: usize,
+// The keys of a manifest that no section has: the version, which is 1, the sequence number, and common.
+const VERSION_KEY: usize = 1;
+
+const VERSION: usize = 1;
+
+const NUMBER_KEY: usize = 2;
+
+const REQUIRED: usize = 3;
+
+// Those three, and the five sections.
+const MOST_ENTRIES: usize = REQUIRED + SECTIONS - 1;
+
+// The key of the component list in common.
+const LIST_KEY: usize = 2;
+
+struct Front {
+    refusal: usize,
+    at: usize,
+    entries: usize,
+    number: usize,
 }
 
 // The version under its key, which is 1: the place after it.
-pub fn version(s: &[u8], e: usize, at: usize) -> Reading
-    requires { ⌜ e ≤ length (now s) ⌝ }
-    ensures { λ r. ⌜ r ≡ placeReading (versionAt (now (s .entry)) e at) ⌝ }
+fn version(s: &[u8], end: usize, at: usize) -> Reading
+    requires { ⌜ end ≤ length (now s) ⌝ }
+    ensures { λ r. ⌜ r ≡ placeReading (versionAt (now (s .entry)) end at) ⌝ }
 {
-    let k = item(s, e, at, cbor::NUMBER, 1, 1);
-    let a = k.refusal;
-    if a != 0 {
+    let k = item(s, end, at, cbor::NUMBER, VERSION_KEY, VERSION_KEY);
+    let refusal = k.refusal;
+    if refusal != 0 {
         return k;
     }
     let p = k.at;
-    let v = number(s, e, p);
-    let b = v.refusal;
-    if b != 0 {
+    let v = number(s, end, p);
+    let refusal = v.refusal;
+    if refusal != 0 {
         return v;
     }
     let is = v.value;
-    if is != 1 {
+    if is != VERSION {
         return refuse(Refusal::WrongVersion, p);
     }
     Reading {
@@ -56,23 +75,23 @@ pub fn version(s: &[u8], e: usize, at: usize) -> Reading
 }
 
 // The sequence number under its key, and the key of common after it.
-pub fn numbered(s: &[u8], e: usize, at: usize) -> Reading
-    requires { ⌜ e ≤ length (now s) ⌝ }
-    ensures { λ r. ⌜ r ≡ reading (λ n. n) (numberedAt (now (s .entry)) e at) ⌝ }
+fn numbered(s: &[u8], end: usize, at: usize) -> Reading
+    requires { ⌜ end ≤ length (now s) ⌝ }
+    ensures { λ r. ⌜ r ≡ reading (λ n. n) (numberedAt (now (s .entry)) end at) ⌝ }
 {
-    let k = item(s, e, at, cbor::NUMBER, 2, 2);
-    let a = k.refusal;
-    if a != 0 {
+    let k = item(s, end, at, cbor::NUMBER, NUMBER_KEY, NUMBER_KEY);
+    let refusal = k.refusal;
+    if refusal != 0 {
         return k;
     }
-    let n = number(s, e, k.at);
-    let b = n.refusal;
-    if b != 0 {
+    let n = number(s, end, k.at);
+    let refusal = n.refusal;
+    if refusal != 0 {
         return n;
     }
-    let c = item(s, e, n.at, cbor::NUMBER, 3, 3);
-    let d = c.refusal;
-    if d != 0 {
+    let c = item(s, end, n.at, cbor::NUMBER, codes::COMMON, codes::COMMON);
+    let refusal = c.refusal;
+    if refusal != 0 {
         return c;
     }
     Reading {
@@ -83,35 +102,35 @@ pub fn numbered(s: &[u8], e: usize, at: usize) -> Reading
 }
 
 // The manifest up to common: how many entries it has, and its sequence number.
-pub fn read_front(s: &[u8], e: usize, at: usize) -> Front
-    requires { ⌜ e ≤ length (now s) ⌝ }
-    ensures { λ r. ⌜ r ≡ frontOf (frontAt (now (s .entry)) e at) ⌝ }
+fn read_front(s: &[u8], end: usize, at: usize) -> Front
+    requires { ⌜ end ≤ length (now s) ⌝ }
+    ensures { λ r. ⌜ r ≡ frontOf (frontAt (now (s .entry)) end at) ⌝ }
 {
-    let h = item(s, e, at, cbor::MAP, 3, 8);
-    let a = h.refusal;
-    if a != 0 {
+    let h = item(s, end, at, cbor::MAP, REQUIRED, MOST_ENTRIES);
+    let refusal = h.refusal;
+    if refusal != 0 {
         return Front {
-            refusal: a,
+            refusal,
             at: h.at,
             entries: 0,
             number: 0,
         };
     }
-    let v = version(s, e, h.at);
-    let b = v.refusal;
-    if b != 0 {
+    let v = version(s, end, h.at);
+    let refusal = v.refusal;
+    if refusal != 0 {
         return Front {
-            refusal: b,
+            refusal,
             at: v.at,
             entries: 0,
             number: 0,
         };
     }
-    let n = numbered(s, e, v.at);
-    let c = n.refusal;
-    if c != 0 {
+    let n = numbered(s, end, v.at);
+    let refusal = n.refusal;
+    if refusal != 0 {
         return Front {
-            refusal: c,
+            refusal,
             at: n.at,
             entries: 0,
             number: 0,
@@ -126,11 +145,11 @@ pub fn read_front(s: &[u8], e: usize, at: usize) -> Front
 }
 
 // The component list in its byte string.
-pub fn component_list(s: &[u8], e: usize, at: usize, ids: &mut Places) -> Reading
-    requires { ⌜ e ≤ length (now s) ⌝ }
-    ensures { λ r. ⌜ (r ≡ listReading (Check.inBytes (now (s .entry)) (Check.components (now (s .entry))) e at)) × Ids (λ l. l) (Check.inBytes (now (s .entry)) (Check.components (now (s .entry))) e at) (now (ids .entry)) (now (ids .exit)) ⌝ }
+fn component_list(s: &[u8], end: usize, at: usize, ids: &mut Places) -> Reading
+    requires { ⌜ end ≤ length (now s) ⌝ }
+    ensures { λ r. ⌜ (r ≡ listReading (Check.inBytes (now (s .entry)) (Check.components (now (s .entry))) end at)) × Ids (λ l. l) (Check.inBytes (now (s .entry)) (Check.components (now (s .entry))) end at) (now (ids .entry)) (now (ids .exit)) ⌝ }
 {
-    let b = item(s, e, at, cbor::BYTES, 0, Controller::LARGEST_NUMBER);
+    let b = item(s, end, at, cbor::BYTES, 0, Controller::LARGEST_NUMBER);
     let refusal = b.refusal;
     if refusal != 0 {
         return b;
@@ -138,26 +157,26 @@ pub fn component_list(s: &[u8], e: usize, at: usize, ids: &mut Places) -> Readin
     let from = b.at;
     let to = from + b.value;
     let r = components(s, to, from, ids);
-    let wrong = r.refusal;
-    if wrong != 0 {
+    let refusal = r.refusal;
+    if refusal != 0 {
         return r;
     }
-    let end = r.at;
-    if end != to {
-        return refuse(Refusal::NotCbor, end);
+    let next = r.at;
+    if next != to {
+        return refuse(Refusal::NotCbor, next);
     }
     r
 }
 
-pub struct Common {
-    pub refusal: usize,
-    pub at: usize,
-    pub components: usize,
-    pub commands: usize,
-    pub from: usize,
+struct Common {
+    refusal: usize,
+    at: usize,
+    components: usize,
+    commands: usize,
+    from: usize,
 }
 
-pub fn no_common(r: Reading) -> Common
+fn no_common(r: Reading) -> Common
     ensures { λ c. ⌜ c ≡ record { refusal = r .refusal; at = r .at; components = 0; commands = 0; from = 0 } ⌝ }
 {
     Common {
@@ -170,58 +189,58 @@ pub fn no_common(r: Reading) -> Common
 }
 
 // Common in its byte string.
-pub fn read_common(
+fn read_common(
     s: &[u8],
     table: &Table,
-    e: usize,
+    end: usize,
     at: usize,
     ids: &mut Places,
     places: &mut SectionPlaces,
 ) -> Common
-    requires { ⌜ (e ≤ length (now s)) × (now table ≡ byNumber) ⌝ }
-    ensures { λ r. ⌜ (r ≡ commonOf (commonIn (now (s .entry)) e at)) × Kept (λ c. c .0) (λ c. c .1) (commonIn (now (s .entry)) e at) (now (ids .entry)) (now (ids .exit)) (now (places .entry)) (now (places .exit)) ⌝ }
+    requires { ⌜ (end ≤ length (now s)) × (now table ≡ byNumber) ⌝ }
+    ensures { λ r. ⌜ (r ≡ commonOf (commonIn (now (s .entry)) end at)) × Kept (λ c. c .0) (λ c. c .1) (commonIn (now (s .entry)) end at) (now (ids .entry)) (now (ids .exit)) (now (places .entry)) (now (places .exit)) ⌝ }
 {
-    let b = item(s, e, at, cbor::BYTES, 0, Controller::LARGEST_NUMBER);
-    let x = b.refusal;
-    if x != 0 {
+    let b = item(s, end, at, cbor::BYTES, 0, Controller::LARGEST_NUMBER);
+    let refusal = b.refusal;
+    if refusal != 0 {
         return no_common(b);
     }
     let from = b.at;
     let to = from + b.value;
     let h = item(s, to, from, cbor::MAP, 1, 2);
-    let y = h.refusal;
-    if y != 0 {
+    let refusal = h.refusal;
+    if refusal != 0 {
         return no_common(h);
     }
-    let k = item(s, to, h.at, cbor::NUMBER, 2, 2);
-    let z = k.refusal;
-    if z != 0 {
+    let k = item(s, to, h.at, cbor::NUMBER, LIST_KEY, LIST_KEY);
+    let refusal = k.refusal;
+    if refusal != 0 {
         return no_common(k);
     }
     let l = component_list(s, to, k.at, ids);
-    let u = l.refusal;
-    if u != 0 {
+    let refusal = l.refusal;
+    if refusal != 0 {
         return no_common(l);
     }
-    let n = l.value;
-    let q = common_sequence(s, table, n, h.value - 1, to, l.at, places);
-    let v = q.refusal;
-    if v != 0 {
+    let q = common_sequence(s, table, l.value, h.value - 1, to, l.at, places);
+    let refusal = q.refusal;
+    if refusal != 0 {
         return no_common(q);
     }
-    let end = q.at;
-    if end != to {
-        return no_common(refuse(Refusal::NotCbor, end));
+    let next = q.at;
+    if next != to {
+        return no_common(refuse(Refusal::NotCbor, next));
     }
     Common {
         refusal: 0,
         at: to,
-        components: n,
+        components: l.value,
         commands: q.value,
         from,
     }
 }
 
+// On a refusal all but its number and place is 0.
 pub struct Body {
     pub refusal: usize,
     pub at: usize,
@@ -229,64 +248,55 @@ pub struct Body {
     pub components: usize,
     pub from: usize,
     pub to: usize,
+    pub ids: Places,
+    pub sections: SectionPlaces,
 }
 
-// The manifest: its number, how many components it has, and where common stands.
-pub fn read_body(
-    s: &[u8],
-    table: &Table,
-    e: usize,
-    at: usize,
-    ids: &mut Places,
-    places: &mut SectionPlaces,
-) -> Body
-    requires { ⌜ (e ≤ length (now s)) × (now table ≡ byNumber) ⌝ }
-    ensures { λ r. ⌜ (r ≡ bodyOf (Check.manifestAt (now (s .entry)) e at)) × Kept (λ m. m .ids) (λ m. m .sections) (Check.manifestAt (now (s .entry)) e at) (now (ids .entry)) (now (ids .exit)) (now (places .entry)) (now (places .exit)) ⌝ }
+fn refused(refusal: usize, at: usize) -> Body
+    ensures { λ b. ⌜ b ≡ refusedBody refusal at ⌝ }
 {
-    let f = read_front(s, e, at);
-    let x = f.refusal;
-    if x != 0 {
-        return Body {
-            refusal: x,
-            at: f.at,
-            number: 0,
-            components: 0,
-            from: 0,
-            to: 0,
-        };
+    Body {
+        refusal,
+        at,
+        number: 0,
+        components: 0,
+        from: 0,
+        to: 0,
+        ids: [0usize; PLACES],
+        sections: [0usize; SECTION_PLACES],
     }
-    let c = read_common(s, table, e, f.at, ids, places);
-    let y = c.refusal;
-    if y != 0 {
-        return Body {
-            refusal: y,
-            at: c.at,
-            number: 0,
-            components: 0,
-            from: 0,
-            to: 0,
-        };
+}
+
+// The manifest: its number, how many components it has, and where common, the identifiers and the sections stand.
+pub fn read_body(s: &[u8], table: &Table, end: usize, at: usize) -> Body
+    requires { ⌜ (end ≤ length (now s)) × (now table ≡ byNumber) ⌝ }
+    ensures { λ r. ⌜ r ≡ bodyOf (Check.manifestAt (now (s .entry)) end at) ⌝ }
+{
+    let f = read_front(s, end, at);
+    let refusal = f.refusal;
+    if refusal != 0 {
+        return refused(refusal, f.at);
+    }
+    let mut ids = [0usize; PLACES];
+    let mut places = [0usize; SECTION_PLACES];
+    let c = read_common(s, table, end, f.at, &mut ids, &mut places);
+    let refusal = c.refusal;
+    if refusal != 0 {
+        return refused(refusal, c.at);
     }
     let r = sections(
         s,
         table,
         c.components,
-        f.entries - 3,
+        f.entries - REQUIRED,
         c.commands,
-        e,
+        end,
         c.at,
-        places,
+        &mut places,
     );
-    let z = r.refusal;
-    if z != 0 {
-        return Body {
-            refusal: z,
-            at: r.at,
-            number: 0,
-            components: 0,
-            from: 0,
-            to: 0,
-        };
+    let refusal = r.refusal;
+    if refusal != 0 {
+        return refused(refusal, r.at);
     }
     Body {
         refusal: 0,
@@ -295,5 +305,7 @@ pub fn read_body(
         components: c.components,
         from: c.from,
         to: c.at,
+        ids,
+        sections: places,
     }
 }

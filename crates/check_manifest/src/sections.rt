@@ -3,6 +3,8 @@ ghost use mathlib.Core.Path.{_≡_};
 ghost use mathlib.Core.List.{[], _∷_};
 ghost use Prim.Native.Nat.{_+_, _≤_, _<_};
 ghost use lib.ListN.{length};
+ghost use Rattle.rules.specs.Limits.{sectionCount};
+ghost use Rattle.rules.specs.Commands.{PAYLOAD_FETCH};
 ghost use Rattle.rules.specs.Tables.{byNumber};
 ghost use Rattle.rules.specs.Manifest.{count, countAll};
 ghost use Rattle.rules.specs.Check as Check;
@@ -14,47 +16,67 @@ use cbor::reading::item;
 use cbor::reading::refuse;
 use check_sequence::check_sequence;
 use rules::answers::Refusal;
+use rules::codes;
 use rules::controller::Controller;
 use rules::controller::SectionPlaces;
 use rules_tables::Table;
 
+// The key of common's own sequence.
+const SEQUENCE_KEY: usize = 4;
+
+// Sections 8 to 12 have numbers 1 to 5.
+const BEFORE_SECTIONS: usize = codes::PAYLOAD_FETCH - 1;
+
 // The number of a section in the array of places.
-pub fn section_number(key: usize) -> usize
+fn section_number(key: usize) -> usize
     requires { ⌜ Section key ⌝ }
-    ensures { λ r. ⌜ (r ≡ sectionNo key) × (r < 6) ⌝ }
+    ensures { λ r. ⌜ (r ≡ sectionNo key) × (r < sectionCount) ⌝ }
 {
-    if key == 3 { 0 } else { key - 7 }
+    if key == codes::COMMON {
+        0
+    } else {
+        key - BEFORE_SECTIONS
+    }
 }
 
-// The section under `key`, after m commands.
-pub fn section(
+// The section under `key`, after that many commands.
+fn section(
     s: &[u8],
     table: &Table,
-    n: usize,
+    components: usize,
     key: usize,
-    m: usize,
-    e: usize,
+    commands: usize,
+    end: usize,
     at: usize,
     places: &mut SectionPlaces,
 ) -> Reading
-    requires { ⌜ (e ≤ length (now s)) × (now table ≡ byNumber) × Section key ⌝ }
-    ensures { λ r. ⌜ (r ≡ reading (λ x. m + count (x .seq)) (Check.sectionAt (now (s .entry)) n key m e at)) × Placed (λ x. x ∷ []) (Check.sectionAt (now (s .entry)) n key m e at) (now (places .entry)) (now (places .exit)) ⌝ }
+    requires { ⌜ (end ≤ length (now s)) × (now table ≡ byNumber) × Section key ⌝ }
+    ensures { λ r. ⌜ (r ≡ reading (λ x. commands + count (x .seq)) (Check.sectionAt (now (s .entry)) components key commands end at)) × Placed (λ x. x ∷ []) (Check.sectionAt (now (s .entry)) components key commands end at) (now (places .entry)) (now (places .exit)) ⌝ }
 {
-    let b = item(s, e, at, cbor::BYTES, 0, Controller::LARGEST_NUMBER);
+    let b = item(s, end, at, cbor::BYTES, 0, Controller::LARGEST_NUMBER);
     let refusal = b.refusal;
     if refusal != 0 {
         return b;
     }
     let from = b.at;
     let to = from + b.value;
-    let r = check_sequence(s, table, n, key, Controller::DEPTH, m, to, from);
-    let wrong = r.refusal;
-    if wrong != 0 {
+    let r = check_sequence(
+        s,
+        table,
+        components,
+        key,
+        Controller::DEPTH,
+        commands,
+        to,
+        from,
+    );
+    let refusal = r.refusal;
+    if refusal != 0 {
         return r;
     }
-    let end = r.at;
-    if end != to {
-        return refuse(Refusal::NotCbor, end);
+    let next = r.at;
+    if next != to {
+        return refuse(Refusal::NotCbor, next);
     }
     let i = section_number(key);
     places[2 * i] = from;
@@ -62,34 +84,34 @@ pub fn section(
     r
 }
 
-// k sections, after m commands, whose keys ascend from 8 on.
-pub fn sections(
+// k sections, after that many commands, whose keys ascend from 8 on.
+pub(crate) fn sections(
     s: &[u8],
     table: &Table,
-    n: usize,
+    components: usize,
     k: usize,
-    m: usize,
-    e: usize,
+    commands: usize,
+    end: usize,
     at: usize,
     places: &mut SectionPlaces,
 ) -> Reading
-    requires { ⌜ (e ≤ length (now s)) × (now table ≡ byNumber) ⌝ }
-    ensures { λ r. ⌜ (r ≡ reading (λ xs. m + countAll xs) (Check.sectionsAt (now (s .entry)) n k 8 m e at)) × Placed (λ xs. xs) (Check.sectionsAt (now (s .entry)) n k 8 m e at) (now (places .entry)) (now (places .exit)) ⌝ }
+    requires { ⌜ (end ≤ length (now s)) × (now table ≡ byNumber) ⌝ }
+    ensures { λ r. ⌜ (r ≡ reading (λ xs. commands + countAll xs) (Check.sectionsAt (now (s .entry)) components k PAYLOAD_FETCH commands end at)) × Placed (λ xs. xs) (Check.sectionsAt (now (s .entry)) components k PAYLOAD_FETCH commands end at) (now (places .entry)) (now (places .exit)) ⌝ }
 {
     let mut p = at;
-    let mut low = 8;
-    let mut so_far = m;
+    let mut low = codes::PAYLOAD_FETCH;
+    let mut so_far = commands;
     let mut left = k;
     while 0 < left {
-        let h = item(s, e, p, cbor::NUMBER, low, 12);
+        let h = item(s, end, p, cbor::NUMBER, low, codes::RUN_SECTION);
         let refusal = h.refusal;
         if refusal != 0 {
             return h;
         }
         let key = h.value;
-        let r = section(s, table, n, key, so_far, e, h.at, places);
-        let wrong = r.refusal;
-        if wrong != 0 {
+        let r = section(s, table, components, key, so_far, end, h.at, places);
+        let refusal = r.refusal;
+        if refusal != 0 {
             return r;
         }
         p = r.at;
@@ -105,17 +127,17 @@ pub fn sections(
 }
 
 // Common's own sequence, of which k entries, one or none, are left.
-pub fn common_sequence(
+pub(crate) fn common_sequence(
     s: &[u8],
     table: &Table,
-    n: usize,
+    components: usize,
     k: usize,
-    e: usize,
+    end: usize,
     at: usize,
     places: &mut SectionPlaces,
 ) -> Reading
-    requires { ⌜ (e ≤ length (now s)) × (now table ≡ byNumber) × (k ≤ 1) ⌝ }
-    ensures { λ r. ⌜ (r ≡ reading countAll (Check.commonSeq (now (s .entry)) n k e at)) × Placed (λ xs. xs) (Check.commonSeq (now (s .entry)) n k e at) (now (places .entry)) (now (places .exit)) ⌝ }
+    requires { ⌜ (end ≤ length (now s)) × (now table ≡ byNumber) × (k ≤ 1) ⌝ }
+    ensures { λ r. ⌜ (r ≡ reading countAll (Check.commonSeq (now (s .entry)) components k end at)) × Placed (λ xs. xs) (Check.commonSeq (now (s .entry)) components k end at) (now (places .entry)) (now (places .exit)) ⌝ }
 {
     if k == 0 {
         return Reading {
@@ -124,10 +146,10 @@ pub fn common_sequence(
             value: 0,
         };
     }
-    let h = item(s, e, at, cbor::NUMBER, 4, 4);
+    let h = item(s, end, at, cbor::NUMBER, SEQUENCE_KEY, SEQUENCE_KEY);
     let refusal = h.refusal;
     if refusal != 0 {
         return h;
     }
-    section(s, table, n, 3, 0, e, h.at, places)
+    section(s, table, components, codes::COMMON, 0, end, h.at, places)
 }

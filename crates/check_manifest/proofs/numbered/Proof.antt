@@ -2,6 +2,7 @@ use mathlib.Core.Path.{refl, ap, _∙_}
 use Prim.Native.Nat.{ℕ}
 use borrow.Author.Needs.{needs}
 use Rattle.rules.specs.Bytes.{Bytes}
+use Rattle.rules.specs.Commands.{COMMON}
 use Rattle.rules.specs.Check.{number, key}
 use Rattle.cbor.specs.Reading.{ends, reading}
 use Rattle.check_manifest.specs.Body.{numberedAt}
@@ -14,7 +15,7 @@ module _ (c : tie.After-item) where
   s = c .before .before .args .s .now
 
   abbrev e : ℕ
-  e = c .before .before .args .e
+  e = c .before .before .args .end
 
   keyed : Told (λ q. q) (λ q. 2) (key s 2 e (c .before .before .args .at)) (c .item .result)
   keyed = key-told s 2 e (c .item .ensures) refl
@@ -36,7 +37,7 @@ no-common c =
     let i = c .before .before .before .before .before in
     onward (keyed i) (reading (λ n. n)) _ _ (c .before .before .before .before .if1 .left) λ p at two.
     onward (told _ _ (λ q. number (s i) (e i) q) (c .before .before .before .number .ensures) at) (reading (λ n. n)) _ _ (c .before .before .if2 .left) λ a next is.
-    halts (key-told (s i) 3 (e i) (c .before .item2 .ensures) next) _ _ _ (c .if3 .taken)
+    halts (key-told (s i) COMMON (e i) (c .before .item2 .ensures) next) _ _ _ (c .if3 .taken)
 
 good : tie.Need-returns-4
 unfolding numberedAt
@@ -44,7 +45,7 @@ good c =
     let i = c .before .before .before .before .before in
     onward (keyed i) (reading (λ n. n)) _ _ (c .before .before .before .before .if1 .left) λ p at two.
     onward (told _ _ (λ q. number (s i) (e i) q) (c .before .before .before .number .ensures) at) (reading (λ n. n)) _ _ (c .before .before .if2 .left) λ a next is.
-    onward (key-told (s i) 3 (e i) (c .before .item2 .ensures) next) (reading (λ n. n)) _ _ (c .if3 .left) λ q end three.
+    onward (key-told (s i) COMMON (e i) (c .before .item2 .ensures) next) (reading (λ n. n)) _ _ (c .if3 .left) λ q end three.
     ap (λ (n : ℕ). ends (c .before .item2 .result .at) n) is ∙ ap (λ (p : ℕ). ends p (a .0)) end
 
 pub numbered-spec : {M : Type 1} → statement M

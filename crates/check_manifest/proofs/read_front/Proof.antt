@@ -20,7 +20,7 @@ module _ (c : tie.After-item) where
   s = c .before .before .args .s .now
 
   abbrev e : ℕ
-  e = c .before .before .args .e
+  e = c .before .before .args .end
 
   opened : Told (λ (h : Head). h .next) (λ (h : Head). h .num) (item MAP 3 8 s e (c .before .before .args .at)) (c .item .result)
   opened = told _ _ (λ q. item MAP 3 8 s e q) (c .item .ensures) refl

@@ -16,7 +16,7 @@ module _ (c : tie.After-item) where
   s = c .before .before .args .s .now
 
   abbrev e : ℕ
-  e = c .before .before .args .e
+  e = c .before .before .args .end
 
   keyed : Told (λ q. q) (λ q. 1) (key s 1 e (c .before .before .args .at)) (c .item .result)
   keyed = key-told s 1 e (c .item .ensures) refl

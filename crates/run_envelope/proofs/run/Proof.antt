@@ -5,10 +5,10 @@ use Rattle.run_envelope.proofs.run.Statement.{statement}
 use Rattle.run_envelope.proofs.run.Tie as tie
 
 run-requires : tie.Need-run-checked-requires
-run-requires c κs = accepted _ _ (c .before .before .before .before .before .before .before .before .check .ensures) (c .before .before .before .before .before .before .enum-told .given .1)
+run-requires c κs = accepted _ _ (c .before .before .before .before .before .before .before .before .check .ensures .0) (c .before .before .before .before .before .before .enum-told .given .1)
 
 refused : tie.Need-returns
-refused c = refused-check _ _ (c .before .before .before .check .ensures) _ _ (c .before .answer .given .1) _ _
+refused c = refused-check _ _ (c .before .before .before .check .ensures .0) _ _ (c .before .answer .given .1) _ _
 
 pub run-spec : {M : Type 1} → statement M
 run-spec =

@@ -10,7 +10,7 @@ use Rattle.check_envelope.proofs.outer.unread.Tie as tie
 
 module _ (c : tie.After-h) where
   read :
-      oneOf NIL BYTES (c .before .before .before .before .args .s .now) (c .before .before .before .before .args .e) (c .before .before .before .before .args .at) ≡
+      oneOf NIL BYTES (c .before .before .before .before .args .s .now) (c .before .before .before .before .args .end) (c .before .before .before .before .args .at) ≡
       got (headOf (c .h .given .0 .0))
   read = sym (c .before .before .read-one-of .ensures) ∙ ap itemMeans (c .h .given .1)
 

@@ -5,13 +5,13 @@ use mathlib.Core.List.{List, [], _∷_}
 use native.Mathlib.Omega.{arith}
 use borrow.Author.Tests.{eqb-true, ne-eqb}
 use lib.Dec.{eqb}
-use Rattle.rules.specs.Commands.{among}
+use Rattle.rules.specs.Commands.{among, COMMON, PAYLOAD_FETCH, INSTALL, VALIDATE, LOAD, RUN}
 use Rattle.check_sequence.specs.Opening.{Section}
 use Rattle.check_manifest.proofs.sections.section_number.Statement.{statement}
 use Rattle.check_manifest.proofs.sections.section_number.Tie as tie
 
 abbrev Late : ℕ → Type 0
-Late k = (k ≡ 3 → ⊥) → (8 ≤ k) × (k ≤ 12)
+Late k = (k ≡ COMMON → ⊥) → (PAYLOAD_FETCH ≤ k) × (k ≤ RUN)
 
 abbrev All : List ℕ → Type 0
 All [] = Unit {0}
@@ -27,7 +27,7 @@ one-of k (x ∷ xs) t e = go (eqb k x) refl (one-of k xs (t .1)) e
 
 late : (k : ℕ) → Section k → Late k
 late k h =
-    one-of k (3 ∷ 8 ∷ 9 ∷ 10 ∷ 11 ∷ 12 ∷ [])
+    one-of k (COMMON ∷ PAYLOAD_FETCH ∷ INSTALL ∷ VALIDATE ∷ LOAD ∷ RUN ∷ [])
     ((λ n. absurd (n refl)), ((λ n. omega arith), ((λ n. omega arith), ((λ n. omega arith), ((λ n. omega arith), ((λ n. omega arith), tt))))))
     h
 
@@ -38,7 +38,7 @@ common : tie.Need-returns
 common c = rw (c .if1 .taken) (refl, omega arith)
 
 section : tie.Need-returns-2
-section c = (rw (ne-eqb _ 3 (c .if1 .left)), omega (arith, late _ (c .before .pre) (c .if1 .left)))
+section c = (rw (ne-eqb _ COMMON (c .if1 .left)), omega (arith, late _ (c .before .pre) (c .if1 .left)))
 
 pub section-number-spec : {M : Type 1} → statement M
 section-number-spec = tie.close (tie.spec sub-result common section)

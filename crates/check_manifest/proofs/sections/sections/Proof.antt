@@ -1,6 +1,7 @@
 use Prim.Native.Nat.{_≤_}
 use native.Mathlib.Omega.{arith}
 use borrow.Author.Needs.{needs}
+use Rattle.rules.specs.Commands.{PAYLOAD_FETCH}
 use Rattle.rules.specs.Check.{sectionsAt}
 use Rattle.rules.proofs.CheckLaws.{item-law}
 use Rattle.cbor.proofs.ReadingLaws.{item-stopped, item-went, pos, reading-stopped}
@@ -10,7 +11,7 @@ use Rattle.check_manifest.proofs.sections.sections.Tie as tie
 
 abbrev Inv-loop : tie.InvT-loop
 Inv-loop s table n k m e at places₀ p₀ low₀ so-far₀ left₀ places p low so-far left =
-    (8 ≤ low) × Left m so-far (sectionsAt s n k 8 m e at) (sectionsAt s n left low so-far e p) places₀ places
+    (PAYLOAD_FETCH ≤ low) × Left m so-far (sectionsAt s n k PAYLOAD_FETCH m e at) (sectionsAt s n left low so-far e p) places₀ places
 
 abbrev μ-loop : tie.MeasureT-loop
 μ-loop s table n k m e at places₀ p₀ low₀ so-far₀ left₀ places p low so-far left = left
