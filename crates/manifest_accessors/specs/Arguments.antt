@@ -17,7 +17,7 @@ use Rattle.run_slots.specs.Params.{optional, meaning, Fit}
 use Rattle.run_commands.specs.Op.{opOf}
 
 abbrev pub paramsOf : Args → Params
-paramsOf a = record { uri = a .uri; length = a .length; source = a .source; digest = a .digest; size = a .size }
+paramsOf a = a .params
 
 -- coerce as a number: 0 unset, 1 false, 2 true
 abbrev pub isTrue : ℕ → Bool
@@ -36,7 +36,7 @@ pub record Within (s : Bytes) (p : Params) : Type 0 where
 
 -- no parameters
 abbrev pub bareAt : ℕ → ℕ → Args
-bareAt value next = record { value = value; uri = 0; length = 0; source = 0; digest = 0; size = 0; coerce = 0; next = next }
+bareAt value next = record { value = value; params = record { uri = 0; length = 0; source = 0; digest = 0; size = 0 }; coerce = 0; next = next }
 
 -- what v gives, and what g gives beside it
 abbrev pub overGiven : Given → Given → Given
@@ -84,6 +84,10 @@ pub record ArgumentAt (s : Bytes) (c at : ℕ) : Type 0 where
   pub to : ℕ
   pub reads : argument s deeper n m place (row .form) e at ≡ got (one place op coerce, to)
 
+-- the component that a command concerns: the new index where its code sets the index, else the current one
+abbrev pub componentOf : ℕ → ℕ → ℕ → ℕ
+componentOf c value index = cond (eqb c 12) value index
+
 -- it was read
 pub record ArgumentRead (s : Bytes) (c at : ℕ) (x : ArgumentAt s c at) (a : Args) : Type 0 where
   pub op : opOf s c (a .value) (paramsOf a) ≡ x .op
@@ -93,4 +97,4 @@ pub record ArgumentRead (s : Bytes) (c at : ℕ) (x : ArgumentAt s c at) (a : Ar
   pub within : Within s (paramsOf a)
   pub sixteen : c < 3 → a .value + 16 ≤ length s
   pub inside : (i : ℕ) → i < x .n → component (x .op) i < x .n
-  pub component : (i : ℕ) → component (x .op) i ≡ cond (eqb c 12) (a .value) i
+  pub component : (i : ℕ) → component (x .op) i ≡ componentOf c (a .value) i

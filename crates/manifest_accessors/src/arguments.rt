@@ -3,17 +3,20 @@ ghost use mathlib.Core.Path.{_≡_};
 ghost use lib.Dec.{eqb};
 ghost use mathlib.Core.Bool.{cond};
 ghost use Rattle.run_slots.specs.Params.{Fit};
-ghost use Rattle.manifest_accessors.specs.Arguments.{paramsOf, givenOf, Within, bareAt, EntryAt, EntryPut, Entries, ArgumentAt, ArgumentRead};
+ghost use Rattle.manifest_accessors.specs.Arguments.{paramsOf, givenOf, Within, bareAt, componentOf, EntryAt, EntryPut, Entries, ArgumentAt, ArgumentRead};
 use crate::heads::open;
+use rules::codes::COERCE;
+use rules::codes::DIGEST;
+use rules::codes::SET_INDEX;
+use rules::codes::SOURCE;
+use rules::codes::URI;
+use rules::controller::Controller;
+use run_slots::params::Params;
 
-// The place of 16 bytes or the new index; the parameters, as in Params; coerce: 0 unset, 1 false, 2 true; and the place after.
+// The place of 16 bytes or the new index; the parameters; coerce: 0 unset, 1 false, 2 true; and the place after.
 pub struct Args {
     pub value: usize,
-    pub uri: usize,
-    pub length: usize,
-    pub source: usize,
-    pub digest: usize,
-    pub size: usize,
+    pub params: Params,
     pub coerce: usize,
     pub next: usize,
 }
@@ -21,13 +24,16 @@ pub struct Args {
 fn bare(value: usize, next: usize) -> Args
     ensures { λ r. ⌜ r ≡ bareAt value next ⌝ }
 {
-    Args {
-        value,
+    let params = Params {
         uri: 0,
         length: 0,
         source: 0,
         digest: 0,
         size: 0,
+    };
+    Args {
+        value,
+        params,
         coerce: 0,
         next,
     }
@@ -48,35 +54,39 @@ fn entry(s: &[u8], key: usize, at: usize, a: Args) -> Args
     requires { ⌜ EntryAt (now s) key at ⌝ }
     ensures { λ r. ⌜ ((x : EntryAt (now (s .entry)) key at) → EntryPut (now (s .entry)) key at x a r) ⌝ }
 {
-    let mut r = a;
-    if key == 2 {
+    if key == COERCE {
+        let mut r = a;
         r.coerce = flag(s[at]);
         r.next = at + 1;
         return r;
     }
     let h = open(s, at);
     let value = h.value;
-    let next = h.next;
+    let mut next = h.next;
+    let mut p = a.params;
     match key {
-        6 => {
-            r.uri = next;
-            r.length = value;
-            r.next = next + value;
+        URI => {
+            p.uri = next;
+            p.length = value;
+            next += value;
         }
-        10 => {
-            r.source = value + 1;
-            r.next = next;
+        SOURCE => {
+            p.source = value + 1;
         }
-        11 => {
-            r.digest = next;
-            r.next = next + 32;
+        DIGEST => {
+            p.digest = next;
+            next += Controller::DIGEST_BYTES;
         }
         _ => {
-            r.size = value + 1;
-            r.next = next;
+            p.size = value + 1;
         }
     }
-    r
+    Args {
+        value: a.value,
+        params: p,
+        coerce: a.coerce,
+        next,
+    }
 }
 
 // k entries of a map of parameters.
@@ -114,4 +124,14 @@ pub fn read_one(s: &[u8], code: usize, at: usize) -> Args
         }
         _ => bare(0, at + 1),
     }
+}
+
+// The component of the command of that code: its value, the new index, where it sets the index.
+pub fn component(code: usize, value: usize, index: usize) -> usize
+    ensures { λ r. ⌜ r ≡ componentOf code value index ⌝ }
+{
+    if code == SET_INDEX {
+        return value;
+    }
+    index
 }

@@ -1,9 +1,8 @@
 // The run of sequences and commands: sequences hold commands and commands hold sequences.
 ghost use mathlib.Core.Path.{_≡_};
-ghost use mathlib.Core.Bool.{cond};
-ghost use lib.Dec.{eqb};
 ghost use Rattle.rules.specs.Manifest.{one};
 ghost use Rattle.run_sequence.specs.Cycle.{LeafJob, CommandJob, SequenceJob, CommandRan, SequenceRan, caughtBy};
+use manifest_accessors::arguments::component;
 use manifest_accessors::arguments::read_one;
 use manifest_accessors::heads::open;
 use manifest_accessors::heads::skip;
@@ -11,7 +10,6 @@ use rules::controller::AllParameters;
 use rules::controller::Sixteen;
 use rules::controller::SlotNumbers;
 use run_commands::perform::perform;
-use run_slots::params::Params;
 use run_slots::params::either;
 
 // Where the next command is, the index and coerce of the sequence (1 false, 2 true), events written, answers used, and
@@ -23,16 +21,6 @@ pub struct Run {
     pub events: usize,
     pub used: usize,
     pub end: usize,
-}
-
-// The component of the command of that code: for 12 its value, the new index.
-fn component(code: usize, value: usize, index: usize) -> usize
-    ensures { λ r. ⌜ r ≡ cond (eqb code 12) value index ⌝ }
-{
-    if code == 12 {
-        return value;
-    }
-    index
 }
 
 // The command at run.next, which holds no sequence; its code stands before `at`.
@@ -54,18 +42,11 @@ fn leaf(
 {
     let a = read_one(s, code, at);
     let index = component(code, a.value, run.index);
-    let given = Params {
-        uri: a.uri,
-        length: a.length,
-        source: a.source,
-        digest: a.digest,
-        size: a.size,
-    };
     let d = perform(
         s,
         code,
         a.value,
-        given,
+        a.params,
         index,
         run.next,
         vendor,

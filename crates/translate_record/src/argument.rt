@@ -64,10 +64,11 @@ fn put_parameters(s: &[u8], a: Args, room: &mut [u8], to: usize) -> usize
     requires { ⌜ Within (now s) (paramsOf a) × Fit (now s) 256 (paramsOf a) × (to + length (paramBytes (meaning (now s) (paramsOf a))) ≤ length (now room)) ⌝ }
     ensures { λ r. ⌜ Filled (paramBytes (meaning (now (s .entry)) (paramsOf a))) to (now (room .entry)) r (now (room .exit)) ⌝ }
 {
-    let p = put_string(s, 6, a.uri, a.length, room, to);
-    let q = put_source(a.source, room, p);
-    let r = put_string(s, 11, a.digest, 32, room, q);
-    put_size(a.size, room, r)
+    let g = a.params;
+    let p = put_string(s, 6, g.uri, g.length, room, to);
+    let q = put_source(g.source, room, p);
+    let r = put_string(s, 11, g.digest, 32, room, q);
+    put_size(g.size, room, r)
 }
 
 // The argument of the command of that code, by its kind in the table.

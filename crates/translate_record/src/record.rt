@@ -2,7 +2,6 @@
 ghost use mathlib.Core.Path.{_≡_};
 ghost use mathlib.Core.Bool.{cond};
 ghost use Prim.Native.Nat.{_+_, _≤_, _<_};
-ghost use lib.Dec.{eqb};
 ghost use lib.ListN.{length};
 ghost use Rattle.rules.specs.Bytes.{put};
 ghost use Rattle.rules.specs.Commands.{commands, rowOf, conditionIn};
@@ -10,6 +9,7 @@ ghost use Rattle.rules.specs.Manifest.{one};
 ghost use Rattle.rules.specs.ProgramFormat.{NONE};
 ghost use Rattle.translate_record.specs.Record.{headBytes, JumpWrote, LeafJob, CommandWrote};
 use crate::argument::put_argument;
+use manifest_accessors::arguments::component;
 use manifest_accessors::arguments::read_one;
 use rules::program_format::JUMP;
 use rules::program_format::NO_TARGET;
@@ -49,16 +49,6 @@ fn put_head(
     room[to + 7] = (target % 256) as u8;
     room[to + 8] = (size / 256 % 256) as u8;
     room[to + 9] = (size % 256) as u8;
-}
-
-// The component of the command of that code: for 12 its value, the new index.
-fn component(code: usize, value: usize, index: usize) -> usize
-    ensures { λ r. ⌜ r ≡ cond (eqb code 12) value index ⌝ }
-{
-    if code == 12 {
-        return value;
-    }
-    index
 }
 
 // Only a condition has a target.

@@ -55,11 +55,11 @@ parameters-are s n a f w =
     omega (
       arith,
       weight-is (meaning s (paramsOf a)),
-      string-size s 6 (a .uri) (a .length) (w .inside),
-      byte-size 10 (a .source) (a .source - 1),
-      string-size s 11 (a .digest) 32 (f .digest),
-      digest-size (a .digest),
-      word-size 12 (a .size) (a .size - 1),
+      string-size s 6 (a .params .uri) (a .params .length) (w .inside),
+      byte-size 10 (a .params .source) (a .params .source - 1),
+      string-size s 11 (a .params .digest) 32 (f .digest),
+      digest-size (a .params .digest),
+      word-size 12 (a .params .size) (a .params .size - 1),
     )
 
 module _ (s : Bytes) (c v n : ℕ) (a : Args) (f : Fit s n (paramsOf a)) (w : Within s (paramsOf a)) (sixteen : c < 3 → v + 16 ≤ length s) where

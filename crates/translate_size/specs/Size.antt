@@ -14,7 +14,7 @@ use Rattle.translate_size.specs.declared.sizes.Size.{Size}
 -- the bytes of the parameters that are set: key, length and value
 abbrev pub parametersSize : Args → ℕ
 parametersSize a =
-    cond (eqb (a .uri) 0) 0 (a .length) + cond (eqb (a .uri) 0) 0 2 + cond (eqb (a .source) 0) 0 3 + cond (eqb (a .digest) 0) 0 34 + cond (eqb (a .size) 0) 0 6
+    cond (eqb (a .params .uri) 0) 0 (a .params .length) + cond (eqb (a .params .uri) 0) 0 2 + cond (eqb (a .params .source) 0) 0 3 + cond (eqb (a .params .digest) 0) 0 34 + cond (eqb (a .params .size) 0) 0 6
 
 -- the bytes of the argument of the command of that code
 abbrev pub argumentSize : ℕ → Args → ℕ

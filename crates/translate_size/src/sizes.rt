@@ -21,11 +21,12 @@ fn parameters_size(a: Args) -> usize
     requires { ⌜ parametersSize a ≤ most ⌝ }
     ensures { λ r. ⌜ r ≡ parametersSize a ⌝ }
 {
-    let text = either(a.uri, a.length, 0);
-    let uri = either(a.uri, 2, 0);
-    let source = either(a.source, 3, 0);
-    let digest = either(a.digest, 34, 0);
-    let size = either(a.size, 6, 0);
+    let p = a.params;
+    let text = either(p.uri, p.length, 0);
+    let uri = either(p.uri, 2, 0);
+    let source = either(p.source, 3, 0);
+    let digest = either(p.digest, 34, 0);
+    let size = either(p.size, 6, 0);
     text + uri + source + digest + size
 }
 

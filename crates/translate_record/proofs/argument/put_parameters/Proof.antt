@@ -8,20 +8,20 @@ use Rattle.translate_record.proofs.argument.put_parameters.Tie as tie
 
 uri : tie.Need-put-string-requires
 uri c κs =
-    let d = c .before .before .before in
+    let d = c .before .before .before .before in
     let (w, f, l) = d .pre in
     (w .inside, w .short, omega (arith, l, params-length (d .args .s .now) (paramsOf (d .args .a))))
 
 source : tie.Need-put-source-requires
 source c κs =
-    let d = c .before .before .before .before .before .before .before in
+    let d = c .before .before .before .before .before .before .before .before in
     let (w, f, l) = d .pre in
     let e = c .before .before .before .put-string .ensures in
     (f .source, omega (arith, l, e .next, filled-length _ _ _ _ _ e, params-length (d .args .s .now) (paramsOf (d .args .a))))
 
 digest : tie.Need-put-string-requires-2
 digest c κs =
-    let d = c .before .before .before .before .before .before .before .before .before .before .before in
+    let d = c .before .before .before .before .before .before .before .before .before .before .before .before in
     let (w, f, l) = d .pre in
     let e₁ = c .before .before .before .before .before .before .before .put-string .ensures in
     let e₂ = c .before .before .before .put-source .ensures in
@@ -29,7 +29,7 @@ digest c κs =
 
 size : tie.Need-put-size-requires
 size c κs =
-    let d = c .before .before .before .before .before .before .before .before .before .before .before .before .before .before .before in
+    let d = c .before .before .before .before .before .before .before .before .before .before .before .before .before .before .before .before in
     let (w, f, l) = d .pre in
     let e₁ = c .before .before .before .before .before .before .before .before .before .before .before .put-string .ensures in
     let e₂ = c .before .before .before .before .before .before .before .put-source .ensures in
@@ -38,7 +38,7 @@ size c κs =
 
 returns : tie.Need-returns
 returns c =
-    let d = c .before .before .before .before .before .before .before .before .before .before .before .before .before .before .before .before .before .before in
+    let d = c .before .before .before .before .before .before .before .before .before .before .before .before .before .before .before .before .before .before .before in
     params-filled (d .args .s .now) (paramsOf (d .args .a)) _ _ _ _ _ _ _ _ _ _
     (c .before .before .before .before .before .before .before .before .before .before .before .before .before .before .put-string .ensures)
     (c .before .before .before .before .before .before .before .before .before .before .put-source .ensures)

@@ -1,6 +1,6 @@
 use borrow.Author.Tests.{eq-eqb, ne-eqb}
-use Rattle.translate_record.proofs.record.component.Statement.{statement}
-use Rattle.translate_record.proofs.record.component.Tie as tie
+use Rattle.manifest_accessors.proofs.arguments.component.Statement.{statement}
+use Rattle.manifest_accessors.proofs.arguments.component.Tie as tie
 
 new : tie.Need-returns
 new c = rw (eq-eqb _ _ (c .if1 .taken))
