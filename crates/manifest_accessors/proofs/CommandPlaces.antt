@@ -17,7 +17,9 @@ use Rattle.rules.specs.Manifest.{Seq, sub, try, Alts, last, or, count}
 use Rattle.rules.specs.Check.{Read, number, inBytes, alternativesAt, argument, command, sequenceAt}
 use Rattle.rules.proofs.GotLaws.{passed, split, split₂, both}
 use Rattle.rules.proofs.CheckLaws.{Item, item-law}
-use Rattle.manifest_accessors.specs.Places.{CommandAt}
+use Rattle.manifest_accessors.specs.Heads.{HeadAt}
+use Rattle.manifest_accessors.specs.Places.{CommandAt, SequenceAt}
+use Rattle.manifest_accessors.proofs.HeadLaws.{item-headed}
 use Rattle.manifest_accessors.proofs.ArgumentLaws.{command-coded}
 
 -- a command's code, and its argument
@@ -56,6 +58,27 @@ in-string s deeper m e at a p q₀ =
     let l : q ≡ after h = eqb-true _ _ t in
     let w : after h ≡ h .next + h .num = rw (i .is) in
     (record { head = h; item = qh; reads = rw (← ea, ← w) (qr ∙ ap (λ (z : ℕ). got (b, z)) l); fits = omega (arith, i .fits, w) }, ap (λ (z : Span). z .to) (sym ep) ∙ l ∙ w)
+
+-- once the head of the byte string is read: its sequence
+module _ (s : Bytes) (n section depth m e at : ℕ) (a : Seq) (i : InString s (sequenceAt s n section depth) m e at a) (f : e ≤ length s) where
+  abbrev pub string-head : HeadAt s at
+  string-head = item-headed s BYTES 0 (limits .largest) e at (i .head) f (omega arith) (i .item)
+
+  pub string-fits : i .head .next + i .head .num ≤ length s
+  string-fits = omega (arith, i .fits)
+
+  abbrev pub string-sequence : (events from : ℕ) → events ≤ m → from ≡ i .head .next → SequenceAt s n depth events from
+  string-sequence events from few o =
+      record {
+        section = section;
+        m = m;
+        e = i .head .next + i .head .num;
+        fits = string-fits;
+        seq = a;
+        to = i .head .next + i .head .num;
+        reads = rw o (i .reads);
+        few = few;
+      }
 
 -- 30
 pub record Sub (s : Bytes) (n depth events at : ℕ) (x : CommandAt s n depth events at) (p : ℕ) : Type 0 where

@@ -5,6 +5,7 @@ pub mod OneLaws
 pub mod CommandPlaces
 pub mod SequencePlaces
 pub mod TryPlaces
+pub mod PlaceLaws
 pub mod IdentifiersRead
 pub mod SectionsRead
 pub mod SectionPlaces

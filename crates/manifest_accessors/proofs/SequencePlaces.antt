@@ -12,7 +12,9 @@ use Rattle.rules.specs.Limits.{limits}
 use Rattle.rules.specs.Manifest.{Seq, end, then, countCmd}
 use Rattle.rules.specs.Check.{command, commandsAt, sequenceAt}
 use Rattle.rules.proofs.GotLaws.{passed, split, split₂, both}
+use Rattle.manifest_accessors.specs.Heads.{HeadAt}
 use Rattle.manifest_accessors.specs.Places.{CommandAt, SequenceAt}
+use Rattle.manifest_accessors.proofs.HeadLaws.{item-headed}
 
 -- k commands at `at` as check read them
 pub record CommandsAt (s : Bytes) (n depth events k at : ℕ) : Type 0 where
@@ -44,6 +46,26 @@ start s n (suc depth) events at x =
     let (_, q₂) = passed (eqb (h .num % 2) 0) Malformed at _ (x .seq, x .to) q₁ in
     let d : suc depth - 1 ≡ depth = omega arith in
     record { head = h; item = qh; deep = omega arith; reads = rw d q₂ }
+
+-- once the head of a sequence is read: its commands
+module _ (s : Bytes) (n depth events at : ℕ) (x : SequenceAt s n depth events at) where
+  abbrev pub start-head : HeadAt s at
+  start-head =
+      let y = start s n depth events at x in
+      item-headed s ARRAY 0 (limits .sequence + limits .sequence) (x .e) at (y .head) (x .fits) (omega arith) (y .item)
+
+  abbrev pub start-commands : (v p : ℕ) → (v ≡ start-head .head .num) × (p ≡ start-head .head .next) → CommandsAt s n (depth - 1) events (v / 2) p
+  start-commands v p q =
+      record {
+        section = x .section;
+        m = x .m;
+        e = x .e;
+        fits = x .fits;
+        cmds = x .seq;
+        to = x .to;
+        reads = rw (q .0, q .1) (start s n depth events at x .reads);
+        few = x .few;
+      }
 
 -- the first of some commands, and the others
 pub record Turn (s : Bytes) (n depth events k at : ℕ) (x : CommandsAt s n depth events k at) : Type 0 where

@@ -6,13 +6,15 @@ use native.Mathlib.Omega.{arith}
 use lib.ListN.{length}
 use Rattle.rules.specs.Bytes.{Bytes}
 use Rattle.rules.specs.Got.{got}
-use Rattle.rules.specs.Cbor.{BYTES, after}
+use Rattle.rules.specs.Cbor.{BYTES, ARRAY, after}
 use Rattle.rules.specs.Limits.{limits}
 use Rattle.rules.specs.Manifest.{Seq, count}
 use Rattle.rules.specs.Check.{Read, strings, sequenceAt}
 use Rattle.rules.proofs.CheckLaws.{Item, item-law}
-use Rattle.manifest_accessors.specs.Heads.{Strings}
-use Rattle.manifest_accessors.proofs.CommandPlaces.{InString, Alternatives}
+use Rattle.manifest_accessors.specs.Heads.{HeadAt, Strings}
+use Rattle.manifest_accessors.specs.Places.{CommandAt}
+use Rattle.manifest_accessors.proofs.HeadLaws.{item-headed}
+use Rattle.manifest_accessors.proofs.CommandPlaces.{InString, Tries, Alternatives, listOf, alternatives-law}
 
 -- k alternatives at `at` as check read them
 pub record AltsAt (s : Bytes) (n depth events k at to : ℕ) : Type 0 where
@@ -24,6 +26,25 @@ pub record AltsAt (s : Bytes) (n depth events k at to : ℕ) : Type 0 where
   pub size : length seqs ≡ k
   pub reads : Alternatives s (sequenceAt s n section depth) e seqs m at to
   pub few : events ≤ m
+
+-- once the head of a try each is read: its alternatives
+module _ (s : Bytes) (n depth events at : ℕ) (x : CommandAt s n depth events at) (p : ℕ) (t : Tries s n depth events at x p) where
+  abbrev pub try-head : HeadAt s p
+  try-head = item-headed s ARRAY 1 (limits .alternatives) (x .e) p (t .head) (x .fits) (omega arith) (t .item)
+
+  abbrev pub try-places : (w from : ℕ) → (w ≡ t .head .num) × (from ≡ t .head .next) → AltsAt s n depth events w from (x .to)
+  try-places w from o =
+      let (l, size) = alternatives-law s (sequenceAt s n (x .section) depth) (t .head .num - 1) (x .m + 1) (x .e) (t .head .next) (t .alts) (x .to) (t .reads) in
+      record {
+        section = x .section;
+        m = x .m + 1;
+        e = x .e;
+        fits = x .fits;
+        seqs = listOf (t .alts);
+        size = omega (arith, size, o .0, t .some-of);
+        reads = rw (o .1) l;
+        few = omega (arith, x .few);
+      }
 
 -- the first of some alternatives, and the others
 pub record Choice (s : Bytes) (n depth events k at to : ℕ) (x : AltsAt s n depth events k at to) : Type 0 where

@@ -8,7 +8,7 @@ use lib.ListN.{length}
 use Rattle.rules.specs.Bytes.{Bytes}
 use Rattle.rules.specs.Got.{got}
 use Rattle.rules.specs.declared.tables.Parameter.{Parameter}
-use Rattle.rules.specs.Commands.{Op, Row, rowOf, commands, component, orElse, over, params, paramOf}
+use Rattle.rules.specs.Commands.{Op, setIndex, code, component, Row, rowOf, commands, orElse, over, params, paramOf}
 use Rattle.rules.specs.Manifest.{Seq, one}
 use Rattle.rules.specs.Check.{Read, Given, parameter, entries, nothing, argument}
 use Rattle.manifest_accessors.specs.declared.arguments.Args.{Args}
@@ -86,7 +86,7 @@ pub record ArgumentAt (s : Bytes) (c at : ℕ) : Type 0 where
 
 -- the component that a command concerns: the new index where its code sets the index, else the current one
 abbrev pub componentOf : ℕ → ℕ → ℕ → ℕ
-componentOf c value index = cond (eqb c 12) value index
+componentOf c value index = cond (eqb c (code (setIndex value))) value index
 
 -- it was read
 pub record ArgumentRead (s : Bytes) (c at : ℕ) (x : ArgumentAt s c at) (a : Args) : Type 0 where
