@@ -1,11 +1,11 @@
 -- Parts, and bytes written one after the other.
-use Prim.Native.Nat.{ℕ, _+_, _-_, _≤_, _<_}
+use Prim.Native.Nat.{ℕ, _+_, _-_, _≤_}
 use mathlib.Core.Path.{_≡_, refl, sym, _∙_}
 use mathlib.Core.List.{[], _∷_, _++_, append-assoc}
 use native.Mathlib.Omega.{arith}
 use native.Mathlib.Numerals.{add-one}
-use lib.ListN.{length, take, drop, getD, length-drop, drop-of-length-le}
-use lib.Seq.{take-nil, take-all, take-suc}
+use lib.ListN.{length, take, drop, length-drop, drop-of-length-le}
+use lib.Seq.{take-nil, take-all}
 use Rattle.text.specs.Text.{Bytes, Wrote, hex}
 use Rattle.text.proofs.TextLaws.{wrote-none, wrote-then}
 use Rattle.text.specs.Pieces.{part, spaced, lines}
@@ -28,7 +28,7 @@ module _ (s : Bytes) (from to : ℕ) where
       all : (e : ℕ) → length s ≤ e → take (e - from) (drop from s) ≡ drop from s
       all e l = take-all (e - from) (drop from s) (rw (length-drop from s) (omega arith))
 
-spaced-append : (a b : Bytes) → spaced (a ++ b) ≡ spaced a ++ spaced b
+pub spaced-append : (a b : Bytes) → spaced (a ++ b) ≡ spaced a ++ spaced b
 unfolding spaced
 spaced-append [] b = refl
 spaced-append (x ∷ a) b = rw (spaced-append a b) (sym (append-assoc (32 ∷ hex (x ∷ [])) (spaced a) (spaced b)))
@@ -36,16 +36,6 @@ spaced-append (x ∷ a) b = rw (spaced-append a b) (sym (append-assoc (32 ∷ he
 pub spaced-none : (at : ℕ) (room : Bytes) → Wrote (spaced []) at room at room
 unfolding spaced
 spaced-none at room = wrote-none at room
-
--- one byte more of s
-pub spaced-next : (s : Bytes) (i : ℕ) {at : ℕ} {room : Bytes} {p : ℕ} {room₁ : Bytes} {q : ℕ} {room₂ : Bytes} → i < length s → Wrote (spaced (take i s)) at room p room₁ →
-    Wrote (spaced (getD s i 0 ∷ [])) p room₁ q room₂ → Wrote (spaced (take (i + 1) s)) at room q room₂
-spaced-next s i h f g = rw (add-one i, take-suc s i 0 h, spaced-append (take i s) (getD s i 0 ∷ [])) (wrote-then f g)
-
--- and all of them
-pub spaced-all : (s : Bytes) (i : ℕ) {at : ℕ} {room : Bytes} {p : ℕ} {room₁ : Bytes} → length s ≤ i → Wrote (spaced (take i s)) at room p room₁ →
-    Wrote (spaced s) at room p room₁
-spaced-all s i h f = rw (take-all i s h) at f
 
 pub lines-none : (f : ℕ → Bytes) (at : ℕ) (room : Bytes) → Wrote (lines f 0) at room at room
 unfolding lines

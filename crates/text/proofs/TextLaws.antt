@@ -1,7 +1,7 @@
 -- What is written one after the other.
 use Prim.Native.Nat.{ℕ, zero, suc, _+_, _-_, _/_, _%_, _≤_, _<_}
 use mathlib.Core.Path.{_≡_, refl, sym, ap, _∙_}
-use mathlib.Core.List.{List, [], _∷_, _++_, map, map-append}
+use mathlib.Core.List.{List, [], _∷_, _++_}
 use mathlib.Core.Bool.{Bool, true, false, cond}
 use lib.Dec.{leb, ltb}
 use borrow.Author.Tests.{leb-true, leb-false, lt-ltb, le-ltb}
@@ -75,14 +75,15 @@ wrote-then {a} {b} {at} {room} {p} {room₁} {q} {room₂} f g =
     go true e = fits (leb-true _ _ e)
     go false e = past (leb-false _ _ e)
 
--- one byte more of s
-pub wrote-next : (s : Bytes) (i : ℕ) {at : ℕ} {room : Bytes} {p : ℕ} {room₁ : Bytes} {q : ℕ} {room₂ : Bytes} → i < length s → Wrote (take i s) at room p room₁ →
-    Wrote (getD s i 0 ∷ []) p room₁ q room₂ → Wrote (take (i + 1) s) at room q room₂
-wrote-next s i h f g = rw (add-one i, take-suc s i 0 h) (wrote-then f g)
+-- One byte more of s, of which g gives the text; of bytes in a row g gives the texts in a row.
+pub each-next : (g : Bytes → Bytes) → ((a b : Bytes) → g (a ++ b) ≡ g a ++ g b) → (s : Bytes) (i : ℕ) {at : ℕ} {room : Bytes} {p : ℕ} {room₁ : Bytes} {q : ℕ} {room₂ : Bytes} →
+    i < length s → Wrote (g (take i s)) at room p room₁ → Wrote (g (getD s i 0 ∷ [])) p room₁ q room₂ → Wrote (g (take (i + 1) s)) at room q room₂
+each-next g row s i h f x = rw (add-one i, take-suc s i 0 h, row (take i s) (getD s i 0 ∷ [])) (wrote-then f x)
 
 -- and all of them
-pub wrote-all : (s : Bytes) (i : ℕ) {at : ℕ} {room : Bytes} {p : ℕ} {room₁ : Bytes} → length s ≤ i → Wrote (take i s) at room p room₁ → Wrote s at room p room₁
-wrote-all s i h f = rw (take-all i s h) at f
+pub each-all : (g : Bytes → Bytes) (s : Bytes) (i : ℕ) {at : ℕ} {room : Bytes} {p : ℕ} {room₁ : Bytes} → length s ≤ i → Wrote (g (take i s)) at room p room₁ →
+    Wrote (g s) at room p room₁
+each-all g s i h f = rw (take-all i s h) at f
 
 -- one more of the same byte
 pub wrote-again : (x n : ℕ) {at : ℕ} {room : Bytes} {p : ℕ} {room₁ : Bytes} {q : ℕ} {room₂ : Bytes} → Wrote (replicate n x) at room p room₁ →
@@ -93,16 +94,6 @@ wrote-again x n f g = rw (add-one n, ← more x n) (wrote-then f g)
     more x zero = refl
     more x (suc n) = ap (λ (l : Bytes). x ∷ l) (more x n)
 
--- one byte more of s, each as f gives it
-pub map-next : (f : ℕ → ℕ) (s : Bytes) (i : ℕ) {at : ℕ} {room : Bytes} {p : ℕ} {room₁ : Bytes} {q : ℕ} {room₂ : Bytes} → i < length s →
-    Wrote (map f (take i s)) at room p room₁ → Wrote (f (getD s i 0) ∷ []) p room₁ q room₂ → Wrote (map f (take (i + 1) s)) at room q room₂
-map-next f s i h w x = rw (add-one i, take-suc s i 0 h, map-append f (take i s) (getD s i 0 ∷ [])) (wrote-then w x)
-
--- and all of them
-pub map-all : (f : ℕ → ℕ) (s : Bytes) (i : ℕ) {at : ℕ} {room : Bytes} {p : ℕ} {room₁ : Bytes} → length s ≤ i → Wrote (map f (take i s)) at room p room₁ →
-    Wrote (map f s) at room p room₁
-map-all f s i h w = rw (take-all i s h) at w
-
 pub hex-append : (a b : Bytes) → hex (a ++ b) ≡ hex a ++ hex b
 unfolding hex
 hex-append [] b = refl
@@ -111,15 +102,6 @@ hex-append (x ∷ a) b = rw (hex-append a b)
 pub hex-none : (at : ℕ) (room : Bytes) → Wrote (hex []) at room at room
 unfolding hex
 hex-none at room = wrote-none at room
-
--- one byte more of s in hexadecimal
-pub hex-next : (s : Bytes) (i : ℕ) {at : ℕ} {room : Bytes} {p : ℕ} {room₁ : Bytes} {q : ℕ} {room₂ : Bytes} → i < length s → Wrote (hex (take i s)) at room p room₁ →
-    Wrote (hex (getD s i 0 ∷ [])) p room₁ q room₂ → Wrote (hex (take (i + 1) s)) at room q room₂
-hex-next s i h f g = rw (add-one i, take-suc s i 0 h, hex-append (take i s) (getD s i 0 ∷ [])) (wrote-then f g)
-
--- and all of them
-pub hex-all : (s : Bytes) (i : ℕ) {at : ℕ} {room : Bytes} {p : ℕ} {room₁ : Bytes} → length s ≤ i → Wrote (hex (take i s)) at room p room₁ → Wrote (hex s) at room p room₁
-hex-all s i h f = rw (take-all i s h) at f
 
 pub digits-none : (k n : ℕ) → k ≡ 0 → digits k n ≡ []
 unfolding digits

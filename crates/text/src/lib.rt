@@ -4,7 +4,7 @@ ghost use mathlib.Core.List.{[], _∷_, map};
 ghost use Prim.Native.Nat.{_<_};
 ghost use lib.ListN.{length, replicate};
 ghost use Rattle.text.specs.Text.{Wrote, decimal, padded, hex, quoted};
-ghost use Rattle.text.specs.Text.{digits as Text·digits, digit as Text·digit, printable as Text·printable};
+ghost use Rattle.text.specs.Text.{digits as Text·digits, digit as Text·digit, least as Text·least, printable as Text·printable};
 
 pub mod pieces;
 
@@ -16,6 +16,16 @@ const SPACE: u8 = 32;
 const QUOTE: u8 = 34;
 
 const POINT: u8 = 46;
+
+// The lesser of two numbers, for what is shown of a count.
+pub fn least(a: usize, b: usize) -> usize
+    ensures { λ r. ⌜ r ≡ Text·least a b ⌝ }
+{
+    if a < b {
+        return a;
+    }
+    b
+}
 
 pub fn put_byte(room: &mut [u8], at: usize, b: u8) -> usize
     ensures { λ r. ⌜ Wrote (b ∷ []) at (now (room .entry)) r (now (room .exit)) ⌝ }
@@ -39,16 +49,23 @@ pub fn put(room: &mut [u8], at: usize, s: &[u8]) -> usize
     to
 }
 
-pub fn put_spaces(room: &mut [u8], at: usize, n: usize) -> usize
-    ensures { λ r. ⌜ Wrote (replicate n 32) at (now (room .entry)) r (now (room .exit)) ⌝ }
+// A byte, n times.
+pub fn put_times(room: &mut [u8], at: usize, b: u8, n: usize) -> usize
+    ensures { λ r. ⌜ Wrote (replicate n b) at (now (room .entry)) r (now (room .exit)) ⌝ }
 {
     let mut to = at;
     let mut i = 0;
     while i < n {
-        to = put_byte(room, to, SPACE);
+        to = put_byte(room, to, b);
         i += 1;
     }
     to
+}
+
+pub fn put_spaces(room: &mut [u8], at: usize, n: usize) -> usize
+    ensures { λ r. ⌜ Wrote (replicate n 32) at (now (room .entry)) r (now (room .exit)) ⌝ }
+{
+    put_times(room, at, SPACE, n)
 }
 
 fn digit(d: usize) -> u8

@@ -9,7 +9,7 @@ use lib.Seq.{take-all, take-suc, drop-cons}
 use native.Mathlib.Omega.{arith}
 use native.Mathlib.Numerals.{add-one}
 use borrow.Author.Tests.{eq-eqb, ne-eqb}
-use Rattle.text.specs.Text.{Bytes}
+use Rattle.text.specs.Text.{Bytes, Wrote}
 use Rattle.text_names.specs.Words.{wide}
 use Rattle.text_names.specs.Rows.{Row, wordOf, numbers, words, position, before, after, barless, plain}
 
@@ -93,7 +93,7 @@ past-word k (b ∷ w) t e = go (eqb b 124) (past-word k w t) e
     go false h f = h f
 
 -- what the two lists of a table give is its word
-pub word-of : (n : ℕ) (rs : List Row) → plain rs ≡ true → before (after (position n (numbers rs)) (words rs)) ≡ wordOf n rs
+word-of : (n : ℕ) (rs : List Row) → plain rs ≡ true → before (after (position n (numbers rs)) (words rs)) ≡ wordOf n rs
 unfolding wordOf numbers words position after before plain
 word-of n [] e = refl
 word-of n (r ∷ rs) e = go (barless (r .word)) refl (word-of n rs) e
@@ -113,3 +113,11 @@ unfolding wide
 wide-none w =
     let none : 0 - length w ≡ 0 = omega arith in
     rw none (append-nil w)
+
+-- a table's word was written, with spaces up to a width or with none
+module _ (n : ℕ) (rs : List Row) (p : plain rs ≡ true) {at : ℕ} {room : Bytes} {r : ℕ} {room′ : Bytes} where
+  pub wrote-wide-word : (width : ℕ) → Wrote (wide width (before (after (position n (numbers rs)) (words rs)))) at room r room′ → Wrote (wide width (wordOf n rs)) at room r room′
+  wrote-wide-word width w = rw (word-of n rs p) at w
+
+  pub wrote-word : Wrote (wide 0 (before (after (position n (numbers rs)) (words rs)))) at room r room′ → Wrote (wordOf n rs) at room r room′
+  wrote-word w = rw (wide-none (wordOf n rs)) at (wrote-wide-word 0 w)

@@ -1,9 +1,17 @@
 -- The words for codes, keys and numbers of document 01.
 use Prim.Native.Nat.{ℕ, _-_}
 use mathlib.Core.Bool.{cond}
-use mathlib.Core.List.{List, [], _∷_, _++_}
+use mathlib.Core.List.{List, [], _∷_, _++_, map}
+use Prim.Native.String.{String}
 use lib.Dec.{eqb}
 use lib.ListN.{length, replicate}
+use Rattle.rules.specs.declared.answers.Refusal.the-variants as R
+use Rattle.rules.specs.declared.answers.Failure.the-variants as F
+use Rattle.rules.specs.declared.answers.End.the-variants as E
+use Rattle.rules.specs.Answers.{refusalNumber, failureNumber, endNumber}
+use Rattle.rules.specs.Commands.{params, COMMON, PAYLOAD_FETCH, INSTALL, VALIDATE, LOAD, RUN}
+use Rattle.rules.specs.Commands.{commands as Commands·commands}
+use Rattle.rules.specs.ProgramFormat.{JUMP}
 use Rattle.text.specs.Text.{Bytes, ascii}
 use Rattle.text_names.specs.Rows.{Row, _means_, wordOf}
 
@@ -11,37 +19,38 @@ use Rattle.text_names.specs.Rows.{Row, _means_, wordOf}
 unfoldable pub wide : ℕ → Bytes → Bytes
 wide width w = w ++ replicate (width - length w) 32
 
--- the command table; 255 is the jump of a program
+-- the words of numbers, each in its place
+abbrev pub named : List ℕ → List String → List Row
+named [] ws = []
+named (n ∷ ns) [] = []
+named (n ∷ ns) (w ∷ ws) = n means w ∷ named ns ws
+
+-- the command table in its order, and the jump of a program
 unfoldable pub commands : List Row
 commands =
-    1 means "vendor"
-    ∷ 2 means "class"
-    ∷ 3 means "image match"
-    ∷ 12 means "set component index"
-    ∷ 14 means "abort"
-    ∷ 15 means "try each"
-    ∷ 19 means "set parameters"
-    ∷ 20 means "override parameters"
-    ∷ 21 means "fetch"
-    ∷ 22 means "copy"
-    ∷ 23 means "run"
-    ∷ 30 means "run sequence"
-    ∷ 32 means "swap"
-    ∷ 255 means "jump"
-    ∷ []
+    named (map (λ r. r .number) Commands·commands ++ (JUMP ∷ []))
+    ("vendor"
+    ∷ "class"
+    ∷ "image match"
+    ∷ "set component index"
+    ∷ "abort"
+    ∷ "try each"
+    ∷ "set parameters"
+    ∷ "override parameters"
+    ∷ "fetch"
+    ∷ "copy"
+    ∷ "run"
+    ∷ "run sequence"
+    ∷ "swap"
+    ∷ "jump"
+    ∷ [])
 
 unfoldable pub commandWords : ℕ → Bytes
 commandWords n = wordOf n commands
 
--- the parameters
+-- the parameter table in its order
 unfoldable pub parameters : List Row
-parameters =
-    2 means "coerce"
-    ∷ 6 means "URI"
-    ∷ 10 means "source"
-    ∷ 11 means "digest"
-    ∷ 12 means "size"
-    ∷ []
+parameters = named (map (λ p. p .number) params) ("coerce" ∷ "URI" ∷ "source" ∷ "digest" ∷ "size" ∷ [])
 
 unfoldable pub parameterWords : ℕ → Bytes
 parameterWords n = wordOf n parameters
@@ -49,12 +58,12 @@ parameterWords n = wordOf n parameters
 -- the sections of a manifest
 unfoldable pub sections : List Row
 sections =
-    3 means "common"
-    ∷ 8 means "payload fetch"
-    ∷ 9 means "install"
-    ∷ 10 means "validate"
-    ∷ 11 means "load"
-    ∷ 12 means "run"
+    COMMON means "common"
+    ∷ PAYLOAD_FETCH means "payload fetch"
+    ∷ INSTALL means "install"
+    ∷ VALIDATE means "validate"
+    ∷ LOAD means "load"
+    ∷ RUN means "run"
     ∷ []
 
 unfoldable pub sectionWords : ℕ → Bytes
@@ -63,26 +72,26 @@ sectionWords n = wordOf n sections
 -- "Refusal numbers"
 unfoldable pub refusals : List Row
 refusals =
-    64 means "envelope over 4,096 bytes"
-    ∷ 65 means "CBOR rule broken, item past its container's end, or bytes left over"
-    ∷ 66 means "wrong type, key, order, count or length"
-    ∷ 67 means "version not 1"
-    ∷ 68 means "identifier twice"
-    ∷ 69 means "code not listed"
-    ∷ 70 means "parameter not listed"
-    ∷ 71 means "command not allowed there"
-    ∷ 72 means "index or source not below the count"
-    ∷ 73 means "depth over 4"
-    ∷ 74 means "257th command"
-    ∷ 80 means "signature verdict is no"
-    ∷ 81 means "install while an event is open"
-    ∷ 82 means "install: number not above the device's; boot: not equal"
-    ∷ 83 means "a component has no slot"
-    ∷ 84 means "trace under 2,048 bytes"
-    ∷ 85 means "slot count not 1 to 8, identifier not 1 to 32 bytes or twice, present size over capacity"
-    ∷ 86 means "answers not a multiple of 37 bytes"
-    ∷ 96 means "program longer than the room"
-    ∷ 97 means "program not well formed"
+    refusalNumber R.EnvelopeTooLong means "envelope over 4,096 bytes"
+    ∷ refusalNumber R.NotCbor means "CBOR rule broken, item past its container's end, or bytes left over"
+    ∷ refusalNumber R.Malformed means "wrong type, key, order, count or length"
+    ∷ refusalNumber R.WrongVersion means "version not 1"
+    ∷ refusalNumber R.RepeatedIdentifier means "identifier twice"
+    ∷ refusalNumber R.UnknownCommand means "code not listed"
+    ∷ refusalNumber R.UnknownParameter means "parameter not listed"
+    ∷ refusalNumber R.NotAllowed means "command not allowed there"
+    ∷ refusalNumber R.NoSuchComponent means "index or source not below the count"
+    ∷ refusalNumber R.TooDeep means "depth over 4"
+    ∷ refusalNumber R.TooManyCommands means "257th command"
+    ∷ refusalNumber R.NotVerified means "signature verdict is no"
+    ∷ refusalNumber R.EventOpen means "install while an event is open"
+    ∷ refusalNumber R.WrongNumber means "install: number not above the device's; boot: not equal"
+    ∷ refusalNumber R.NoSlot means "a component has no slot"
+    ∷ refusalNumber R.ShortTrace means "trace under 2,048 bytes"
+    ∷ refusalNumber R.BadSlots means "slot count not 1 to 8, identifier not 1 to 32 bytes or twice, present size over capacity"
+    ∷ refusalNumber R.BadAnswers means "answers not a multiple of 37 bytes"
+    ∷ refusalNumber R.ShortRoom means "program longer than the room"
+    ∷ refusalNumber R.BadProgram means "program not well formed"
     ∷ []
 
 unfoldable pub refusalWords : ℕ → Bytes
@@ -91,16 +100,16 @@ refusalWords n = wordOf n refusals
 -- "How a run goes": the end of a run, or the failure that ended it
 unfoldable pub ends : List Row
 ends =
-    0 means "finished"
-    ∷ 1 means "condition failed"
-    ∷ 2 means "started"
-    ∷ 32 means "parameter unset"
-    ∷ 33 means "aborted"
-    ∷ 34 means "no answer left"
-    ∷ 35 means "bad status"
-    ∷ 36 means "larger than the capacity"
-    ∷ 37 means "nothing to copy: slot absent"
-    ∷ 38 means "nothing to run: slot absent"
+    endNumber E.Finished means "finished"
+    ∷ endNumber E.ConditionFailed means "condition failed"
+    ∷ endNumber E.Started means "started"
+    ∷ failureNumber F.ParameterUnset means "parameter unset"
+    ∷ failureNumber F.Aborted means "aborted"
+    ∷ failureNumber F.NoAnswer means "no answer left"
+    ∷ failureNumber F.BadStatus means "bad status"
+    ∷ failureNumber F.TooLarge means "larger than the capacity"
+    ∷ failureNumber F.NothingToCopy means "nothing to copy: slot absent"
+    ∷ failureNumber F.NothingToRun means "nothing to run: slot absent"
     ∷ []
 
 unfoldable pub endWords : ℕ → Bytes
@@ -108,4 +117,4 @@ endWords n = wordOf n ends
 
 -- the result of an event
 unfoldable pub resultWords : ℕ → Bytes
-resultWords n = cond (eqb n 0) (ascii "success") (endWords n)
+resultWords n = cond (eqb n (endNumber E.Finished)) (ascii "success") (endWords n)

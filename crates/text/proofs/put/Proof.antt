@@ -1,11 +1,11 @@
 -- The invariant: the bytes passed were written.
 use Prim.Native.Nat.{_-_, _≤_}
-use mathlib.Core.Path.{_≡_, sym}
+use mathlib.Core.Path.{refl}
 use native.Mathlib.Omega.{arith}
 use borrow.Author.Needs.{needs}
 use lib.ListN.{length, take}
 use Rattle.text.specs.Text.{Wrote}
-use Rattle.text.proofs.TextLaws.{wrote-none, wrote-next, wrote-all, wrote-length}
+use Rattle.text.proofs.TextLaws.{wrote-none, wrote-length, each-next, each-all}
 use Rattle.text.proofs.put.Statement.{statement}
 use Rattle.text.proofs.put.Tie as tie
 
@@ -21,13 +21,13 @@ loop-holds c = (search needs, wrote-none _ _)
 loop-again : tie.Need-loop-again Inv-loop μ-loop
 loop-again c =
     let l = c .before .before .before .before .before .before in
-    (search needs, wrote-next (l .before .before .before .args .s .now) (l .loop .i) (search needs) (l .loop .inv .1) (c .before .before .put-byte .ensures))
+    (search needs, each-next (λ b. b) (λ a b. refl) (l .before .before .before .args .s .now) (l .loop .i) (search needs) (l .loop .inv .1) (c .before .before .put-byte .ensures))
 
 same-length : tie.Need-same-length Inv-loop μ-loop
 same-length c = wrote-length (c .before .loop .inv .1)
 
 returns : tie.Need-returns Inv-loop μ-loop
-returns c = wrote-all (c .before .before .before .before .args .s .now) (c .before .loop .i) (search needs) (c .before .loop .inv .1)
+returns c = each-all (λ b. b) (c .before .before .before .before .args .s .now) (c .before .loop .i) (search needs) (c .before .loop .inv .1)
 
 pub put-spec : {M : Type 1} → statement M
 put-spec =

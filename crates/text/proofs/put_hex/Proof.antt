@@ -5,7 +5,7 @@ use native.Mathlib.Omega.{arith}
 use borrow.Author.Needs.{needs}
 use lib.ListN.{length, take}
 use Rattle.text.specs.Text.{Wrote, hex}
-use Rattle.text.proofs.TextLaws.{hex-none, hex-next, hex-all, wrote-length}
+use Rattle.text.proofs.TextLaws.{hex-append, hex-none, wrote-length, each-next, each-all}
 use Rattle.text.proofs.put_hex.Statement.{statement}
 use Rattle.text.proofs.put_hex.Tie as tie
 
@@ -21,13 +21,13 @@ loop-holds c = (search needs, hex-none _ _)
 loop-again : tie.Need-loop-again Inv-loop μ-loop
 loop-again c =
     let l = c .before .before .before .before .before .before in
-    (search needs, hex-next (l .before .before .before .args .s .now) (l .loop .i) (search needs) (l .loop .inv .1) (c .before .before .put-hex-byte .ensures))
+    (search needs, each-next hex hex-append (l .before .before .before .args .s .now) (l .loop .i) (search needs) (l .loop .inv .1) (c .before .before .put-hex-byte .ensures))
 
 same-length : tie.Need-same-length Inv-loop μ-loop
 same-length c = wrote-length (c .before .loop .inv .1)
 
 returns : tie.Need-returns Inv-loop μ-loop
-returns c = hex-all (c .before .before .before .before .args .s .now) (c .before .loop .i) (search needs) (c .before .loop .inv .1)
+returns c = each-all hex (c .before .before .before .before .args .s .now) (c .before .loop .i) (search needs) (c .before .loop .inv .1)
 
 pub put-hex-spec : {M : Type 1} → statement M
 put-hex-spec =

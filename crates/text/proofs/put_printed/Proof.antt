@@ -1,8 +1,8 @@
 use Prim.Native.Nat.{_-_, _≤_}
-use mathlib.Core.List.{map}
+use mathlib.Core.List.{map, map-append}
 use lib.ListN.{length, take}
 use Rattle.text.specs.Text.{Wrote, printable}
-use Rattle.text.proofs.TextLaws.{wrote-none, wrote-length, map-next, map-all}
+use Rattle.text.proofs.TextLaws.{wrote-none, wrote-length, each-next, each-all}
 use borrow.Author.Needs.{needs}
 use Rattle.text.proofs.put_printed.Statement.{statement}
 use Rattle.text.proofs.put_printed.Tie as tie
@@ -23,7 +23,7 @@ loop-again c =
     let q = p .before in
     let r = q .before .before .before .before in
     let s = r .before .before .before in
-    (search needs, map-next printable (s .args .s .now) (r .loop .i) (search needs) (r .loop .inv .1) (rw (q .printable .ensures) at (p .put-byte .ensures)))
+    (search needs, each-next (map printable) (map-append printable) (s .args .s .now) (r .loop .i) (search needs) (r .loop .inv .1) (rw (q .printable .ensures) at (p .put-byte .ensures)))
 
 same-length : tie.Need-same-length Inv-loop μ-loop
 same-length c =
@@ -34,7 +34,7 @@ returns : tie.Need-returns Inv-loop μ-loop
 returns c =
     let p = c .before in
     let q = p .before .before .before in
-    map-all printable (q .args .s .now) (p .loop .i) (search needs) (p .loop .inv .1)
+    each-all (map printable) (q .args .s .now) (p .loop .i) (search needs) (p .loop .inv .1)
 
 pub put-printed-spec : {M : Type 1} → statement M
 put-printed-spec =

@@ -2,16 +2,13 @@ use mathlib.Core.Path.{refl}
 use borrow.Author.Needs.{needs}
 use Rattle.text_names.specs.Rows.{numbers, words, plain, barless}
 use Rattle.text_names.specs.Words.{commands, commandWords}
-use Rattle.text_names.proofs.RowLaws.{word-of}
+use Rattle.text_names.proofs.RowLaws.{wrote-wide-word}
 use Rattle.text_names.proofs.put_command_wide.Statement.{statement}
 use Rattle.text_names.proofs.put_command_wide.Tie as tie
 
 returns : tie.Need-returns
 unfolding commandWords commands numbers words plain barless
-returns c =
-    let put = c .before .before in
-    let n = put .before .before .before .before .before .args .code in
-    rw (← word-of n commands refl) (put .put-word .ensures)
+returns c = wrote-wide-word _ commands refl _ (c .before .before .put-word .ensures)
 
 pub put-command-wide-spec : {M : Type 1} → statement M
 put-command-wide-spec =

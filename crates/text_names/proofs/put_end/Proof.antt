@@ -1,17 +1,14 @@
 use mathlib.Core.Path.{refl}
 use borrow.Author.Needs.{needs}
-use Rattle.text_names.specs.Rows.{wordOf, numbers, words, plain, barless}
+use Rattle.text_names.specs.Rows.{numbers, words, plain, barless}
 use Rattle.text_names.specs.Words.{ends, endWords}
-use Rattle.text_names.proofs.RowLaws.{wide-none, word-of}
+use Rattle.text_names.proofs.RowLaws.{wrote-word}
 use Rattle.text_names.proofs.put_end.Statement.{statement}
 use Rattle.text_names.proofs.put_end.Tie as tie
 
 returns : tie.Need-returns
 unfolding endWords ends numbers words plain barless
-returns c =
-    let put = c .before .before in
-    let n = put .before .before .before .before .before .args .number in
-    rw (← wide-none (wordOf n ends), ← word-of n ends refl) (put .put-word .ensures)
+returns c = wrote-word _ ends refl (c .before .before .put-word .ensures)
 
 pub put-end-spec : {M : Type 1} → statement M
 put-end-spec =

@@ -1,17 +1,14 @@
 use mathlib.Core.Path.{refl}
 use borrow.Author.Needs.{needs}
-use Rattle.text_names.specs.Rows.{wordOf, numbers, words, plain, barless}
+use Rattle.text_names.specs.Rows.{numbers, words, plain, barless}
 use Rattle.text_names.specs.Words.{parameters, parameterWords}
-use Rattle.text_names.proofs.RowLaws.{wide-none, word-of}
+use Rattle.text_names.proofs.RowLaws.{wrote-word}
 use Rattle.text_names.proofs.put_parameter.Statement.{statement}
 use Rattle.text_names.proofs.put_parameter.Tie as tie
 
 returns : tie.Need-returns
 unfolding parameterWords parameters numbers words plain barless
-returns c =
-    let put = c .before .before in
-    let n = put .before .before .before .before .before .args .key in
-    rw (← wide-none (wordOf n parameters), ← word-of n parameters refl) (put .put-word .ensures)
+returns c = wrote-word _ parameters refl (c .before .before .put-word .ensures)
 
 pub put-parameter-spec : {M : Type 1} → statement M
 put-parameter-spec =

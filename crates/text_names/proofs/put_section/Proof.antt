@@ -1,17 +1,14 @@
 use mathlib.Core.Path.{refl}
 use borrow.Author.Needs.{needs}
-use Rattle.text_names.specs.Rows.{wordOf, numbers, words, plain, barless}
+use Rattle.text_names.specs.Rows.{numbers, words, plain, barless}
 use Rattle.text_names.specs.Words.{sections, sectionWords}
-use Rattle.text_names.proofs.RowLaws.{wide-none, word-of}
+use Rattle.text_names.proofs.RowLaws.{wrote-word}
 use Rattle.text_names.proofs.put_section.Statement.{statement}
 use Rattle.text_names.proofs.put_section.Tie as tie
 
 returns : tie.Need-returns
 unfolding sectionWords sections numbers words plain barless
-returns c =
-    let put = c .before .before in
-    let n = put .before .before .before .before .before .args .key in
-    rw (← wide-none (wordOf n sections), ← word-of n sections refl) (put .put-word .ensures)
+returns c = wrote-word _ sections refl (c .before .before .put-word .ensures)
 
 pub put-section-spec : {M : Type 1} → statement M
 put-section-spec =

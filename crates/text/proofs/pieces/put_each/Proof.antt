@@ -3,9 +3,9 @@ use Prim.Native.Nat.{_-_, _≤_}
 use borrow.Author.Needs.{needs}
 use lib.ListN.{length, take}
 use Rattle.text.specs.Text.{Wrote}
-use Rattle.text.proofs.TextLaws.{wrote-length}
+use Rattle.text.proofs.TextLaws.{wrote-length, each-next, each-all}
 use Rattle.text.specs.Pieces.{spaced}
-use Rattle.text.proofs.PieceLaws.{spaced-none, spaced-next, spaced-all}
+use Rattle.text.proofs.PieceLaws.{spaced-append, spaced-none}
 use Rattle.text.proofs.pieces.put_each.Statement.{statement}
 use Rattle.text.proofs.pieces.put_each.Tie as tie
 
@@ -21,13 +21,13 @@ loop-holds c = (search needs, spaced-none _ _)
 loop-again : tie.Need-loop-again Inv-loop μ-loop
 loop-again c =
     let l = c .before .before .before .before .before .before in
-    (search needs, spaced-next (l .before .before .before .args .s .now) (l .loop .i) (search needs) (l .loop .inv .1) (c .before .before .put-one .ensures))
+    (search needs, each-next spaced spaced-append (l .before .before .before .args .s .now) (l .loop .i) (search needs) (l .loop .inv .1) (c .before .before .put-one .ensures))
 
 same-length : tie.Need-same-length Inv-loop μ-loop
 same-length c = wrote-length (c .before .loop .inv .1)
 
 returns : tie.Need-returns Inv-loop μ-loop
-returns c = spaced-all (c .before .before .before .before .args .s .now) (c .before .loop .i) (search needs) (c .before .loop .inv .1)
+returns c = each-all spaced (c .before .before .before .before .args .s .now) (c .before .loop .i) (search needs) (c .before .loop .inv .1)
 
 pub put-each-spec : {M : Type 1} → statement M
 put-each-spec =
