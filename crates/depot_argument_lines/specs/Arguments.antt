@@ -1,9 +1,20 @@
 -- The argument of a program's record, as the lines below the record's (01, The flat program).
-use Prim.Native.Nat.{ℕ}
-use mathlib.Core.Bool.{cond}
+use Prim.Native.Nat.{ℕ, _-_}
+use mathlib.Core.Bool.{Bool, true, false, cond}
 use mathlib.Core.List.{[], _++_}
 use lib.Dec.{eqb}
 use lib.ListN.{length, getD, take, drop, replicate}
+use Rattle.rules.specs.declared.tables.Argument.{Argument}
+use Rattle.rules.specs.declared.tables.Argument.the-variants as A
+use Rattle.rules.specs.declared.tables.Known.{Known}
+use Rattle.rules.specs.declared.tables.Known.the-variants as K
+use Rattle.rules.specs.declared.tables.Parameter.{Parameter}
+use Rattle.rules.specs.declared.tables.Parameter.the-variants as P
+use Rattle.rules.specs.Commands.{params, paramOf}
+use Rattle.rules.specs.Limits.{limits}
+use Rattle.rules.specs.ProgramFormat.{entrySize, sizeBytes, sourceBytes}
+use Rattle.rules.specs.Tables.{known}
+use Rattle.rules_tables.specs.Kinds.{kindOf}
 use Rattle.text.specs.Text.{Bytes, ascii, decimal, hex, quoted}
 use Rattle.text_names.specs.Words.{parameterWords}
 use Rattle.depot_argument_lines.specs.Items.{fourAt, sizeIn, itemsText}
@@ -12,33 +23,55 @@ use Rattle.depot_argument_lines.specs.Items.{fourAt, sizeIn, itemsText}
 abbrev pub indent : Bytes
 indent = replicate 12 32
 
--- a number of one byte or four
+-- a number of as many bytes as a size or a source
 unfoldable pub numberText : Bytes → Bytes
-numberText v = cond (eqb (length v) 4) (decimal (fourAt v 0)) (cond (eqb (length v) 1) (decimal (getD v 0 0)) (hex v))
+numberText v = cond (eqb (length v) sizeBytes) (decimal (fourAt v 0)) (cond (eqb (length v) sourceBytes) (decimal (getD v 0 0)) (hex v))
 
--- the value of a parameter: 6 the URI, 11 the digest
+-- the value of a parameter
+abbrev pub knownText : Parameter → Bytes → Bytes
+knownText P.Coerce v = numberText v
+knownText P.Uri v = quoted v
+knownText P.Source v = numberText v
+knownText P.Digest v = hex v
+knownText P.Size v = numberText v
+
+abbrev pub valueIn : Known → Bytes → Bytes
+valueIn (K.Parameter p) v = knownText p v
+valueIn K.Unknown v = numberText v
+
 unfoldable pub valueText : ℕ → Bytes → Bytes
-valueText key v = cond (eqb key 6) (quoted v) (cond (eqb key 11) (hex v) (numberText v))
+valueText key v = valueIn (known (paramOf key params)) v
 
 -- 'key 1, length 1, value'
+abbrev pub lengthFrom : ℕ
+lengthFrom = entrySize - 1
+
 unfoldable pub parameterSize : Bytes → ℕ
-parameterSize s = sizeIn s 2 (getD s 1 0)
+parameterSize s = sizeIn s entrySize (getD s lengthFrom 0)
 
 unfoldable pub parameterText : Bytes → Bytes
 parameterText s =
-    indent ++ parameterWords (getD s 0 0) ++ ascii " " ++ valueText (getD s 0 0) (take (getD s 1 0) (drop 2 s)) ++ ascii "\n"
+    indent ++ parameterWords (getD s 0 0) ++ ascii " " ++ valueText (getD s 0 0) (take (getD s lengthFrom 0) (drop entrySize s)) ++ ascii "\n"
 
 -- bytes that are no parameter
 unfoldable pub strayText : Bytes → Bytes
 strayText s = cond (eqb (length s) 0) [] (indent ++ ascii "?\n")
 
--- there are four keys: 6, 10, 11, 12
+-- there is a key for each parameter but coerce
 unfoldable pub parametersText : Bytes → Bytes
-parametersText s = itemsText parameterSize (λ n. parameterText) strayText 4 0 s
+parametersText s = itemsText parameterSize (λ n. parameterText) strayText (limits .parameters - 1) 0 s
 
 unfoldable pub hexText : Bytes → Bytes
 hexText s = cond (eqb (length s) 0) [] (indent ++ hex s ++ ascii "\n")
 
 -- 'Arguments: 1 and 2, the 16 bytes; 19 and 20, for each parameter but coerce [..]; other codes none'
+abbrev pub listsParameters : Argument → Bool
+listsParameters A.Sixteen = false
+listsParameters A.Nil = false
+listsParameters A.Index = false
+listsParameters A.Alternatives = false
+listsParameters A.Parameters = true
+listsParameters A.Sequence = false
+
 unfoldable pub argumentText : ℕ → Bytes → Bytes
-argumentText code s = cond (eqb code 19) (parametersText s) (cond (eqb code 20) (parametersText s) (hexText s))
+argumentText code s = cond (listsParameters (kindOf code)) (parametersText s) (hexText s)

@@ -2,62 +2,80 @@
 ghost use mathlib.Core.Path.{_≡_};
 ghost use Prim.Native.Nat.{_+_, _≤_};
 ghost use lib.ListN.{length, getD};
+ghost use Rattle.rules.specs.ProgramFormat.{entrySize};
+ghost use Rattle.rules_tables.specs.Kinds.{kindOf};
 ghost use Rattle.text.specs.Text.{Wrote};
-ghost use Rattle.depot_argument_lines.specs.Arguments.{numberText, valueText, parameterSize, parameterText, strayText, parametersText, hexText, argumentText};
+ghost use Rattle.depot_argument_lines.specs.Arguments.{lengthFrom, listsParameters, numberText, knownText, valueText, parameterSize, parameterText, strayText, parametersText, hexText, argumentText};
 use byte_buffer::four;
 use byte_buffer::wide;
+use rules::controller::Controller;
+use rules::program_format::ENTRY_BYTES;
+use rules::program_format::SIZE_BYTES;
+use rules::program_format::SOURCE_BYTES;
+use rules::tables::Argument;
+use rules::tables::Known;
+use rules::tables::Parameter;
+use rules_tables::argument_of;
+use rules_tables::look_up_parameter;
+use rules_tables::tables;
 use text::put;
 use text::put_decimal;
 use text::put_hex;
 use text::put_quoted;
 use text::put_spaces;
 
-// The bytes of a parameter before its value.
-const HEAD: usize = 2;
+// The keys that a program has: all but coerce.
+const KEYS: usize = Controller::PARAMETERS - 1;
 
-// The keys that a program has: 6, 10, 11, 12.
-const KEYS: usize = 4;
-
-const URI: usize = 6;
-
-const DIGEST: usize = 11;
+// The byte of a parameter that has the length of its value.
+const LENGTH: usize = ENTRY_BYTES - 1;
 
 // The spaces before what stands below a record.
 const INDENT: usize = 12;
 
-// A number of one byte or four.
+// A number of as many bytes as a size or a source.
 fn put_number(room: &mut [u8], at: usize, s: &[u8]) -> usize
     ensures { λ r. ⌜ Wrote (numberText (now (s .entry))) at (now (room .entry)) r (now (room .exit)) ⌝ }
 {
-    if s.len() == 4 {
+    if s.len() == SIZE_BYTES {
         return put_decimal(room, at, four(s, 0));
     }
-    if s.len() == 1 {
+    if s.len() == SOURCE_BYTES {
         return put_decimal(room, at, wide(s[0]));
     }
     put_hex(room, at, s)
 }
 
+fn put_known(room: &mut [u8], at: usize, parameter: Parameter, s: &[u8]) -> usize
+    ensures { λ r. ⌜ Wrote (knownText parameter (now (s .entry))) at (now (room .entry)) r (now (room .exit)) ⌝ }
+{
+    match parameter {
+        Parameter::Coerce => put_number(room, at, s),
+        Parameter::Uri => put_quoted(room, at, s),
+        Parameter::Source => put_number(room, at, s),
+        Parameter::Digest => put_hex(room, at, s),
+        Parameter::Size => put_number(room, at, s),
+    }
+}
+
 fn put_value(room: &mut [u8], at: usize, key: usize, s: &[u8]) -> usize
     ensures { λ r. ⌜ Wrote (valueText key (now (s .entry))) at (now (room .entry)) r (now (room .exit)) ⌝ }
 {
-    if key == URI {
-        return put_quoted(room, at, s);
+    let row = look_up_parameter(&tables(), key);
+    match row {
+        Known::Parameter(parameter) => put_known(room, at, parameter, s),
+        Known::Unknown => put_number(room, at, s),
     }
-    if key == DIGEST {
-        return put_hex(room, at, s);
-    }
-    put_number(room, at, s)
 }
 
 // How long the parameter at the start of the bytes is, 0 if none lies there.
 fn size_of(s: &[u8]) -> usize
     ensures { λ r. ⌜ (r ≡ parameterSize (now (s .entry))) × (r ≤ length (now (s .entry))) ⌝ }
 {
-    if s.len() < HEAD {
+    if s.len() < ENTRY_BYTES {
         return 0;
     }
-    let size = HEAD + wide(s[1]);
+    let size = ENTRY_BYTES + wide(s[LENGTH]);
     if s.len() < size {
         return 0;
     }
@@ -65,15 +83,15 @@ fn size_of(s: &[u8]) -> usize
 }
 
 fn put_parameter(room: &mut [u8], at: usize, s: &[u8]) -> usize
-    requires { ⌜ 2 + getD (now s) 1 0 ≤ length (now s) ⌝ }
+    requires { ⌜ entrySize + getD (now s) lengthFrom 0 ≤ length (now s) ⌝ }
     ensures { λ r. ⌜ Wrote (parameterText (now (s .entry))) at (now (room .entry)) r (now (room .exit)) ⌝ }
 {
     let key = wide(s[0]);
-    let end = HEAD + wide(s[1]);
+    let end = ENTRY_BYTES + wide(s[LENGTH]);
     let a = put_spaces(room, at, INDENT);
     let b = text_names::put_parameter(room, a, key);
     let c = put(room, b, b" ");
-    let d = put_value(room, c, key, &s[HEAD..end]);
+    let d = put_value(room, c, key, &s[ENTRY_BYTES..end]);
     put(room, d, b"\n")
 }
 
@@ -116,13 +134,24 @@ fn put_bytes(room: &mut [u8], at: usize, s: &[u8]) -> usize
     put(room, b, b"\n")
 }
 
+fn lists_parameters(code: usize) -> bool
+    ensures { λ r. ⌜ r ≡ listsParameters (kindOf code) ⌝ }
+{
+    let argument = argument_of(code);
+    match argument {
+        Argument::Sixteen => false,
+        Argument::Nil => false,
+        Argument::Index => false,
+        Argument::Alternatives => false,
+        Argument::Parameters => true,
+        Argument::Sequence => false,
+    }
+}
+
 pub fn put_argument(room: &mut [u8], at: usize, code: usize, s: &[u8]) -> usize
     ensures { λ r. ⌜ Wrote (argumentText code (now (s .entry))) at (now (room .entry)) r (now (room .exit)) ⌝ }
 {
-    if code == 19 {
-        return put_parameters(room, at, s);
-    }
-    if code == 20 {
+    if lists_parameters(code) {
         return put_parameters(room, at, s);
     }
     put_bytes(room, at, s)

@@ -2,12 +2,18 @@
 ghost use mathlib.Core.Path.{_≡_};
 ghost use Prim.Native.Nat.{_+_, _*_, _/_, _≤_};
 ghost use lib.ListN.{length};
+ghost use Rattle.rules.specs.Step.{eventBytes};
 ghost use Rattle.text.specs.Text.{Wrote};
-ghost use Rattle.text.specs.Text.{least as Text·least};
 ghost use Rattle.text.specs.Pieces.{lines};
 ghost use Rattle.depot_events.specs.Events.{fieldsText, eventText, eventsText};
 use byte_buffer::two;
 use byte_buffer::wide;
+use rules::event_format::CODE;
+use rules::event_format::COMPONENT;
+use rules::event_format::EVENT_BYTES;
+use rules::event_format::PLACE;
+use rules::event_format::RESULT;
+use text::least;
 use text::put;
 use text::put_byte;
 use text::put_padded;
@@ -27,31 +33,22 @@ fn put_fields(room: &mut [u8], at: usize, component: usize, place: usize, result
 }
 
 fn put_event(room: &mut [u8], at: usize, trace: &[u8], k: usize) -> usize
-    requires { ⌜ 8 * k + 8 ≤ length (now trace) ⌝ }
+    requires { ⌜ eventBytes * k + eventBytes ≤ length (now trace) ⌝ }
     ensures { λ r. ⌜ Wrote (eventText (now (trace .entry)) k) at (now (room .entry)) r (now (room .exit)) ⌝ }
 {
-    let p = 8 * k;
-    let code = wide(trace[p + 2]);
-    let component = wide(trace[p + 3]);
-    let place = two(trace, p + 4);
-    let result = wide(trace[p + 6]);
+    let p = EVENT_BYTES * k;
+    let code = wide(trace[p + CODE]);
+    let component = wide(trace[p + COMPONENT]);
+    let place = two(trace, p + PLACE);
+    let result = wide(trace[p + RESULT]);
     let a = put_padded(room, at, k, 5);
     let b = put_spaces(room, a, 2);
     let c = put_command_wide(room, b, code, 22);
     put_fields(room, c, component, place, result)
 }
 
-fn least(a: usize, b: usize) -> usize
-    ensures { λ r. ⌜ r ≡ Text·least a b ⌝ }
-{
-    if a < b {
-        return a;
-    }
-    b
-}
-
 fn put_each(room: &mut [u8], at: usize, trace: &[u8], n: usize) -> usize
-    requires { ⌜ 8 * n ≤ length (now trace) ⌝ }
+    requires { ⌜ eventBytes * n ≤ length (now trace) ⌝ }
     ensures { λ r. ⌜ Wrote (lines (eventText (now (trace .entry))) n) at (now (room .entry)) r (now (room .exit)) ⌝ }
 {
     let mut to = at;
@@ -72,6 +69,6 @@ pub fn put_events(room: &mut [u8], at: usize, trace: &[u8], count: usize) -> usi
         at,
         b"event  command                 component  place  result\n",
     );
-    let n = least(count, trace.len() / 8);
+    let n = least(count, trace.len() / EVENT_BYTES);
     put_each(room, to, trace, n)
 }

@@ -4,6 +4,9 @@ use mathlib.Core.Bool.{cond}
 use mathlib.Core.List.{[], _++_}
 use lib.Dec.{eqb, ltb}
 use lib.ListN.{length, getD, take, drop}
+use Rattle.rules.specs.declared.answers.Group.the-variants.{Boot}
+use Rattle.rules.specs.Answers.{groupNumber}
+use Rattle.rules.specs.ProgramFormat.{groupFrom, numberFrom, componentsFrom, recordsFrom, startSize, lengthFrom, nameSize}
 use Rattle.text.specs.Text.{Bytes, ascii, hex}
 use Rattle.text.specs.Pieces.{labelled, counted}
 use Rattle.depot_argument_lines.specs.Items.{twoAt, fourAt, sizeIn, itemsText}
@@ -16,10 +19,10 @@ afterItems size (suc k) s = cond (eqb (size s) 0) [] (afterItems size k (drop (s
 
 -- 'mark, FD, length 1, identifier'
 unfoldable pub componentSize : Bytes → ℕ
-componentSize s = sizeIn s 4 (getD s 3 0)
+componentSize s = sizeIn s nameSize (getD s lengthFrom 0)
 
 unfoldable pub componentText : ℕ → Bytes → Bytes
-componentText n s = labelled (ascii "component ") n ++ ascii "  " ++ hex (take (getD s 3 0) (drop 4 s)) ++ ascii "\n"
+componentText n s = labelled (ascii "component ") n ++ ascii "  " ++ hex (take (getD s lengthFrom 0) (drop nameSize s)) ++ ascii "\n"
 
 unfoldable pub componentsText : ℕ → Bytes → Bytes
 componentsText count s = itemsText componentSize componentText missingText count 0 s
@@ -29,7 +32,7 @@ afterComponents count s = afterItems componentSize count s
 
 -- 'group (0 install, 1 boot)'
 unfoldable pub groupText : ℕ → Bytes
-groupText group = cond (eqb group 1) (ascii "boot") (ascii "install")
+groupText group = cond (eqb group (groupNumber Boot)) (ascii "boot") (ascii "install")
 
 unfoldable pub countsText : ℕ → ℕ → Bytes
 countsText components records =
@@ -38,9 +41,9 @@ countsText components records =
 -- 'mark, FE, group [..], sequence number 4, component count 1, command record count 2'
 unfoldable pub startText : Bytes → Bytes
 startText p =
-    groupText (getD p 3 0) ++ labelled (ascii " program, number ") (fourAt p 4) ++ countsText (getD p 8 0) (twoAt p 9)
+    groupText (getD p groupFrom 0) ++ labelled (ascii " program, number ") (fourAt p numberFrom) ++ countsText (getD p componentsFrom 0) (twoAt p recordsFrom)
 
 unfoldable pub programText : Bytes → Bytes
 programText p =
-    cond (ltb (length p) 11) (ascii "?\n")
-    (startText p ++ componentsText (getD p 8 0) (drop 11 p) ++ recordsText (twoAt p 9) (afterComponents (getD p 8 0) (drop 11 p)))
+    cond (ltb (length p) startSize) (ascii "?\n")
+    (startText p ++ componentsText (getD p componentsFrom 0) (drop startSize p) ++ recordsText (twoAt p recordsFrom) (afterComponents (getD p componentsFrom 0) (drop startSize p)))

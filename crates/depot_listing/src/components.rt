@@ -2,24 +2,24 @@
 ghost use mathlib.Core.Path.{_≡_};
 ghost use Prim.Native.Nat.{_+_, _≤_};
 ghost use lib.ListN.{length, getD};
+ghost use Rattle.rules.specs.ProgramFormat.{nameSize, lengthFrom};
 ghost use Rattle.text.specs.Text.{Wrote};
 ghost use Rattle.depot_listing.specs.Listing.{componentSize, componentText, componentsText, afterComponents};
 use byte_buffer::wide;
+use rules::program_format::NAME_BYTES;
+use rules::program_format::NAME_LENGTH;
 use text::pieces::put_labelled;
 use text::put;
 use text::put_hex;
-
-// The bytes of a component before its identifier.
-const HEAD: usize = 4;
 
 // How long the component at the start of the bytes is, 0 if none lies there.
 fn size_of(s: &[u8]) -> usize
     ensures { λ r. ⌜ (r ≡ componentSize (now (s .entry))) × (r ≤ length (now (s .entry))) ⌝ }
 {
-    if s.len() < HEAD {
+    if s.len() < NAME_BYTES {
         return 0;
     }
-    let size = HEAD + wide(s[3]);
+    let size = NAME_BYTES + wide(s[NAME_LENGTH]);
     if s.len() < size {
         return 0;
     }
@@ -27,13 +27,13 @@ fn size_of(s: &[u8]) -> usize
 }
 
 fn put_component(room: &mut [u8], at: usize, n: usize, s: &[u8]) -> usize
-    requires { ⌜ 4 + getD (now s) 3 0 ≤ length (now s) ⌝ }
+    requires { ⌜ nameSize + getD (now s) lengthFrom 0 ≤ length (now s) ⌝ }
     ensures { λ r. ⌜ Wrote (componentText n (now (s .entry))) at (now (room .entry)) r (now (room .exit)) ⌝ }
 {
     let a = put_labelled(room, at, b"component ", n);
     let b = put(room, a, b"  ");
-    let end = HEAD + wide(s[3]);
-    let c = put_hex(room, b, &s[HEAD..end]);
+    let end = NAME_BYTES + wide(s[NAME_LENGTH]);
+    let c = put_hex(room, b, &s[NAME_BYTES..end]);
     put(room, c, b"\n")
 }
 

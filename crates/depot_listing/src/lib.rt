@@ -1,6 +1,7 @@
 // The listing of a program: a line for the program, for each component, each record and each parameter.
 ghost use Prim.Native.Nat.{_≤_};
 ghost use lib.ListN.{length};
+ghost use Rattle.rules.specs.ProgramFormat.{startSize};
 ghost use Rattle.text.specs.Text.{Wrote};
 ghost use Rattle.depot_listing.specs.Listing.{groupText, countsText, startText, programText};
 
@@ -12,17 +13,21 @@ use byte_buffer::wide;
 use components::after_components;
 use components::put_components;
 use depot_record_lines::put_records;
+use rules::answers::Group;
+use rules::program_format::START_BYTES;
+use rules::program_format::START_COMPONENTS;
+use rules::program_format::START_GROUP;
+use rules::program_format::START_NUMBER;
+use rules::program_format::START_RECORDS;
 use text::pieces::put_counted;
 use text::pieces::put_labelled;
 use text::put;
 
-// The bytes of the program's start.
-const START: usize = 11;
-
 fn put_group(room: &mut [u8], at: usize, group: usize) -> usize
     ensures { λ r. ⌜ Wrote (groupText group) at (now (room .entry)) r (now (room .exit)) ⌝ }
 {
-    if group == 1 {
+    let boot = Group::Boot;
+    if group == wide(boot.number()) {
         return put(room, at, b"boot");
     }
     put(room, at, b"install")
@@ -37,24 +42,24 @@ fn put_counts(room: &mut [u8], at: usize, components: usize, records: usize) -> 
 }
 
 fn put_start(room: &mut [u8], at: usize, p: &[u8]) -> usize
-    requires { ⌜ 11 ≤ length (now p) ⌝ }
+    requires { ⌜ startSize ≤ length (now p) ⌝ }
     ensures { λ r. ⌜ Wrote (startText (now (p .entry))) at (now (room .entry)) r (now (room .exit)) ⌝ }
 {
-    let a = put_group(room, at, wide(p[3]));
-    let b = put_labelled(room, a, b" program, number ", four(p, 4));
-    put_counts(room, b, wide(p[8]), two(p, 9))
+    let a = put_group(room, at, wide(p[START_GROUP]));
+    let b = put_labelled(room, a, b" program, number ", four(p, START_NUMBER));
+    put_counts(room, b, wide(p[START_COMPONENTS]), two(p, START_RECORDS))
 }
 
 pub fn put_program(room: &mut [u8], at: usize, p: &[u8]) -> usize
     ensures { λ r. ⌜ Wrote (programText (now (p .entry))) at (now (room .entry)) r (now (room .exit)) ⌝ }
 {
-    if p.len() < START {
+    if p.len() < START_BYTES {
         return put(room, at, b"?\n");
     }
-    let count = wide(p[8]);
-    let s = &p[START..];
+    let count = wide(p[START_COMPONENTS]);
+    let s = &p[START_BYTES..];
     let a = put_start(room, at, p);
     let b = put_components(room, a, s, count);
     let records = after_components(s, count);
-    put_records(room, b, records, two(p, 9))
+    put_records(room, b, records, two(p, START_RECORDS))
 }

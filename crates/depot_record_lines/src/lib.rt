@@ -2,27 +2,30 @@
 ghost use mathlib.Core.Path.{_≡_};
 ghost use Prim.Native.Nat.{_+_, _-_, _≤_};
 ghost use lib.ListN.{length};
+ghost use Rattle.rules.specs.ProgramFormat.{argumentFrom};
+ghost use Rattle.rules.specs.ProgramFormat.{recordSize as ProgramFormat·recordSize};
 ghost use Rattle.text.specs.Text.{Wrote};
 ghost use Rattle.text_names.specs.Words.{wide as Words·wide};
 ghost use Rattle.depot_argument_lines.specs.Items.{twoAt};
-ghost use Rattle.depot_record_lines.specs.Lines.{nameText, lineText, targetText, failureText, jumpText, recordSize, commandText, recordText, recordsText};
+ghost use Rattle.depot_record_lines.specs.Lines.{column, nameText, lineText, targetText, failureText, jumpText, recordSize, commandText, recordText, recordsText};
 use byte_buffer::two;
 use byte_buffer::wide;
 use depot_argument_lines::put_argument;
+use rules::program_format::ARGUMENT_LENGTH;
+use rules::program_format::CODE;
+use rules::program_format::COMPONENT;
+use rules::program_format::JUMP;
+use rules::program_format::NO_TARGET;
+use rules::program_format::PLACE;
+use rules::program_format::RECORD_BYTES;
+use rules::program_format::TARGET;
+use rules_tables::condition_of;
 use text::pieces::put_code;
 use text::pieces::put_labelled;
 use text::put;
 use text::put_padded;
 use text::put_spaces;
 use text_names::put_command;
-
-// The bytes of a record before its argument.
-const HEAD: usize = 10;
-
-const JUMP: usize = 255;
-
-// No target.
-const NONE: usize = 65535;
 
 // Where the component stands in a line, from the command's name on.
 const COLUMN: usize = 26;
@@ -36,7 +39,7 @@ fn put_name(room: &mut [u8], at: usize, code: usize) -> usize
 
 // The spaces after a name that was written from one place to another.
 fn gap(from: usize, to: usize) -> usize
-    ensures { λ r. ⌜ r ≡ 26 - (to - from) ⌝ }
+    ensures { λ r. ⌜ r ≡ column - (to - from) ⌝ }
 {
     if to < from {
         return COLUMN;
@@ -48,7 +51,7 @@ fn gap(from: usize, to: usize) -> usize
 }
 
 fn put_label(room: &mut [u8], at: usize, code: usize) -> usize
-    ensures { λ r. ⌜ Wrote (Words·wide 26 (nameText code)) at (now (room .entry)) r (now (room .exit)) ⌝ }
+    ensures { λ r. ⌜ Wrote (Words·wide column (nameText code)) at (now (room .entry)) r (now (room .exit)) ⌝ }
 {
     let a = put_name(room, at, code);
     put_spaces(room, a, gap(at, a))
@@ -66,7 +69,7 @@ fn put_line(room: &mut [u8], at: usize, code: usize, component: usize, place: us
 fn put_target(room: &mut [u8], at: usize, total: usize, target: usize) -> usize
     ensures { λ r. ⌜ Wrote (targetText total target) at (now (room .entry)) r (now (room .exit)) ⌝ }
 {
-    if target == NONE {
+    if target == NO_TARGET {
         return put(room, at, b"ends");
     }
     if target == total {
@@ -75,16 +78,16 @@ fn put_target(room: &mut [u8], at: usize, total: usize, target: usize) -> usize
     put_labelled(room, at, b"record ", target)
 }
 
-// Where a failed condition goes on; codes 1 to 3 are conditions.
+// Where a failed condition goes on.
 fn put_failure(room: &mut [u8], at: usize, total: usize, code: usize, target: usize) -> usize
     ensures { λ r. ⌜ Wrote (failureText total code target) at (now (room .entry)) r (now (room .exit)) ⌝ }
 {
-    if 3 < code {
-        return put(room, at, b"\n");
+    if condition_of(code) {
+        let a = put(room, at, b"  on failure: ");
+        let b = put_target(room, a, total, target);
+        return put(room, b, b"\n");
     }
-    let a = put(room, at, b"  on failure: ");
-    let b = put_target(room, a, total, target);
-    put(room, b, b"\n")
+    put(room, at, b"\n")
 }
 
 fn put_jump(room: &mut [u8], at: usize, total: usize, target: usize) -> usize
@@ -101,10 +104,10 @@ fn put_jump(room: &mut [u8], at: usize, total: usize, target: usize) -> usize
 fn size_of(s: &[u8]) -> usize
     ensures { λ r. ⌜ (r ≡ recordSize (now (s .entry))) × (r ≤ length (now (s .entry))) ⌝ }
 {
-    if s.len() < HEAD {
+    if s.len() < RECORD_BYTES {
         return 0;
     }
-    let size = HEAD + two(s, 8);
+    let size = RECORD_BYTES + two(s, ARGUMENT_LENGTH);
     if s.len() < size {
         return 0;
     }
@@ -112,24 +115,24 @@ fn size_of(s: &[u8]) -> usize
 }
 
 fn put_command_record(room: &mut [u8], at: usize, total: usize, s: &[u8]) -> usize
-    requires { ⌜ 10 + twoAt (now s) 8 ≤ length (now s) ⌝ }
+    requires { ⌜ ProgramFormat·recordSize + twoAt (now s) argumentFrom ≤ length (now s) ⌝ }
     ensures { λ r. ⌜ Wrote (commandText total (now (s .entry))) at (now (room .entry)) r (now (room .exit)) ⌝ }
 {
-    let code = wide(s[2]);
-    let a = put_line(room, at, code, wide(s[3]), two(s, 4));
-    let b = put_failure(room, a, total, code, two(s, 6));
-    let end = HEAD + two(s, 8);
-    put_argument(room, b, code, &s[HEAD..end])
+    let code = wide(s[CODE]);
+    let a = put_line(room, at, code, wide(s[COMPONENT]), two(s, PLACE));
+    let b = put_failure(room, a, total, code, two(s, TARGET));
+    let end = RECORD_BYTES + two(s, ARGUMENT_LENGTH);
+    put_argument(room, b, code, &s[RECORD_BYTES..end])
 }
 
 fn put_record(room: &mut [u8], at: usize, total: usize, n: usize, s: &[u8]) -> usize
-    requires { ⌜ 10 + twoAt (now s) 8 ≤ length (now s) ⌝ }
+    requires { ⌜ ProgramFormat·recordSize + twoAt (now s) argumentFrom ≤ length (now s) ⌝ }
     ensures { λ r. ⌜ Wrote (recordText total n (now (s .entry))) at (now (room .entry)) r (now (room .exit)) ⌝ }
 {
     let a = put_padded(room, at, n, 4);
     let b = put(room, a, b"  ");
-    if wide(s[2]) == JUMP {
-        return put_jump(room, b, total, two(s, 6));
+    if wide(s[CODE]) == JUMP {
+        return put_jump(room, b, total, two(s, TARGET));
     }
     put_command_record(room, b, total, s)
 }

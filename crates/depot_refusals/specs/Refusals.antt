@@ -4,6 +4,8 @@ use mathlib.Core.Bool.{cond}
 use mathlib.Core.List.{_++_}
 use lib.Dec.{ltb}
 use lib.ListN.{length}
+use Rattle.rules.specs.declared.answers.Refusal.the-variants.{NotCbor, NotVerified}
+use Rattle.rules.specs.Answers.{refusalNumber}
 use Rattle.text.specs.Text.{Bytes, ascii, hex}
 use Rattle.text_names.specs.Words.{refusalWords}
 use Rattle.text.specs.Pieces.{part, spaced, labelled}
@@ -11,17 +13,21 @@ use Rattle.text.specs.Pieces.{part, spaced, labelled}
 unfoldable pub refusedLine : ℕ → ℕ → Bytes
 refusedLine n p = labelled (ascii "refused with ") n ++ labelled (ascii " at ") p ++ ascii ": " ++ refusalWords n ++ ascii "\n"
 
+-- how many bytes are shown before a place, and after it
+abbrev pub shown : ℕ
+shown = 8
+
 -- the place where the bytes begin that are shown, and those before p
 unfoldable pub beforeText : Bytes → ℕ → Bytes
-beforeText s p = labelled (ascii "  ") (p - 8) ++ ascii ":" ++ spaced (part s (p - 8) p)
+beforeText s p = labelled (ascii "  ") (p - shown) ++ ascii ":" ++ spaced (part s (p - shown) p)
 
--- eight bytes before the place and eight after it; the byte at the place in brackets
+-- bytes before the place and after it; the byte at the place in brackets
 unfoldable pub aroundText : Bytes → ℕ → Bytes
 aroundText s p =
     cond (ltb p (length s))
-    (beforeText s p ++ ascii " [" ++ hex (part s p (p + 1)) ++ ascii "]" ++ spaced (part s (p + 1) (p + 9)) ++ ascii "\n")
+    (beforeText s p ++ ascii " [" ++ hex (part s p (p + 1)) ++ ascii "]" ++ spaced (part s (p + 1) (p + (1 + shown))) ++ ascii "\n")
     (beforeText s (length s) ++ ascii " [end]\n")
 
--- 64 is no matter of a place, and 80 and above have place 0
+-- that an envelope is too long is no matter of a place, and from 80 on the place is 0
 unfoldable pub refusedText : ℕ → ℕ → Bytes → Bytes
-refusedText n p s = cond (ltb n 65) (refusedLine n p) (cond (ltb n 80) (refusedLine n p ++ aroundText s p) (refusedLine n p))
+refusedText n p s = cond (ltb n (refusalNumber NotCbor)) (refusedLine n p) (cond (ltb n (refusalNumber NotVerified)) (refusedLine n p ++ aroundText s p) (refusedLine n p))

@@ -4,13 +4,19 @@ ghost use Prim.Native.Nat.{_<_, _+_, _-_};
 ghost use lib.ListN.{length};
 ghost use Rattle.text.specs.Text.{Wrote};
 ghost use Rattle.text.specs.Pieces.{part, spaced};
-ghost use Rattle.depot_refusals.specs.Refusals.{refusedLine, beforeText, aroundText, refusedText};
+ghost use Rattle.depot_refusals.specs.Refusals.{shown, refusedLine, beforeText, aroundText, refusedText};
+use rules::answers::Refusal;
 use text::pieces::put_labelled;
 use text::pieces::put_part;
 use text::pieces::put_spaced;
 use text::put;
 use text::put_byte;
 use text_names::put_refusal;
+
+// How many bytes are shown before the place, and after it.
+const SHOWN: usize = 8;
+
+const END: usize = 1 + SHOWN;
 
 fn put_refused_line(room: &mut [u8], at: usize, number: usize, place: usize) -> usize
     ensures { λ r. ⌜ Wrote (refusedLine number place) at (now (room .entry)) r (now (room .exit)) ⌝ }
@@ -23,12 +29,12 @@ fn put_refused_line(room: &mut [u8], at: usize, number: usize, place: usize) -> 
 }
 
 fn back(p: usize) -> usize
-    ensures { λ r. ⌜ r ≡ p - 8 ⌝ }
+    ensures { λ r. ⌜ r ≡ p - shown ⌝ }
 {
-    if p < 8 {
+    if p < SHOWN {
         return 0;
     }
-    p - 8
+    p - SHOWN
 }
 
 fn put_before(room: &mut [u8], at: usize, s: &[u8], p: usize) -> usize
@@ -40,16 +46,16 @@ fn put_before(room: &mut [u8], at: usize, s: &[u8], p: usize) -> usize
     put_spaced(room, b, s, from, p)
 }
 
-// The eight bytes after p, or as many as there are.
+// The bytes shown after p, or as many as there are.
 fn put_after(room: &mut [u8], at: usize, s: &[u8], p: usize) -> usize
     requires { ⌜ p < length (now s) ⌝ }
-    ensures { λ r. ⌜ Wrote (spaced (part (now (s .entry)) (p + 1) (p + 9))) at (now (room .entry)) r (now (room .exit)) ⌝ }
+    ensures { λ r. ⌜ Wrote (spaced (part (now (s .entry)) (p + 1) (p + (1 + shown)))) at (now (room .entry)) r (now (room .exit)) ⌝ }
 {
     let end = s.len();
-    if end - p < 9 {
+    if end - p < END {
         return put_spaced(room, at, s, p + 1, end);
     }
-    put_spaced(room, at, s, p + 1, p + 9)
+    put_spaced(room, at, s, p + 1, p + END)
 }
 
 // The bytes around a place.
@@ -73,10 +79,10 @@ pub fn put_refused(room: &mut [u8], at: usize, number: usize, place: usize, s: &
     ensures { λ r. ⌜ Wrote (refusedText number place (now (s .entry))) at (now (room .entry)) r (now (room .exit)) ⌝ }
 {
     let to = put_refused_line(room, at, number, place);
-    if number < 65 {
+    if number < Refusal::NOT_CBOR {
         return to;
     }
-    if number < 80 {
+    if number < Refusal::NOT_VERIFIED {
         return put_around(room, to, s, place);
     }
     to

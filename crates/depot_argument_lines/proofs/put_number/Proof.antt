@@ -1,5 +1,6 @@
 use borrow.Author.Tests.{eq-eqb, ne-eqb}
 use lib.ListN.{length}
+use Rattle.rules.specs.ProgramFormat.{sizeBytes, sourceBytes}
 use Rattle.depot_argument_lines.specs.Arguments.{numberText}
 use borrow.Author.Needs.{needs}
 use Rattle.depot_argument_lines.proofs.put_number.Statement.{statement}
@@ -12,7 +13,7 @@ returns c =
     let at-four = at-put-decimal .before in
     let at-if1 = at-four .before .before in
     let start = at-if1 .before .before .before in
-    rw (eq-eqb (length (start .args .s .now)) 4 (at-if1 .if1 .taken), ← at-four .four .ensures .0) (at-put-decimal .put-decimal .ensures)
+    rw (eq-eqb (length (start .args .s .now)) sizeBytes (at-if1 .if1 .taken), ← at-four .four .ensures .0) (at-put-decimal .put-decimal .ensures)
 
 returns-2 : tie.Need-returns-2
 unfolding numberText
@@ -22,7 +23,7 @@ returns-2 c =
     let at-if2 = at-wide .before .before .before in
     let at-if1 = at-if2 .before in
     let start = at-if1 .before .before .before in
-    rw (ne-eqb (length (start .args .s .now)) 4 (at-if1 .if1 .left), eq-eqb (length (start .args .s .now)) 1 (at-if2 .if2 .taken), ← at-wide .wide .ensures .0) (at-put-decimal2 .put-decimal2 .ensures)
+    rw (ne-eqb (length (start .args .s .now)) sizeBytes (at-if1 .if1 .left), eq-eqb (length (start .args .s .now)) sourceBytes (at-if2 .if2 .taken), ← at-wide .wide .ensures .0) (at-put-decimal2 .put-decimal2 .ensures)
 
 returns-3 : tie.Need-returns-3
 unfolding numberText
@@ -31,7 +32,7 @@ returns-3 c =
     let at-if2 = at-put-hex .before .before in
     let at-if1 = at-if2 .before in
     let start = at-if1 .before .before .before in
-    rw (ne-eqb (length (start .args .s .now)) 4 (at-if1 .if1 .left), ne-eqb (length (start .args .s .now)) 1 (at-if2 .if2 .left)) (at-put-hex .put-hex .ensures)
+    rw (ne-eqb (length (start .args .s .now)) sizeBytes (at-if1 .if1 .left), ne-eqb (length (start .args .s .now)) sourceBytes (at-if2 .if2 .left)) (at-put-hex .put-hex .ensures)
 
 pub put-number-spec : {M : Type 1} → statement M
 put-number-spec =

@@ -2,7 +2,9 @@
 use Prim.Native.Nat.{_-_}
 use mathlib.Core.Path.{_∙_}
 use lib.ListN.{getD}
-use Rattle.depot_argument_lines.specs.Arguments.{parameterSize, parameterText, strayText, parametersText}
+use Rattle.rules.specs.Limits.{limits}
+use Rattle.rules.specs.ProgramFormat.{entrySize}
+use Rattle.depot_argument_lines.specs.Arguments.{lengthFrom, parameterSize, parameterText, strayText, parametersText}
 use Rattle.depot_argument_lines.proofs.ItemLaws.{Going, size-lies, going-start, going-length, going-more, going-missing, going-end}
 use Rattle.text.proofs.TextLaws.{wrote-length}
 use borrow.Author.Needs.{needs}
@@ -10,10 +12,10 @@ use Rattle.depot_argument_lines.proofs.put_parameters.Statement.{statem
 use Rattle.depot_argument_lines.proofs.put_parameters.Tie as tie
 
 abbrev Inv-loop : tie.InvT-loop
-Inv-loop room₀ at s to₀ rest₀ n₀ room to rest n = Going parameterSize (λ n. parameterText) strayText 4 s at room₀ n rest to room
+Inv-loop room₀ at s to₀ rest₀ n₀ room to rest n = Going parameterSize (λ n. parameterText) strayText (limits .parameters - 1) s at room₀ n rest to room
 
 abbrev μ-loop : tie.MeasureT-loop
-μ-loop room₀ at s to₀ rest₀ n₀ room to rest n = 4 - n
+μ-loop room₀ at s to₀ rest₀ n₀ room to rest n = limits .parameters - 1 - n
 
 loop-holds : tie.Need-loop-holds Inv-loop μ-loop
 loop-holds c = going-start _ _ _ _ _ _ _
@@ -40,7 +42,7 @@ put-parameter-requires c κs =
     let at-if1 = c .before in
     let at-size-of = at-if1 .before in
     let at-loop = at-size-of .before .before in
-    size-lies (at-loop .loop .rest .now) 2 (getD (at-loop .loop .rest .now) 1 0) (at-size-of .size-of .ensures .0) (at-if1 .if1 .left)
+    size-lies (at-loop .loop .rest .now) entrySize (getD (at-loop .loop .rest .now) lengthFrom 0) (at-size-of .size-of .ensures .0) (at-if1 .if1 .left)
 
 loop-again : tie.Need-loop-again Inv-loop μ-loop
 loop-again c =

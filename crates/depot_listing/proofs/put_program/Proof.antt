@@ -1,6 +1,7 @@
 use mathlib.Core.Path.{refl}
 use lib.ListN.{length}
 use borrow.Author.Tests.{lt-ltb, le-ltb}
+use Rattle.rules.specs.ProgramFormat.{startSize}
 use Rattle.depot_listing.specs.Listing.{programText}
 use Rattle.text.proofs.TextLaws.{wrote-then}
 use Rattle.depot_argument_lines.proofs.ItemLaws.{from-drop}
@@ -14,7 +15,7 @@ returns c =
     let at-put = c .before .before in
     let at-if1 = at-put .before .before .before in
     let start = at-if1 .before .before .before in
-    rw (lt-ltb (length (start .args .p .now)) 11 (at-if1 .if1 .taken)) (at-put .put .ensures)
+    rw (lt-ltb (length (start .args .p .now)) startSize (at-if1 .if1 .taken)) (at-put .put .ensures)
 
 returns-2 : tie.Need-returns-2
 unfolding programText
@@ -27,7 +28,7 @@ returns-2 c =
     let at-wide = at-put-start .before .before .before in
     let at-if1 = at-wide .before .before in
     let start = at-if1 .before .before .before in
-    rw (le-ltb (length (start .args .p .now)) 11 (at-if1 .if1 .left), ← from-drop (start .args .p .now) 11 11 refl, ← at-wide .wide .ensures .0, ← at-two .two .ensures .0, ← at-after-components .after-components .ensures) (wrote-then (wrote-then (at-put-start .put-start .ensures) (at-put-components .put-components .ensures)) (at-put-records .put-records .ensures))
+    rw (le-ltb (length (start .args .p .now)) startSize (at-if1 .if1 .left), ← from-drop (start .args .p .now) startSize startSize refl, ← at-wide .wide .ensures .0, ← at-two .two .ensures .0, ← at-after-components .after-components .ensures) (wrote-then (wrote-then (at-put-start .put-start .ensures) (at-put-components .put-components .ensures)) (at-put-records .put-records .ensures))
 
 pub put-program-spec : {M : Type 1} → statement M
 put-program-spec =

@@ -1,3 +1,4 @@
+use Rattle.rules.specs.ProgramFormat.{recordSize, targetFrom, argumentFrom}
 use Rattle.depot_argument_lines.specs.Items.{twoAt}
 use Rattle.depot_record_lines.specs.Lines.{commandText}
 use Prim.Native.Nat.{_+_, _-_}
@@ -20,8 +21,8 @@ returns c =
     let at-wide2 = at-two .before in
     let at-wide = at-wide2 .before .before .before in
     let start = at-wide .before .before .before .before in
-    let e : 10 + at-two3 .two3 .result - 10 ≡ twoAt (start .args .s .now) 8 = omega (arith, at-two3 .two3 .ensures .0) in
-    let target : at-two2 .two2 .result ≡ twoAt (start .args .s .now) 6 = at-two2 .two2 .ensures .0 in
+    let e : recordSize + at-two3 .two3 .result - recordSize ≡ twoAt (start .args .s .now) argumentFrom = omega (arith, at-two3 .two3 .ensures .0) in
+    let target : at-two2 .two2 .result ≡ twoAt (start .args .s .now) targetFrom = at-two2 .two2 .ensures .0 in
     rw (← e, ← at-wide .wide .ensures .0, ← at-wide2 .wide2 .ensures .0, ← at-two .two .ensures .0, ← target) (wrote-then (wrote-then (at-put-line .put-line .ensures) (at-put-failure .put-failure .ensures)) (at-put-argument .put-argument .ensures))
 
 pub put-command-record-spec : {M : Type 1} → statement M

@@ -1,4 +1,5 @@
 use Rattle.text_names.specs.Words.{wide}
+use Rattle.depot_record_lines.specs.Lines.{column}
 use Rattle.depot_record_lines.proofs.LineLaws.{wrote-wide}
 use borrow.Author.Needs.{needs}
 use Rattle.depot_record_lines.proofs.put_label.Statement.{statement}
@@ -10,7 +11,7 @@ returns c =
     let at-put-spaces = c .before .before in
     let at-gap = at-put-spaces .before in
     let at-put-name = at-gap .before .before .before .before in
-    wrote-wide 26 (at-put-name .put-name .ensures) (at-gap .gap .ensures) (at-put-spaces .put-spaces .ensures)
+    wrote-wide column (at-put-name .put-name .ensures) (at-gap .gap .ensures) (at-put-spaces .put-spaces .ensures)
 
 pub put-label-spec : {M : Type 1} → statement M
 put-label-spec =

@@ -1,6 +1,8 @@
 -- The invariant: the texts of n records were written.
 use Prim.Native.Nat.{_-_}
 use mathlib.Core.Path.{_∙_}
+use Rattle.rules.specs.ProgramFormat.{argumentFrom}
+use Rattle.rules.specs.ProgramFormat.{recordSize as ProgramFormat·recordSize}
 use Rattle.depot_record_lines.specs.Lines.{recordSize, recordText, missingText, recordsText}
 use Rattle.depot_argument_lines.specs.Items.{twoAt}
 use Rattle.depot_argument_lines.proofs.ItemLaws.{Going, size-lies, going-start, going-length, going-more, going-missing, going-end}
@@ -40,7 +42,7 @@ put-record-requires c κs =
     let at-if1 = c .before in
     let at-size-of = at-if1 .before in
     let at-loop = at-size-of .before .before in
-    size-lies (at-loop .loop .rest .now) 10 (twoAt (at-loop .loop .rest .now) 8) (at-size-of .size-of .ensures .0) (at-if1 .if1 .left)
+    size-lies (at-loop .loop .rest .now) ProgramFormat·recordSize (twoAt (at-loop .loop .rest .now) argumentFrom) (at-size-of .size-of .ensures .0) (at-if1 .if1 .left)
 
 loop-again : tie.Need-loop-again Inv-loop μ-loop
 loop-again c =

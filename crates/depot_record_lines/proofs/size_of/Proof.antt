@@ -1,4 +1,6 @@
 use mathlib.Core.Path.{sym}
+use Rattle.rules.specs.ProgramFormat.{argumentFrom}
+use Rattle.rules.specs.ProgramFormat.{recordSize as ProgramFormat·recordSize}
 use Rattle.depot_argument_lines.specs.Items.{twoAt}
 use Rattle.depot_record_lines.specs.Lines.{recordSize}
 use Rattle.depot_argument_lines.proofs.ItemLaws.{size-short, size-past, size-whole}
@@ -10,7 +12,7 @@ returns : tie.Need-returns
 unfolding recordSize
 returns c =
     let start = c .before .before in
-    (sym (size-short (start .args .s .now) 10 (twoAt (start .args .s .now) 8) (c .if1 .taken)), search needs)
+    (sym (size-short (start .args .s .now) ProgramFormat·recordSize (twoAt (start .args .s .now) argumentFrom) (c .if1 .taken)), search needs)
 
 returns-2 : tie.Need-returns-2
 unfolding recordSize
@@ -18,14 +20,14 @@ returns-2 c =
     let at-two = c .before in
     let at-if1 = at-two .before in
     let start = at-if1 .before .before in
-    (sym (size-past (start .args .s .now) 10 (twoAt (start .args .s .now) 8) (at-if1 .if1 .left) (rw (at-two .two .ensures .0) at (c .if2 .taken))), search needs)
+    (sym (size-past (start .args .s .now) ProgramFormat·recordSize (twoAt (start .args .s .now) argumentFrom) (at-if1 .if1 .left) (rw (at-two .two .ensures .0) at (c .if2 .taken))), search needs)
 
 returns-3 : tie.Need-returns-3
 unfolding recordSize
 returns-3 c =
     let at-two = c .before in
     let start = at-two .before .before .before in
-    (rw (at-two .two .ensures .0) (sym (size-whole (start .args .s .now) 10 (twoAt (start .args .s .now) 8) (rw (at-two .two .ensures .0) at (c .if2 .left)))), search needs)
+    (rw (at-two .two .ensures .0) (sym (size-whole (start .args .s .now) ProgramFormat·recordSize (twoAt (start .args .s .now) argumentFrom) (rw (at-two .two .ensures .0) at (c .if2 .left)))), search needs)
 
 pub size-of-spec : {M : Type 1} → statement M
 size-of-spec =

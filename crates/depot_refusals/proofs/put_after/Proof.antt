@@ -1,5 +1,6 @@
 use borrow.Author.Needs.{needs}
 use Rattle.text.proofs.PieceLaws.{part-end}
+use Rattle.depot_refusals.specs.Refusals.{shown}
 use native.Mathlib.Omega.{arith}
 use Prim.Native.Nat.{_+_}
 use Rattle.depot_refusals.proofs.put_after.Statement.{statement}
@@ -9,7 +10,7 @@ returns : tie.Need-returns
 returns c =
     let p1 = c .before .before in
     let a = p1 .before .before .before .before .before .args in
-    rw (← part-end (a .s .now) (a .p + 1) (a .p + 9) (omega arith)) (p1 .put-spaced .ensures)
+    rw (← part-end (a .s .now) (a .p + 1) (a .p + (1 + shown)) (omega arith)) (p1 .put-spaced .ensures)
 
 pub put-after-spec : {M : Type 1} → statement M
 put-after-spec =

@@ -1,4 +1,6 @@
 use borrow.Author.Needs.{needs}
+use Rattle.rules.specs.declared.answers.Refusal.the-variants.{NotCbor, NotVerified}
+use Rattle.rules.specs.Answers.{refusalNumber}
 use Rattle.text.proofs.TextLaws.{wrote-then}
 use Rattle.depot_refusals.specs.Refusals.{refusedText}
 use borrow.Author.Tests.{lt-ltb, le-ltb}
@@ -7,20 +9,20 @@ use Rattle.depot_refusals.proofs.put_refused.Tie as tie
 
 returns : tie.Need-returns
 unfolding refusedText
-returns c = rw (lt-ltb _ 65 (c .if1 .taken)) (c .before .before .before .put-refused-line .ensures)
+returns c = rw (lt-ltb _ (refusalNumber NotCbor) (c .if1 .taken)) (c .before .before .before .put-refused-line .ensures)
 
 returns-2 : tie.Need-returns-2
 unfolding refusedText
 returns-2 c =
     let p2 = c .before .before in
     let p1 = p2 .before .before .before .before .before .before in
-    rw (le-ltb _ 65 (p2 .before .before .before .if1 .left), lt-ltb _ 80 (p2 .before .before .if2 .taken)) (wrote-then (p1 .put-refused-line .ensures) (p2 .put-around .ensures))
+    rw (le-ltb _ (refusalNumber NotCbor) (p2 .before .before .before .if1 .left), lt-ltb _ (refusalNumber NotVerified) (p2 .before .before .if2 .taken)) (wrote-then (p1 .put-refused-line .ensures) (p2 .put-around .ensures))
 
 returns-3 : tie.Need-returns-3
 unfolding refusedText
 returns-3 c =
     let p1 = c .before .before .before .before in
-    rw (le-ltb _ 65 (c .before .if1 .left), le-ltb _ 80 (c .if2 .left)) (p1 .put-refused-line .ensures)
+    rw (le-ltb _ (refusalNumber NotCbor) (c .before .if1 .left), le-ltb _ (refusalNumber NotVerified) (c .if2 .left)) (p1 .put-refused-line .ensures)
 
 pub put-refused-spec : {M : Type 1} → statement M
 put-refused-spec =

@@ -1,3 +1,4 @@
+use Rattle.rules.specs.ProgramFormat.{lengthFrom, nameSize}
 use Rattle.depot_listing.specs.Listing.{componentText}
 use Prim.Native.Nat.{_+_, _-_}
 use mathlib.Core.Path.{_≡_}
@@ -17,7 +18,7 @@ returns c =
     let at-put = at-wide .before .before .before .before in
     let at-put-labelled = at-put .before .before .before .before .before in
     let start = at-put-labelled .before .before .before .before .before in
-    let e : 4 + at-wide .wide .result - 4 ≡ getD (start .args .s .now) 3 0 = omega (arith, at-wide .wide .ensures .0) in
+    let e : nameSize + at-wide .wide .result - nameSize ≡ getD (start .args .s .now) lengthFrom 0 = omega (arith, at-wide .wide .ensures .0) in
     rw (← e) (wrote-then (wrote-then (wrote-then (at-put-labelled .put-labelled .ensures) (at-put .put .ensures)) (at-put-hex .put-hex .ensures)) (at-put2 .put2 .ensures))
 
 pub put-component-spec : {M : Type 1} → statement M

@@ -2,6 +2,7 @@
 use Prim.Native.Nat.{_-_}
 use mathlib.Core.Path.{_∙_}
 use lib.ListN.{getD}
+use Rattle.rules.specs.ProgramFormat.{lengthFrom, nameSize}
 use Rattle.depot_listing.specs.Listing.{componentSize, componentText, componentsText}
 use Rattle.depot_record_lines.specs.Lines.{missingText}
 use Rattle.depot_argument_lines.proofs.ItemLaws.{Going, size-lies, going-start, going-length, going-more, going-missing, going-end}
@@ -41,7 +42,7 @@ put-component-requires c κs =
     let at-if1 = c .before in
     let at-size-of = at-if1 .before in
     let at-loop = at-size-of .before .before in
-    size-lies (at-loop .loop .rest .now) 4 (getD (at-loop .loop .rest .now) 3 0) (at-size-of .size-of .ensures .0) (at-if1 .if1 .left)
+    size-lies (at-loop .loop .rest .now) nameSize (getD (at-loop .loop .rest .now) lengthFrom 0) (at-size-of .size-of .ensures .0) (at-if1 .if1 .left)
 
 loop-again : tie.Need-loop-again Inv-loop μ-loop
 loop-again c =
