@@ -20,7 +20,7 @@ use Rattle.rules.specs.Check.{strings, identifier, identifiers, components}
 use Rattle.rules.proofs.CheckLaws.{Item, item-law, strings-law, bytes-after}
 use Rattle.rules.proofs.GotLaws.{passed, split, both}
 use Rattle.rules.proofs.BytesLaws.{length-part}
-use Rattle.rules.proofs.SameLaws.{same-lengths, sameFrom, same-start}
+use Rattle.rules.proofs.SameLaws.{same-lengths}
 use Rattle.cbor.specs.declared.reading.Reading.{Reading}
 use Rattle.component_ids.specs.declared.Repeat.{Repeat}
 use Rattle.component_ids.specs.declared.Repeat.the-variants.{At, Nothing}
@@ -156,12 +156,8 @@ module _ (s : Bytes) (e p : ℕ) where
         let k : after a ≡ h .at + h .value = omega (arith, bytes-after a (item-law s BYTES 0 (limits .largest) e p a g .is)) in
         strings-turn n l ∙ rw (g, k)
 
-module _ (s : Bytes) (a n b m : ℕ) where
-  pub same-unlike : (a + n ≤ length s) × (b + m ≤ length s) → (n ≡ m → ⊥) → same (part s a n) (part s b m) ≡ false
-  same-unlike (f, g) d = same-lengths (part s a n) (part s b m) (λ q. d (omega (arith, length-part s a n f, length-part s b m g)))
-
-  pub same-alike : n ≡ m → same (part s a n) (part s b m) ≡ sameFrom s a s b n 0
-  same-alike q = rw (← q) (same-start s a s b n)
+pub same-unlike : (s : Bytes) (a n b m : ℕ) → (a + n ≤ length s) × (b + m ≤ length s) → (n ≡ m → ⊥) → same (part s a n) (part s b m) ≡ false
+same-unlike s a n b m (f, g) d = same-lengths (part s a n) (part s b m) (λ q. d (omega (arith, length-part s a n f, length-part s b m g)))
 
 module _ (s : Bytes) (e at : ℕ) where
   forward : (h : Head) (next : ℕ) → item ARRAY 1 (limits .parts) s e at ≡ got h → strings s (h .num) e (h .next) ≡ got next → (at < next) × (next ≤ e)

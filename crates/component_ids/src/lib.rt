@@ -7,6 +7,7 @@ ghost use Rattle.rules.specs.Check as Check;
 ghost use Rattle.rules.specs.Limits.{limits};
 ghost use Rattle.cbor.specs.Reading.{placeReading, reading};
 ghost use Rattle.component_ids.specs.Identifiers.{plain, listing, listed, laid, idsRead, repeated, InBytes};
+use byte_buffer::equal;
 use cbor::reading::Reading;
 use cbor::reading::item;
 use cbor::reading::refuse;
@@ -87,22 +88,15 @@ fn identifiers(s: &[u8], end: usize, at: usize, count: usize, ids: &mut Places) 
     }
 }
 
-// Whether the n bytes at a and the m bytes at b are equal.
-fn same_bytes(s: &[u8], a: usize, n: usize, b: usize, m: usize) -> bool
-    requires { ⌜ (a + n ≤ length (now s)) × (b + m ≤ length (now s)) ⌝ }
-    ensures { λ r. ⌜ r ≡ same (part (now (s .entry)) a n) (part (now (s .entry)) b m) ⌝ }
+// Whether two parts of the envelope have the same bytes.
+fn same_bytes(s: &[u8], from: usize, size: usize, other: usize, width: usize) -> bool
+    requires { ⌜ (from + size ≤ length (now s)) × (other + width ≤ length (now s)) ⌝ }
+    ensures { λ r. ⌜ r ≡ same (part (now (s .entry)) from size) (part (now (s .entry)) other width) ⌝ }
 {
-    if n != m {
+    if size != width {
         return false;
     }
-    let mut k = 0;
-    while k < n {
-        if s[a + k] != s[b + k] {
-            return false;
-        }
-        k += 1;
-    }
-    true
+    equal(s, from, s, other, size)
 }
 
 pub enum Repeat {
@@ -120,13 +114,13 @@ pub fn repeated_one(s: &[u8], ids: &Places, count: usize) -> Repeat
         if count <= j {
             break 'pairs Repeat::Nothing;
         }
-        let b = ids[2 * j];
-        let m = ids[2 * j + 1] - b;
+        let later = ids[2 * j];
+        let size = ids[2 * j + 1] - later;
         let mut i = 0;
         while i < j {
-            let a = ids[2 * i];
-            let l = ids[2 * i + 1] - a;
-            if same_bytes(s, b, m, a, l) {
+            let earlier = ids[2 * i];
+            let width = ids[2 * i + 1] - earlier;
+            if same_bytes(s, later, size, earlier, width) {
                 break 'pairs Repeat::At(j);
             }
             i += 1;

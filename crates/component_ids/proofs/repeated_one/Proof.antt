@@ -9,10 +9,10 @@ use Rattle.component_ids.proofs.repeated_one.Statement.{statement}
 use Rattle.component_ids.proofs.repeated_one.Tie as tie
 
 abbrev Inv-loop : tie.InvT-loop
-Inv-loop s ids count j b m i₀ i = (i ≤ j) × (among s ids j 0 j ≡ among s ids j i (j - i))
+Inv-loop s ids count j later size i₀ i = (i ≤ j) × (among s ids j 0 j ≡ among s ids j i (j - i))
 
 abbrev μ-loop : tie.MeasureT-loop
-μ-loop s ids count j b m i₀ i = j - i
+μ-loop s ids count j later size i₀ i = j - i
 
 abbrev Inv-pairs : tie.InvT-pairs
 Inv-pairs s ids count j₀ j = repeated s ids count ≡ searchFrom s ids j (count - j)
@@ -23,14 +23,14 @@ abbrev μ-pairs : tie.MeasureT-pairs
 pairs-holds : tie.Need-pairs-holds Inv-loop μ-loop Inv-pairs μ-pairs
 pairs-holds c = search-start _ _ _
 
-sub-m : tie.Need-sub-m Inv-loop μ-loop Inv-pairs μ-pairs
-sub-m c = c .before .before .before .before .before .pre .1 (c .before .before .before .pairs .j) (omega arith) .0
+sub-size : tie.Need-sub-size Inv-loop μ-loop Inv-pairs μ-pairs
+sub-size c = c .before .before .before .before .before .pre .1 (c .before .before .before .pairs .j) (omega arith) .0
 
 loop-holds : tie.Need-loop-holds Inv-loop μ-loop Inv-pairs μ-pairs
 loop-holds c = (omega arith, among-start _ _ _)
 
-sub-l : tie.Need-sub-l Inv-loop μ-loop Inv-pairs μ-pairs
-sub-l c = c .before .before .before .before .before .before .before .before .before .pre .1 (c .before .before .before .loop .i) (omega arith) .0
+sub-width : tie.Need-sub-width Inv-loop μ-loop Inv-pairs μ-pairs
+sub-width c = c .before .before .before .before .before .before .before .before .before .pre .1 (c .before .before .before .loop .i) (omega arith) .0
 
 same-bytes-requires : tie.Need-same-bytes-requires Inv-loop μ-loop Inv-pairs μ-pairs
 same-bytes-requires c κs =
@@ -69,7 +69,7 @@ repeated-one-spec =
     (λ c. search needs)
     (λ c. search needs)
     (λ c. search needs)
-    sub-m
+    sub-size
     loop-holds
     (λ c. search needs)
     (λ c. search needs)
@@ -78,7 +78,7 @@ repeated-one-spec =
     (λ c. search needs)
     (λ c. search needs)
     (λ c. search needs)
-    sub-l
+    sub-width
     same-bytes-requires
     (λ c. search needs)
     (λ c. search needs)
