@@ -1,11 +1,11 @@
 // Heads and items of CBOR, as a manifest may use it: definite lengths, shortest heads, numbers to 2^32-1.
 ghost use mathlib.Core.Path.{_≡_};
-ghost use Prim.Native.Nat.{ℕ, _+_, _*_, _%_, _≤_, _<_};
+ghost use Prim.Native.Nat.{ℕ, _+_, _%_, _≤_, _<_};
 ghost use lib.ListN.{length, getD};
 ghost use Rattle.rules.specs.declared.answers.Refusal.the-variants.{NotCbor};
 ghost use Rattle.rules.specs.Got.{refused, got};
 ghost use Rattle.rules.specs.Cbor.{head, whole, item, oneOf, after};
-ghost use Rattle.cbor.specs.Answer.{headOf, headMeans, itemMeans};
+ghost use Rattle.cbor.specs.Answer.{headMeans, itemMeans};
 use byte_buffer::four;
 use byte_buffer::two;
 use byte_buffer::wide;

@@ -11,7 +11,7 @@ use Rattle.rules.specs.declared.tables.Command.{Command}
 use Rattle.rules.specs.declared.tables.Listed.the-variants as L
 use Rattle.rules.specs.Limits.{limits}
 use Rattle.rules.specs.Bytes.{Bytes}
-use Rattle.rules.specs.Got.{got, need, found}
+use Rattle.rules.specs.Got.{got, found}
 use Rattle.rules.specs.Commands.{Row, commands, rowOf, isAllowed}
 use Rattle.rules.specs.Tables.{kindOf, weightOf, asCommand, listed}
 use Rattle.rules.specs.Check.{number}

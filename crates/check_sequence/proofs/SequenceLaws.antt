@@ -22,7 +22,15 @@ use Rattle.cbor.proofs.ReadingLaws.{Stopped, alike, bind-assoc, reading-went}
 use Rattle.check_sequence.specs.Argument.{argumentStart}
 use Rattle.check_sequence.specs.Command.{commandStart}
 use Rattle.check_sequence.proofs.CommandLaws.{start-forth}
-use Rattle.check_sequence.specs.Sequences.{nested}
+
+-- k sequences, each in a byte string, after m commands: how many commands there are then
+unfoldable pub nested : (s : Bytes) → (ℕ → Read Seq) → ℕ → ℕ → ℕ → ℕ → Got (ℕ × ℕ)
+nested s deeper zero m e at = got (m, at)
+nested s deeper (suc k) m e at = do
+  h ← item BYTES 0 (limits .largest) s e at
+  (a, next) ← deeper m (after h) (h .next)
+  _ ← need (eqb next (after h)) NotCbor next
+  nested s deeper k (m + count a) e next
 
 -- f of what was read, and the place after it
 abbrev pub counted : {A : Type 0} → (A → ℕ) → Got (A × ℕ) → Got (ℕ × ℕ)

@@ -1,3 +1,2 @@
 pub mod Argument
 pub mod Command
-pub mod Sequences

@@ -17,16 +17,16 @@ use Rattle.rules.specs.Bytes.{Bytes, spanAt, Span, span, part, bytesAt, same, m
 use Rattle.rules.specs.Got.{Got, refused, got, need, _>>=_}
 use Rattle.rules.specs.Cbor.{BYTES, ARRAY, Head, after, item}
 use Rattle.rules.specs.Check.{strings, identifier, identifiers, components}
-use Rattle.rules.proofs.CheckLaws.{Item, item-law, strings-law, bytes-after}
+use Rattle.rules.proofs.CheckLaws.{Item, item-law, strings-law}
 use Rattle.rules.proofs.GotLaws.{passed, split, both}
 use Rattle.rules.proofs.BytesLaws.{length-part}
 use Rattle.rules.proofs.SameLaws.{same-lengths}
 use Rattle.cbor.specs.declared.reading.Reading.{Reading}
 use Rattle.component_ids.specs.declared.Repeat.{Repeat}
 use Rattle.component_ids.specs.declared.Repeat.the-variants.{At, Nothing}
-use Rattle.component_ids.specs.Identifiers.{under, flatSpans, laid, plain, Listing, onward, listing, idsRead, listedAs, listed, equal, among, searchFrom, repeated, InBytes}
-use Rattle.cbor.specs.Reading.{fault, ends, view, headReading, placeReading, reading}
-use Rattle.cbor.proofs.ReadingLaws.{stopped, went, alike, bind-assoc, item-stopped, place-stopped}
+use Rattle.component_ids.specs.Identifiers.{flatSpans, laid, plain, Listing, onward, listing, idsRead, listedAs, listed, equal, among, searchFrom, repeated, InBytes}
+use Rattle.cbor.specs.Reading.{fault, ends, headReading, placeReading, reading}
+use Rattle.cbor.proofs.ReadingLaws.{stopped, alike, bind-assoc, item-stopped, item-went, place-stopped, place-went}
 use Rattle.rules.proofs.AnswerLaws.{not-zero}
 
 module _ (s : Bytes) where
@@ -36,13 +36,25 @@ module _ (s : Bytes) where
   verdict before (x ∷ xs) end =
       elim (member (bytesAt s x) (map (bytesAt s) before)) [ true ↦ refused RepeatedIdentifier (x .from) | false ↦ verdict (before ++ (x ∷ [])) xs end ]
 
+  -- an identifier by its head and its strings
+  abbrev rest : ℕ → ℕ → Got ℕ
+  rest at next = need (leb (next - at) (limits .identifier)) Malformed at >>= λ _. got next
+
+  plain-is : (e at : ℕ) → plain s e at ≡ (item ARRAY 1 (limits .parts) s e at >>= λ h. strings s (h .num) e (h .next) >>= rest at)
+  unfolding plain identifier
+  plain-is e at =
+      bind-assoc (item ARRAY 1 (limits .parts) s e at) _ _ ∙ alike (item ARRAY 1 (limits .parts) s e at) _ _ λ h q.
+      bind-assoc (strings s (h .num) e (h .next)) _ _ ∙ alike (strings s (h .num) e (h .next)) _ _ λ next q′.
+      bind-assoc (need (leb (next - at) (limits .identifier)) Malformed at) _ _
+
   identifier-plain : (before : List Span) (e at : ℕ) →
       identifier s before e at
       ≡ (plain s e at >>= λ next. need (not (member (bytesAt s (span at next)) (map (bytesAt s) before))) RepeatedIdentifier at >>= λ _. got (span at next))
-  unfolding identifier plain
+  unfolding identifier
   identifier-plain before e at =
       sym
-      (bind-assoc (item ARRAY 1 (limits .parts) s e at) _ _ ∙ alike (item ARRAY 1 (limits .parts) s e at) _ _ λ h q.
+      (ap (λ (x : Got ℕ). x >>= λ next. need (not (member (bytesAt s (span at next)) (map (bytesAt s) before))) RepeatedIdentifier at >>= λ _. got (span at next)) (plain-is e at)
+      ∙ bind-assoc (item ARRAY 1 (limits .parts) s e at) _ _ ∙ alike (item ARRAY 1 (limits .parts) s e at) _ _ λ h q.
       bind-assoc (strings s (h .num) e (h .next)) _ _ ∙ alike (strings s (h .num) e (h .next)) _ _ λ next q′.
       bind-assoc (need (leb (next - at) (limits .identifier)) Malformed at) _ _)
 
@@ -151,10 +163,7 @@ module _ (s : Bytes) (e p : ℕ) where
         stopped (λ x. x .next) (λ x. x .num) (item BYTES 0 (limits .largest) s e p) h q (λ x. x) (λ x. 0) (λ x. strings s (n - 1) e (after x)) t ∙ ap placeReading (sym (strings-turn n l))
 
     pub strings-next : 0 < n → h .refusal ≡ 0 → strings s n e p ≡ strings s (n - 1) e (h .at + h .value)
-    strings-next l z =
-        let (a, g, u, v) = went {A = Head} (λ x. x .next) (λ x. x .num) (item BYTES 0 (limits .largest) s e p) h q z in
-        let k : after a ≡ h .at + h .value = omega (arith, bytes-after a (item-law s BYTES 0 (limits .largest) e p a g .is)) in
-        strings-turn n l ∙ rw (g, k)
+    strings-next l z = strings-turn n l ∙ rw (item-went s BYTES 0 (limits .largest) e p h q z)
 
 pub same-unlike : (s : Bytes) (a n b m : ℕ) → (a + n ≤ length s) × (b + m ≤ length s) → (n ≡ m → ⊥) → same (part s a n) (part s b m) ≡ false
 same-unlike s a n b m (f, g) d = same-lengths (part s a n) (part s b m) (λ q. d (omega (arith, length-part s a n f, length-part s b m g)))
@@ -167,9 +176,8 @@ module _ (s : Bytes) (e at : ℕ) where
       (omega arith, f)
 
   plain-law : (next : ℕ) → plain s e at ≡ got next → (at < next) × (next ≤ e)
-  unfolding plain
   plain-law next q₀ =
-      split _ (item ARRAY 1 (limits .parts) s e at) _ next q₀ λ h q q₁.
+      split _ (item ARRAY 1 (limits .parts) s e at) _ next (sym (plain-is s e at) ∙ q₀) λ h q q₁.
       split _ (strings s (h .num) e (h .next)) _ next q₁ λ next′ q′ q₂.
       let (_, q₃) = passed (leb (next′ - at) (limits .identifier)) Malformed at _ next q₂ in
       let k : next′ ≡ next = cc in
@@ -177,35 +185,25 @@ module _ (s : Bytes) (e at : ℕ) where
 
   -- an identifier by its head and its strings, as the code read them
   module _ (h : Reading) (q : h ≡ headReading (item ARRAY 1 (limits .parts) s e at)) where
-    abbrev rest : ℕ → Got ℕ
-    rest next = need (leb (next - at) (limits .identifier)) Malformed at >>= λ _. got next
-
     pub plain-stop : (h .refusal ≡ 0 → ⊥) → h ≡ placeReading (plain s e at)
-    unfolding plain
     plain-stop t =
-        stopped (λ x. x .next) (λ x. x .num) (item ARRAY 1 (limits .parts) s e at) h q (λ x. x) (λ x. 0) (λ x. strings s (x .num) e (x .next) >>= rest) t
+        stopped (λ x. x .next) (λ x. x .num) (item ARRAY 1 (limits .parts) s e at) h q (λ x. x) (λ x. 0) (λ x. strings s (x .num) e (x .next) >>= rest s at) t
+        ∙ ap placeReading (sym (plain-is s e at))
 
     module _ (z : h .refusal ≡ 0) (r : Reading) (q′ : r ≡ placeReading (strings s (h .value) e (h .at))) where
-      plain-as : (a : Head) → item ARRAY 1 (limits .parts) s e at ≡ got a → h .at ≡ a .next → h .value ≡ a .num → plain s e at ≡ (strings s (h .value) e (h .at) >>= rest)
-      unfolding plain
-      plain-as a g u v = rw (g, u, v)
-
-      plain-rest : plain s e at ≡ (strings s (h .value) e (h .at) >>= rest)
-      plain-rest = let (a, g, u, v) = went {A = Head} (λ x. x .next) (λ x. x .num) (item ARRAY 1 (limits .parts) s e at) h q z in plain-as a g u v
+      plain-rest : plain s e at ≡ (strings s (h .value) e (h .at) >>= rest s at)
+      plain-rest = plain-is s e at ∙ ap (λ (x : Got Head). x >>= λ y. strings s (y .num) e (y .next) >>= rest s at) (item-went s ARRAY 1 (limits .parts) e at h q z)
 
       pub strings-stopped : (r .refusal ≡ 0 → ⊥) → r ≡ placeReading (plain s e at)
       strings-stopped t =
-          stopped (λ x. x) (λ x. 0) (strings s (h .value) e (h .at)) r q′ (λ x. x) (λ x. 0) rest t ∙ ap placeReading (sym plain-rest)
+          stopped (λ x. x) (λ x. 0) (strings s (h .value) e (h .at)) r q′ (λ x. x) (λ x. 0) (rest s at) t ∙ ap placeReading (sym plain-rest)
 
       module _ (z′ : r .refusal ≡ 0) where
         ended : strings s (h .value) e (h .at) ≡ got (r .at)
-        ended = let (next, g, u, v) = went {A = ℕ} (λ x. x) (λ x. 0) (strings s (h .value) e (h .at)) r q′ z′ in rw u g
-
-        forth-as : (a : Head) → item ARRAY 1 (limits .parts) s e at ≡ got a → h .at ≡ a .next → h .value ≡ a .num → (at < r .at) × (r .at ≤ e)
-        forth-as a g u v = forward a (r .at) g (rw (u, v) at ended)
+        ended = place-went (strings s (h .value) e (h .at)) r q′ z′
 
         pub forth : (at < r .at) × (r .at ≤ e)
-        forth = let (a, g, u, v) = went {A = Head} (λ x. x .next) (λ x. x .num) (item ARRAY 1 (limits .parts) s e at) h q z in forth-as a g u v
+        forth = forward _ (r .at) (item-went s ARRAY 1 (limits .parts) e at h q z) ended
 
         pub plain-long : limits .identifier < r .at - at → fault Malformed at ≡ placeReading (plain s e at)
         plain-long l = let g : plain s e at ≡ refused Malformed at = plain-rest ∙ rw (ended, lt-leb _ _ l) in ap placeReading (sym g)
@@ -274,8 +272,7 @@ module _ (s : Bytes) (n e at : ℕ) where
 
       pub listing-next : length a₀ ≡ places → n ≤ limits .components → r .refusal ≡ 0 → Sofar s n e at (k + 1) (r .at) a₀ (set (set a (2 * k) p) (2 * k + 1) (r .at))
       listing-next w b z =
-          let (next, g, u, v) = went {A = ℕ} (λ x. x) (λ x. 0) (plain s e p) r q z in
-          let g′ : plain s e p ≡ got (r .at) = rw u g in
+          let g′ : plain s e p ≡ got (r .at) = place-went (plain s e p) r q z in
           let i : n - k - 1 ≡ n - (k + 1) = omega arith in
           let d : listing s (n - k) e p ≡ onward p (got (r .at)) (λ x. listing s (n - (k + 1)) e x) = listing-turn p (n - k) (omega arith) ∙ rw (g′, i) in
           record {
@@ -417,19 +414,11 @@ module _ (s : Bytes) (e at : ℕ) (h : Reading) (q : h ≡ headReading (item ARR
 
   module _ (z : h .refusal ≡ 0) where
     pub components-head : (h .value ≤ limits .components) × (h .at ≤ e)
-    components-head =
-        let (x, g, u, v) = went {A = Head} (λ x. x .next) (λ x. x .num) (item ARRAY 1 (limits .components) s e at) h q z in
-        let i : Item s ARRAY 1 (limits .components) e at x = item-law s ARRAY 1 (limits .components) e at x g in
-        (omega (arith, i .high), omega (arith, i .mid, i .fits))
-
-    components-as : (x : Head) → item ARRAY 1 (limits .components) s e at ≡ got x → h .at ≡ x .next → h .value ≡ x .num →
-        (components s e at ≡ identifiers s (h .value) [] e (h .at)) × (idsRead s e at ≡ listing s (h .value) e (h .at) .ids)
-    unfolding components idsRead
-    components-as x g u v = (rw (g, u, v), rw (g, u, v))
+    components-head = let i = item-law s ARRAY 1 (limits .components) e at _ (item-went s ARRAY 1 (limits .components) e at h q z) in (i .high, omega (arith, i .mid, i .fits))
 
     components-rest : (components s e at ≡ identifiers s (h .value) [] e (h .at)) × (idsRead s e at ≡ listing s (h .value) e (h .at) .ids)
-    components-rest =
-        let (x, g, u, v) = went {A = Head} (λ x. x .next) (λ x. x .num) (item ARRAY 1 (limits .components) s e at) h q z in components-as x g u v
+    unfolding components idsRead
+    components-rest = let g = item-went s ARRAY 1 (limits .components) e at h q z in (rw g, rw g)
 
     -- its identifiers, in the array b that was a
     module _ (a b : List ℕ) (r : Reading) (l : (r ≡ listed (listing s (h .value) e (h .at))) × (b ≡ laid (listing s (h .value) e (h .at) .ids) a)) where

@@ -1,17 +1,14 @@
 -- Identifiers as check reads them: all of the list, or up to the first that is refused; then the search for a repeated one.
-use Prim.Native.Nat.{ℕ, zero, suc, _-_, _*_, _≤_, _<_}
-use mathlib.Core.Path.{_≡_}
+use Prim.Native.Nat.{ℕ, zero, suc, _*_, _≤_, _<_}
 use mathlib.Core.List.{List, [], _∷_, _++_}
 use mathlib.Core.Bool.{Bool, true, false, _||_}
-use lib.Dec.{leb}
 use lib.ListN.{length, drop}
-use Rattle.rules.specs.declared.answers.Refusal.the-variants.{Malformed}
 use Rattle.rules.specs.Answers.{refusalNumber}
 use Rattle.rules.specs.Limits.{limits}
 use Rattle.rules.specs.Bytes.{Bytes, Span, span, bytesAt, spanAt, same}
-use Rattle.rules.specs.Got.{Got, refused, got, need, _>>=_}
+use Rattle.rules.specs.Got.{Got, refused, got, _>>=_}
 use Rattle.rules.specs.Cbor.{ARRAY, Head, item}
-use Rattle.rules.specs.Check.{strings}
+use Rattle.rules.specs.Check.{identifier}
 use Rattle.component_ids.specs.declared.Repeat.{Repeat}
 use Rattle.component_ids.specs.declared.Repeat.the-variants.{At, Nothing}
 use Rattle.cbor.specs.declared.reading.Reading.{Reading}
@@ -43,10 +40,8 @@ module _ (s : Bytes) where
   -- an identifier, whatever stands before it: the place after it
   unfoldable pub plain : ℕ → ℕ → Got ℕ
   plain e at = do
-    h ← item ARRAY 1 (limits .parts) s e at
-    next ← strings s (h .num) e (h .next)
-    _ ← need (leb (next - at) (limits .identifier)) Malformed at
-    got next
+    id ← identifier s [] e at
+    got (id .to)
 
   -- n identifiers, until one is refused: the places of those that were read, and how the reading ended
   unfoldable pub listing : ℕ → ℕ → ℕ → Listing

@@ -8,11 +8,10 @@ use borrow.Fn.PlainCycle.{Measures, is, falls, and}
 use Rattle.rules.specs.Manifest.{count, countCmd}
 use Rattle.rules.specs.Check.{command, commandsAt, sequenceAt}
 use Rattle.cbor.specs.Reading.{reading}
-use Rattle.check_sequence.specs.Sequences.{nested}
 use Rattle.cbor.proofs.ReadingLaws.{item-stopped, item-went, string-fits, pos, above, reading-stopped}
 use Rattle.rules.proofs.CheckLaws.{item-law}
 use Rattle.check_sequence.proofs.CommandLaws.{start-forth}
-use Rattle.check_sequence.proofs.SequenceLaws.{opened, read, done, command-forth, command-stop, command-opened, nested-none, nested-stop, nested-bad, nested-left-over, nested-more, commands-none, commands-stop, commands-more, sequence-stop, sequence-odd, sequence-deep, sequence-body}
+use Rattle.check_sequence.proofs.SequenceLaws.{nested, opened, read, done, command-forth, command-stop, command-opened, nested-none, nested-stop, nested-bad, nested-left-over, nested-more, commands-none, commands-stop, commands-more, sequence-stop, sequence-odd, sequence-deep, sequence-body}
 use Rattle.check_sequence.proofs.check_command.Reads as check-command
 use Rattle.check_sequence.proofs.check_command.Kinds as check-command-kinds
 use Rattle.check_sequence.proofs.+check_command+check_sequence.Lts-check_command as check-command-lts
