@@ -30,24 +30,6 @@ use Rattle.check_envelope.specs.Report.{place, refusedReport, reportOf, 
 use Rattle.cbor.proofs.ReadingLaws.{Stopped, alike, bind-assoc, reading-stopped, reading-went}
 use Rattle.check_manifest.proofs.ManifestLaws.{manifest-part}
 
--- the envelope around the manifest
-check-law : (s : Bytes) →
-    check s
-    ≡ (need (leb (length s) (limits .envelope)) EnvelopeTooLong 0 >>= λ _. item MAP 2 2 s (length s) 0 >>= λ h. key s 1 (length s) (h .next) >>= λ p.
-    unread s (length s) p >>= λ q. key s 3 (length s) q >>= λ r. item BYTES 0 (limits .largest) s (length s) r >>= λ b.
-    manifestAt s (after b) (b .next) >>= λ m. need (eqb (m .1) (after b)) NotCbor (m .1) >>= λ _.
-    need (eqb (m .1) (length s)) NotCbor (m .1) >>= λ _. got (m .0))
-unfolding check inBytes
-check-law s =
-    alike (need (leb (length s) (limits .envelope)) EnvelopeTooLong 0) _ _ λ u q.
-    alike (item MAP 2 2 s (length s) 0) _ _ λ h q₁.
-    alike (key s 1 (length s) (h .next)) _ _ λ p q₂.
-    alike (unread s (length s) p) _ _ λ n q₃.
-    alike (key s 3 (length s) n) _ _ λ r q₄.
-    bind-assoc (item BYTES 0 (limits .largest) s (length s) r) _ _ ∙ alike (item BYTES 0 (limits .largest) s (length s) r) _ _ λ b q₅.
-    bind-assoc (manifestAt s (after b) (b .next)) _ _ ∙ alike (manifestAt s (after b) (b .next)) _ _ λ m q₆.
-    bind-assoc (need (eqb (m .1) (after b)) NotCbor (m .1)) _ _
-
 module _ (s : Bytes) where
   -- no bytes are left over, in the manifest's byte string that ends at `to`, or after it
   abbrev closed : ℕ → Manifest × ℕ → Got Manifest
@@ -56,18 +38,28 @@ module _ (s : Bytes) where
   inner : ℕ × ℕ → Got Manifest
   inner o = manifestAt s (o .1 + o .0) (o .1) >>= closed (o .1 + o .0)
 
-  -- the envelope's own items, and then the manifest in its byte string
+  -- the manifest in its byte string, and nothing after it
+  ending : (r : ℕ) →
+      (inBytes s (manifestAt s) (length s) r >>= λ m. need (eqb (m .1 .to) (length s)) NotCbor (m .1 .to) >>= λ _. got (m .0))
+      ≡ (item BYTES 0 (limits .largest) s (length s) r >>= λ b. inner (b .num, b .next))
+  unfolding inBytes inner
+  ending r =
+      bind-assoc (item BYTES 0 (limits .largest) s (length s) r) _ _ ∙ alike (item BYTES 0 (limits .largest) s (length s) r) _ _ λ b q.
+      bind-assoc (manifestAt s (after b) (b .next)) _ _
+      ∙ alike (manifestAt s (after b) (b .next)) _ (closed (after b)) (λ m q₁. bind-assoc (need (eqb (m .1) (after b)) NotCbor (m .1)) _ _)
+      ∙ ap (λ (to : ℕ). manifestAt s to (b .next) >>= closed to) (bytes-after b (item-law s BYTES 0 (limits .largest) (length s) r b q .is))
+
+  -- the envelope's own items, and then the manifest
   parts : check s ≡ (need (leb (length s) (limits .envelope)) EnvelopeTooLong 0 >>= λ _. outerAt s (length s) >>= inner)
-  unfolding outerAt inner
+  unfolding check outerAt
   parts =
-      check-law s ∙ alike (need (leb (length s) (limits .envelope)) EnvelopeTooLong 0) _ _ λ u q.
+      alike (need (leb (length s) (limits .envelope)) EnvelopeTooLong 0) _ _ λ u q.
       sym
       (bind-assoc (item MAP 2 2 s (length s) 0) _ _ ∙ alike (item MAP 2 2 s (length s) 0) _ _ λ h q₁.
       bind-assoc (key s 1 (length s) (h .next)) _ _ ∙ alike (key s 1 (length s) (h .next)) _ _ λ p q₂.
       bind-assoc (unread s (length s) p) _ _ ∙ alike (unread s (length s) p) _ _ λ n q₃.
       bind-assoc (key s 3 (length s) n) _ _ ∙ alike (key s 3 (length s) n) _ _ λ r q₄.
-      bind-assoc (item BYTES 0 (limits .largest) s (length s) r) _ _ ∙ alike (item BYTES 0 (limits .largest) s (length s) r) _ _ λ b q₅.
-      rw (bytes-after b (item-law s BYTES 0 (limits .largest) (length s) r b q₅ .is)))
+      bind-assoc (item BYTES 0 (limits .largest) s (length s) r) _ _ ∙ sym (ending r))
 
   -- the report of a refusal
   pub report-refused : (k : Refusal) (p : ℕ) (r : Report) → check s ≡ refused k p → r ≡ refusedReport k p → r ≡ reportOf (check s)

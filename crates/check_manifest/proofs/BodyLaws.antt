@@ -6,15 +6,14 @@ use native.Mathlib.Omega.{arith}
 use lib.Dec.{eqb}
 use lib.ListN.{length}
 use Rattle.rules.specs.declared.answers.Refusal.{Refusal}
-use Rattle.rules.specs.declared.answers.Refusal.the-variants.{NotCbor, WrongVersion}
+use Rattle.rules.specs.declared.answers.Refusal.the-variants.{WrongVersion}
 use Rattle.rules.specs.Answers.{refusalNumber}
-use Rattle.rules.specs.Limits.{limits}
 use Rattle.rules.specs.Bytes.{Bytes, span}
 use Rattle.rules.specs.Got.{Got, refused, got, need, _>>=_}
-use Rattle.rules.specs.Cbor.{NUMBER, BYTES, MAP, Head, after, item}
+use Rattle.rules.specs.Cbor.{NUMBER, MAP, Head, item}
 use Rattle.rules.specs.Commands.{COMMON, PAYLOAD_FETCH}
 use Rattle.rules.specs.Manifest.{countAll}
-use Rattle.rules.specs.Check.{number, key, inBytes, components, commonSeq, commonAt, sectionsAt, manifestAt}
+use Rattle.rules.specs.Check.{number, key, sectionsAt, manifestAt}
 use Rattle.rules.proofs.CheckLaws.{item-law}
 use Rattle.cbor.specs.declared.reading.Reading.{Reading}
 use Rattle.cbor.specs.Reading.{ends, view, headReading}
@@ -77,17 +76,3 @@ module _ (s : Bytes) where
       bind-assoc (numberedAt s e (a .1)) _ _ ∙ bind-assoc (key s 2 e (a .1)) _ _ ∙ alike (key s 2 e (a .1)) _ _ λ p₂ q₄.
       bind-assoc (number s e p₂) _ _ ∙ alike (number s e p₂) _ _ λ n q₅.
       bind-assoc (key s COMMON e (n .1)) _ _)
-
-  -- common in its byte string
-  pub common-law : (e at : ℕ) →
-      commonIn s e at
-      ≡ (item BYTES 0 (limits .largest) s e at >>= λ b. item MAP 1 2 s (after b) (b .next) >>= λ h. key s 2 (after b) (h .next) >>= λ p.
-      inBytes s (components s) (after b) p >>= λ l. commonSeq s (length (l .0)) (h .num - 1) (after b) (l .1 .to) >>= λ x.
-      need (eqb (x .1) (after b)) NotCbor (x .1) >>= λ _. got ((l .0, x .0), span (b .next) (x .1)))
-  unfolding commonIn inBytes commonAt
-  common-law e at =
-      alike (item BYTES 0 (limits .largest) s e at) _ _ λ b q.
-      bind-assoc (item MAP 1 2 s (after b) (b .next)) _ _ ∙ alike (item MAP 1 2 s (after b) (b .next)) _ _ λ h q₁.
-      bind-assoc (key s 2 (after b) (h .next)) _ _ ∙ alike (key s 2 (after b) (h .next)) _ _ λ p q₂.
-      bind-assoc (inBytes s (components s) (after b) p) _ _ ∙ alike (inBytes s (components s) (after b) p) _ _ λ l q₃.
-      bind-assoc (commonSeq s (length (l .0)) (h .num - 1) (after b) (l .1 .to)) _ _

@@ -1,23 +1,23 @@
 -- Common, one step after the other, in the order in which it is read.
 use Prim.Native.Nat.{ℕ, _+_, _-_}
 use mathlib.Core.Path.{_≡_, ap, _∙_}
-use mathlib.Core.List.{List, []}
+use mathlib.Core.List.{List}
 use lib.ListN.{length}
-use borrow.Author.Tests.{eq-eqb, ne-eqb}
+use Rattle.rules.specs.declared.answers.Refusal.{Refusal}
 use Rattle.rules.specs.declared.answers.Refusal.the-variants.{NotCbor}
 use Rattle.rules.specs.Limits.{limits}
 use Rattle.rules.specs.Bytes.{Bytes, Span, span}
-use Rattle.rules.specs.Got.{Got, got, _>>=_}
+use Rattle.rules.specs.Got.{Got, refused, got}
 use Rattle.rules.specs.Cbor.{NUMBER, BYTES, MAP, item}
 use Rattle.rules.specs.Manifest.{Section, countAll}
-use Rattle.rules.specs.Check.{key, inBytes, components, commonSeq}
+use Rattle.rules.specs.Check.{key, inBytes, components, commonSeq, commonAt}
 use Rattle.cbor.specs.declared.reading.Reading.{Reading}
 use Rattle.check_manifest.specs.declared.Common.{Common}
 use Rattle.cbor.specs.Reading.{fault, reading}
 use Rattle.check_manifest.specs.Sections.{Placed}
 use Rattle.check_manifest.specs.Body.{commonIn, commonOf, listReading, Ids, Kept}
 use Rattle.cbor.proofs.ReadingLaws.{Stopped, stop-of, went, reading-went}
-use Rattle.check_manifest.proofs.BodyLaws.{common-law}
+use Rattle.check_manifest.proofs.InBytesLaws.{in-stop, in-bad, in-over, in-got}
 
 -- what is promised of common
 abbrev pub CommonPromise : Got ((List Span × List Section) × Span) → Common → List ℕ → List ℕ → List ℕ → List ℕ → Type 0
@@ -30,39 +30,49 @@ none-common x r c i i′ p p′ y e =
 
 module _ (s : Bytes) (e at : ℕ) where
   pub common-no-bytes : (r : Reading) → Stopped (item BYTES 0 (limits .largest) s e at) r → Stopped (commonIn s e at) r
-  common-no-bytes r x = record { refusal = x .refusal; place = x .place; was = common-law s e at ∙ rw (x .was); is = x .is }
+  unfolding commonIn
+  common-no-bytes r x = in-stop s (commonAt s) e at r x
 
   module _ (v p : ℕ) (q : item BYTES 0 (limits .largest) s e at ≡ got (record { kind = BYTES; num = v; next = p })) where
+    -- what stops the map stops common
+    stops : (k : Refusal) (place : ℕ) → commonAt s (p + v) p ≡ refused k place → (r : Reading) → r ≡ fault k place → Stopped (commonIn s e at) r
+    unfolding commonIn
+    stops k place was r is = in-bad s (commonAt s) e at v p q r (record { refusal = k; place = place; was = was; is = is })
+
     pub common-no-map : (r : Reading) → Stopped (item MAP 1 2 s (p + v) p) r → Stopped (commonIn s e at) r
-    common-no-map r x = record { refusal = x .refusal; place = x .place; was = common-law s e at ∙ rw (q, x .was); is = x .is }
+    unfolding commonAt
+    common-no-map r x = stops (x .refusal) (x .place) (rw (x .was)) r (x .is)
 
     module _ (k p₂ : ℕ) (q₂ : item MAP 1 2 s (p + v) p ≡ got (record { kind = MAP; num = k; next = p₂ })) where
       pub common-no-key : (r : Reading) → Stopped (item NUMBER 2 2 s (p + v) p₂) r → Stopped (commonIn s e at) r
-      unfolding key
-      common-no-key r x = record { refusal = x .refusal; place = x .place; was = common-law s e at ∙ rw (q, q₂, x .was); is = x .is }
+      unfolding commonAt key
+      common-no-key r x = stops (x .refusal) (x .place) (rw (q₂, x .was)) r (x .is)
 
       module _ (w p₃ : ℕ) (q₃ : item NUMBER 2 2 s (p + v) p₂ ≡ got (record { kind = NUMBER; num = w; next = p₃ })) where
         pub common-no-list : (r : Reading) → Stopped (inBytes s (components s) (p + v) p₃) r → Stopped (commonIn s e at) r
-        unfolding key
-        common-no-list r x = record { refusal = x .refusal; place = x .place; was = common-law s e at ∙ rw (q, q₂, q₃, x .was); is = x .is }
+        unfolding commonAt key
+        common-no-list r x = stops (x .refusal) (x .place) (rw (q₂, q₃, x .was)) r (x .is)
 
         module _ (ids : List Span) (u : Span) (q₄ : inBytes s (components s) (p + v) p₃ ≡ got (ids, u)) (n a : ℕ) (en : n ≡ length ids) (ea : a ≡ u .to) where
           here : commonSeq s (length ids) (k - 1) (p + v) (u .to) ≡ commonSeq s n (k - 1) (p + v) a
           here = rw (en, ea)
 
           pub common-bad : (r : Reading) → Stopped (commonSeq s n (k - 1) (p + v) a) r → Stopped (commonIn s e at) r
-          unfolding key
-          common-bad r x = record { refusal = x .refusal; place = x .place; was = common-law s e at ∙ rw (q, q₂, q₃, q₄, here, x .was); is = x .is }
+          unfolding commonAt key
+          common-bad r x = stops (x .refusal) (x .place) (rw (q₂, q₃, q₄, here, x .was)) r (x .is)
 
           module _ (xs : List Section) (next : ℕ) (q₅ : commonSeq s n (k - 1) (p + v) a ≡ got (xs, next)) where
-            pub common-left-over : (next ≡ p + v → ⊥) → (r : Reading) → r ≡ fault NotCbor next → Stopped (commonIn s e at) r
-            unfolding key
-            common-left-over o r x =
-                record { refusal = NotCbor; place = next; was = common-law s e at ∙ rw (q, q₂, q₃, q₄, here, q₅, ne-eqb _ _ o); is = x }
+            held : commonAt s (p + v) p ≡ got ((ids, xs), next)
+            unfolding commonAt key
+            held = rw (q₂, q₃, q₄, here, q₅)
 
-            pub common-got : next ≡ p + v → commonIn s e at ≡ got ((ids, xs), span p (p + v))
-            unfolding key
-            common-got o = common-law s e at ∙ rw (q, q₂, q₃, q₄, here, q₅, eq-eqb _ _ o, o)
+            pub common-left-over : (next ≡ p + v → ⊥) → (r : Reading) → r ≡ fault NotCbor next → Stopped (commonIn s e at) r
+            unfolding commonIn
+            common-left-over o r x = in-over s (commonAt s) e at v p q (ids, xs) next held o r x
+
+            common-got : next ≡ p + v → commonIn s e at ≡ got ((ids, xs), span p (p + v))
+            unfolding commonIn
+            common-got o = in-got s (commonAt s) e at v p q (ids, xs) next held o
 
             pub common-good : next ≡ p + v → (c : ℕ) → c ≡ countAll xs → (i i′ b b′ : List ℕ) → Ids (λ l. l) (inBytes s (components s) (p + v) p₃) i i′ →
                 Placed (λ ys. ys) (commonSeq s n (k - 1) (p + v) a) b b′ →

@@ -1,3 +1,4 @@
+pub mod InBytesLaws
 pub mod SectionLaws
 pub mod BodyLaws
 pub mod ListLaws

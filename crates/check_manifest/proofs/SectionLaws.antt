@@ -4,23 +4,22 @@ use mathlib.Core.Path.{_≡_, refl, sym, ap, _∙_}
 use mathlib.Core.List.{List, [], _∷_}
 use native.Mathlib.Omega.{arith}
 use native.Mathlib.Nat.{add-zero, add-assoc}
-use lib.Dec.{eqb}
 use lib.ListN.{set}
-use borrow.Author.Tests.{eq-eqb, ne-eqb}
 use Rattle.rules.specs.declared.answers.Refusal.the-variants.{NotCbor}
 use Rattle.rules.specs.Limits.{limits, sectionCount}
 use Rattle.rules.specs.Bytes.{Bytes, span}
-use Rattle.rules.specs.Got.{Got, refused, got, need, _>>=_}
-use Rattle.rules.specs.Cbor.{NUMBER, BYTES, after, item}
+use Rattle.rules.specs.Got.{Got, refused, got, _>>=_}
+use Rattle.rules.specs.Cbor.{NUMBER, BYTES, item}
 use Rattle.rules.specs.Commands.{COMMON, PAYLOAD_FETCH, RUN}
 use Rattle.rules.specs.Manifest.{Seq, count, Section, countAll}
-use Rattle.rules.specs.Check.{key, inBytes, sequenceAt, sectionAt, sectionsAt, commonSeq}
+use Rattle.rules.specs.Check.{Read, key, inBytes, sequenceAt, sectionAt, sectionsAt, commonSeq}
 use Rattle.cbor.specs.declared.reading.Reading.{Reading}
 use Rattle.cbor.specs.Reading.{fault, ends, reading}
 use Rattle.check_sequence.specs.Opening as Q
 use Rattle.check_manifest.specs.Sections.{sectionNo, placedOne, Placed}
-use Rattle.cbor.proofs.ReadingLaws.{Stopped, alike, bind-assoc, reading-went}
+use Rattle.cbor.proofs.ReadingLaws.{Stopped, reading-went}
 use Rattle.check_sequence.proofs.SequenceLaws.{read}
+use Rattle.check_manifest.proofs.InBytesLaws.{stopped-bind, in-stop, in-bad, in-over, in-got}
 
 -- what is promised of a reading, and of the places that it left
 abbrev pub Promise : {A : Type 0} → (A → ℕ) → (A → List Section) → Got (A × ℕ) → Reading → List ℕ → List ℕ → Type 0
@@ -30,36 +29,29 @@ Promise f g x r before after = (r ≡ reading f x) × Placed g x before after
 pub stopped-promise : {A : Type 0} (f : A → ℕ) (g : A → List Section) (x : Got (A × ℕ)) (r : Reading) (b a : List ℕ) → Stopped x r → Promise f g x r b a
 stopped-promise f g x r b a y = (rw (y .was) (y .is), rw (y .was) tt)
 
-pub stopped-bind : {A B : Type 0} (x : Got A) (f : A → Got B) (r : Reading) → Stopped x r → Stopped (x >>= f) r
-stopped-bind x f r y = record { refusal = y .refusal; place = y .place; was = rw (y .was); is = y .is }
-
-pub stopped-with : {A : Type 0} (x y : Got A) (r : Reading) → x ≡ y → Stopped y r → Stopped x r
-stopped-with x y r e z = record { refusal = z .refusal; place = z .place; was = e ∙ z .was; is = z .is }
-
 module _ (s : Bytes) (n k m e at : ℕ) where
-  flat :
-      sectionAt s n k m e at
-      ≡ (item BYTES 0 (limits .largest) s e at >>= λ h. sequenceAt s n k (limits .depth) m (after h) (h .next) >>= λ r.
-      need (eqb (r .1) (after h)) NotCbor (r .1) >>= λ _. got (record { key = k; place = span (h .next) (r .1); seq = r .0 }, r .1))
-  unfolding sectionAt inBytes
-  flat =
-      bind-assoc (item BYTES 0 (limits .largest) s e at) _ _ ∙ alike (item BYTES 0 (limits .largest) s e at) _ _ λ h q.
-      bind-assoc (sequenceAt s n k (limits .depth) m (after h) (h .next)) _ _ ∙ alike (sequenceAt s n k (limits .depth) m (after h) (h .next)) _ _ λ r q′.
-      bind-assoc (need (eqb (r .1) (after h)) NotCbor (r .1)) _ _
+  abbrev sequence : Read Seq
+  sequence = sequenceAt s n k (limits .depth) m
+
+  -- what stops its byte string stops it
+  stops : (r : Reading) → Stopped (inBytes s sequence e at) r → Stopped (sectionAt s n k m e at) r
+  unfolding sectionAt
+  stops r x = stopped-bind (inBytes s sequence e at) _ r x
 
   pub section-stop : (r : Reading) → Stopped (item BYTES 0 (limits .largest) s e at) r → Stopped (sectionAt s n k m e at) r
-  section-stop r x = stopped-with _ _ r flat (stopped-bind (item BYTES 0 (limits .largest) s e at) _ r x)
+  section-stop r x = stops r (in-stop s sequence e at r x)
 
   module _ (v p : ℕ) (q : item BYTES 0 (limits .largest) s e at ≡ got (record { kind = BYTES; num = v; next = p })) where
     pub section-bad : (r : Reading) → Stopped (sequenceAt s n k (limits .depth) m (p + v) p) r → Stopped (sectionAt s n k m e at) r
-    section-bad r x = record { refusal = x .refusal; place = x .place; was = flat ∙ rw (q, x .was); is = x .is }
+    section-bad r x = stops r (in-bad s sequence e at v p q r x)
 
     module _ (a : Seq) (next : ℕ) (w : sequenceAt s n k (limits .depth) m (p + v) p ≡ got (a, next)) where
       pub section-left-over : (next ≡ p + v → ⊥) → (r : Reading) → r ≡ fault NotCbor next → Stopped (sectionAt s n k m e at) r
-      section-left-over o r x = record { refusal = NotCbor; place = next; was = flat ∙ rw (q, w, ne-eqb _ _ o); is = x }
+      section-left-over o r x = stops r (in-over s sequence e at v p q a next w o r x)
 
-      pub section-got : next ≡ p + v → sectionAt s n k m e at ≡ got (record { key = k; place = span p (p + v); seq = a }, p + v)
-      section-got o = flat ∙ rw (q, w, eq-eqb _ _ o, o)
+      section-got : next ≡ p + v → sectionAt s n k m e at ≡ got (record { key = k; place = span p (p + v); seq = a }, p + v)
+      unfolding sectionAt
+      section-got o = rw (in-got s sequence e at v p q a next w o)
 
     -- accepted: the reading of its sequence, and its place in the array
     pub section-promise : (r : Reading) → r ≡ reading (λ a. m + count a) (sequenceAt s n k (limits .depth) m (p + v) p) → r .refusal ≡ 0 → r .at ≡ p + v →

@@ -1,14 +1,16 @@
-use mathlib.Core.Path.{refl, _∙_}
+use mathlib.Core.Path.{refl}
 use mathlib.Core.Logic.{inl}
 use native.Mathlib.Omega.{arith}
+use lib.ListN.{length}
 use borrow.Author.Needs.{needs}
-use Rattle.cbor.proofs.ReadingLaws.{item-went, string-fits}
-use Rattle.check_manifest.proofs.ListLaws.{list-stop, list-refused, list-over, list-good}
+use Rattle.cbor.proofs.ReadingLaws.{item-stopped, item-went, string-fits, reading-stopped, reading-went}
+use Rattle.check_manifest.proofs.InBytesLaws.{in-stop, in-bad, in-over}
+use Rattle.check_manifest.proofs.ListLaws.{list-stop, list-good}
 use Rattle.check_manifest.proofs.component_list.Statement.{statement}
 use Rattle.check_manifest.proofs.component_list.Tie as tie
 
 no-string : tie.Need-returns
-no-string c = list-stop _ _ _ _ (c .before .item .ensures) _ _ (c .if1 .taken)
+no-string c = list-stop _ _ _ _ _ _ (in-stop _ _ _ _ _ (item-stopped _ _ _ _ _ _ _ (c .before .item .ensures) (c .if1 .taken)))
 
 in-range : tie.Need-add-to
 in-range c = let f = string-fits _ _ _ _ _ _ _ (inl refl) (item-went _ _ _ _ _ _ _ (c .before .before .item .ensures) (c .before .if1 .left)) in omega arith
@@ -18,18 +20,22 @@ inside c κs = let f = string-fits _ _ _ _ _ _ _ (inl refl) (item-went _ _ _ _ _
 
 refused : tie.Need-returns-2
 refused c =
-    list-refused _ _ _ _ (c .before .before .before .before .before .item .ensures) (c .before .before .before .before .if1 .left) _ _ _ (c .before .components .ensures) (c .if2 .taken)
+    let i = c .before .before .before .before in
+    list-stop _ _ _ _ _ _
+    (in-bad _ _ _ _ _ _ (item-went _ _ _ _ _ _ _ (i .before .item .ensures) (i .if1 .left)) _ (reading-stopped length _ _ (c .before .components .ensures .0) (c .if2 .taken)))
 
 over : tie.Need-returns-3
 over c =
-    let (f, g) = list-over _ _ _ _ (c .before .before .before .before .before .before .before .item .ensures) (c .before .before .before .before .before .before .if1 .left) _ _ _
-    (c .before .before .before .components .ensures) (c .before .before .if2 .left) (c .before .if3 .taken) in
-    (c .refuse .ensures ∙ f, g)
+    let i = c .before .before .before .before .before .before in
+    let (ids, w, n) = reading-went length _ _ (c .before .before .before .components .ensures .0) (c .before .before .if2 .left) in
+    list-stop _ _ _ _ _ _
+    (in-over _ _ _ _ _ _ (item-went _ _ _ _ _ _ _ (i .before .item .ensures) (i .if1 .left)) ids _ w (c .before .if3 .taken) _ (c .refuse .ensures))
 
 good : tie.Need-returns-4
 good c =
-    list-good _ _ _ _ (c .before .before .before .before .before .before .item .ensures) (c .before .before .before .before .before .if1 .left) _ _ _
-    (c .before .before .components .ensures) (c .before .if2 .left) (c .if3 .left)
+    let i = c .before .before .before .before .before in
+    list-good _ _ _ _ _ (item-went _ _ _ _ _ _ _ (i .before .item .ensures) (i .if1 .left)) _
+    (c .before .before .components .ensures .0) (c .before .if2 .left) (c .if3 .left) _ _ (c .before .before .components .ensures .1)
 
 pub component-list-spec : {M : Type 1} → statement M
 component-list-spec =
