@@ -26,10 +26,10 @@ pub(crate) fn equal_sixteen(s: &[u8], at: usize, own: &Sixteen) -> usize
     requires { ⌜ at + limits .class ≤ length (now s) ⌝ }
     ensures { λ r. ⌜ Ends r × ((st : Step.State) → Step.out (endOf r) st ≡ Step.passes (same (part (now (s .entry)) at (limits .class)) (now (own .entry))) st) ⌝ }
 {
-    if equal(s, at, own, 0, Controller::CLASS_BYTES) {
-        return End::FINISHED;
+    if !equal(s, at, own, 0, Controller::CLASS_BYTES) {
+        return End::CONDITION_FAILED;
     }
-    End::CONDITION_FAILED
+    End::FINISHED
 }
 
 // 3, with the parameters p, for the slot of number k.
@@ -57,10 +57,10 @@ pub(crate) fn matches(s: &[u8], p: Params, slots: &[u8], k: usize) -> usize
     if wanted == 0 {
         return End::FINISHED;
     }
-    if wanted - 1 != size(slots, k) {
-        return End::CONDITION_FAILED;
+    if wanted - 1 == size(slots, k) {
+        return End::FINISHED;
     }
-    End::FINISHED
+    End::CONDITION_FAILED
 }
 
 // 23, for the slot of number k.

@@ -64,7 +64,7 @@ returns-5 c =
             not-false (d .equal .result) (c .before .before .before .if3 .left),
             ne-eqb _ _ (c .before .before .if4 .left),
             ← c .before .size .ensures,
-            ne-eqb _ _ (c .if5 .taken),
+            eq-eqb _ _ (c .if5 .taken),
           ),
     )
 
@@ -82,7 +82,7 @@ returns-6 c =
             not-false (d .equal .result) (c .before .before .before .if3 .left),
             ne-eqb _ _ (c .before .before .if4 .left),
             ← c .before .size .ensures,
-            eq-eqb _ _ (c .if5 .left),
+            ne-eqb _ _ (c .if5 .left),
           ),
     )
 
