@@ -2,7 +2,7 @@
 use Prim.Native.Nat.{ℕ, _+_, _≤_}
 use mathlib.Core.Path.{_≡_, ap, _∙_}
 use mathlib.Core.Bool.{Bool}
-use mathlib.Core.List.{List, []}
+use mathlib.Core.List.{List}
 use native.Mathlib.Omega.{arith}
 use lib.ListN.{length}
 use Rattle.rules.specs.Bytes.{Bytes}
@@ -14,7 +14,7 @@ use Rattle.rules.specs.Run.{runSeq, runCmd}
 use Rattle.rules_theorems.proofs.Effects.{namedBy, Changes, Reaches, follow-law, seq-reaches, cmd-reaches, step-reaches}
 use Rattle.rules_theorems.proofs.SlotLaws.{names-same}
 use Rattle.run_slots.specs.Params.{FitAll}
-use Rattle.run_commands.specs.Machine.{Host, Lent}
+use Rattle.run_commands.specs.Machine.{Lent}
 
 -- from st to st′ with at most n events
 pub record Moves (st st′ : State) (n : ℕ) : Type 0 where

@@ -1,4 +1,5 @@
 pub mod GoodSlot
 pub mod ImageLaws
+pub mod NumbersLaws
 pub mod ParamsLaws
 pub mod SearchLaws

@@ -14,6 +14,7 @@ use Rattle.rules.specs.Bytes.{Bytes, part}
 use Rattle.rules.specs.Limits.{limits, paramNumbers, allParams}
 use Rattle.rules.specs.Commands as Rules
 use Rattle.rules.specs.Slots.{numbers}
+use Rattle.run_slots.proofs.NumbersLaws.{getD-numbers, set-numbers}
 use Rattle.run_slots.specs.declared.params.Params.{Params}
 use Rattle.run_slots.specs.Params.{paramsAt, stored, optional, meaning, overParams, paramsIn, Fit, FitAll}
 
@@ -32,24 +33,6 @@ meaning-over s a b =
       choose (λ p n. part s p (limits .digest)) (a .digest) 0 (b .digest) 0 (eqb (a .digest) 0) refl,
       choose (λ p n. p - 1) (a .size) 0 (b .size) 0 (eqb (a .size) 0) refl,
     )
-
-module _ {A : Type 0} where
-  getD-numbers : (f : ℕ → A) (d : A) (n k i : ℕ) → i < n → getD (map f (numbers n k)) i d ≡ f (k + i)
-  getD-numbers f d zero k i h = absurd (omega arith)
-  getD-numbers f d (suc n) k zero h = rw add-zero
-  getD-numbers f d (suc n) k (suc i) h = let e : k + suc i ≡ suc k + i = omega arith in rw e (getD-numbers f d n (suc k) i (omega arith))
-
-  map-numbers : (f g : ℕ → A) (n k : ℕ) → ((j : ℕ) → k ≤ j → g j ≡ f j) → map g (numbers n k) ≡ map f (numbers n k)
-  map-numbers f g zero k h = refl
-  map-numbers f g (suc n) k h = rw (h k (omega arith), map-numbers f g n (suc k) (λ j l. h j (omega arith)))
-
-  set-numbers : (f g : ℕ → A) (n k i : ℕ) → i < n → ((j : ℕ) → (j ≡ k + i → ⊥) → g j ≡ f j) →
-      map g (numbers n k) ≡ set (map f (numbers n k)) i (g (k + i))
-  set-numbers f g zero k i l h = absurd (omega arith)
-  set-numbers f g (suc n) k zero l h = rw (add-zero k, map-numbers f g n (suc k) (λ j m. h j (λ e. omega arith)))
-  set-numbers f g (suc n) k (suc i) l h =
-      let e : k + suc i ≡ suc k + i = omega arith in
-      rw (h k (λ q. omega arith), e, set-numbers f g n (suc k) i (omega arith) (λ j m. h j (λ q. m (omega arith))))
 
 pub params-at : (s : Bytes) (w : List ℕ) (n i : ℕ) → i < n → getD (paramsIn s w n) i Rules.unset ≡ meaning s (paramsAt w i)
 unfolding paramsIn

@@ -15,24 +15,10 @@ use Rattle.rules.specs.Bytes.{Bytes, Span, span, spanAt, bytesAt, part, same, m
 use Rattle.rules.specs.Limits.{limits}
 use Rattle.rules.specs.Slots.{slotBytes, idFrom, slotAt, numbers, slotsIn, slotNames, slotOf, goodSlot, allGood, goodSlots}
 use Rattle.rules.proofs.BytesLaws.{length-part}
+use Rattle.rules.proofs.GotLaws.{and-true}
 use Rattle.rules.proofs.SameLaws.{same-lengths}
+use Rattle.run_slots.proofs.NumbersLaws.{numbers-turn, numbers-end, numbers-length, numbers-at, getD-numbers}
 use Rattle.run_slots.specs.Slot.{Holds, Short, slotsFrom, namesFrom, namesAt, slotNumbers, Found}
-
--- the numbers from k on, before n
-numbers-turn : (k n : ℕ) → k < n → numbers (n - k) k ≡ k ∷ numbers (n - (k + 1)) (k + 1)
-numbers-turn k n l = let e : n - k ≡ suc (n - (k + 1)) = omega arith in rw (e, add-one k)
-
-numbers-end : (k n : ℕ) → n ≤ k → numbers (n - k) k ≡ []
-numbers-end k n l = let e : n - k ≡ 0 = omega arith in rw e
-
-numbers-length : (n k : ℕ) → length (numbers n k) ≡ n
-numbers-length zero k = refl
-numbers-length (suc n) k = ap suc (numbers-length n (suc k))
-
-numbers-at : (n k i : ℕ) → i < n → getD (numbers n k) i 0 ≡ k + i
-numbers-at zero k i l = absurd (omega arith)
-numbers-at (suc n) k zero l = sym (add-zero k)
-numbers-at (suc n) k (suc i) l = numbers-at n (suc k) i (omega arith) ∙ omega arith
 
 -- identifiers of different lengths are not the same
 module _ (b : Bytes) (k : ℕ) (short : getD b (slotBytes * k) 0 ≤ limits .identifier) where
@@ -181,13 +167,8 @@ module _ (s : Bytes) (a : List ℕ) where
   unfolding leftAt
   left-all n = let e : n - 0 ≡ n = omega arith in rw e
 
-  mapped : (n k i : ℕ) → i < n → getD (map (λ j. bytesAt s (spanAt a j)) (numbers n k)) i [] ≡ bytesAt s (spanAt a (k + i))
-  mapped zero k i l = absurd (omega arith)
-  mapped (suc n) k zero l = rw (add-zero k)
-  mapped (suc n) k (suc i) l = let e : k + suc i ≡ suc k + i = omega arith in rw e (mapped n (suc k) i (omega arith))
-
   pub name-at : (n i : ℕ) → i < n → getD (namesAt s a n) i [] ≡ bytesAt s (spanAt a i)
-  name-at n i l = mapped n 0 i l ∙ ap (λ (j : ℕ). bytesAt s (spanAt a j)) (omega arith)
+  name-at n i l = getD-numbers (λ j. bytesAt s (spanAt a j)) [] n 0 i l ∙ ap (λ (j : ℕ). bytesAt s (spanAt a j)) (omega arith)
 
   pub names-count : (n : ℕ) → length (namesAt s a n) ≡ n
   names-count n = length-map (numbers n 0) (λ k. bytesAt s (spanAt a k)) ∙ numbers-length n 0
@@ -287,22 +268,17 @@ module _ (b : Bytes) where
     all-well q q′ = good-rest ∙ rw (q, q′)
 
 -- good slots have short identifiers
-both-true : (p q : Bool) → (p && q) ≡ true → (p ≡ true) × (q ≡ true)
-both-true true true e = (refl, refl)
-both-true true false e = (refl, e)
-both-true false q e = (e, let z : _≡_ {A = ℕ} 0 1 = cc in absurd (omega arith))
-
 slot-short : (b : Bytes) (k : ℕ) → goodSlot (slotAt b k) ≡ true → getD b (slotBytes * k) 0 ≤ limits .identifier
 unfolding slotAt
 slot-short b k g =
-    let (u, _) = both-true (leb 1 (slotAt b k .idLength) && leb (slotAt b k .idLength) (limits .identifier)) _ g in
-    let (_, v) = both-true (leb 1 (slotAt b k .idLength)) (leb (slotAt b k .idLength) (limits .identifier)) u in
+    let (u, _) = and-true (leb 1 (slotAt b k .idLength) && leb (slotAt b k .idLength) (limits .identifier)) _ g in
+    let (_, v) = and-true (leb 1 (slotAt b k .idLength)) (leb (slotAt b k .idLength) (limits .identifier)) u in
     leb-true (getD b (slotBytes * k) 0) (limits .identifier) v
 
 each-good : (b : Bytes) (cs : List ℕ) → allGood (map (slotAt b) cs) ≡ true → (i : ℕ) → i < length cs → goodSlot (slotAt b (getD cs i 0)) ≡ true
 each-good b [] g i l = absurd (omega arith)
-each-good b (c ∷ cs) g zero l = both-true (goodSlot (slotAt b c)) (allGood (map (slotAt b) cs)) g .0
-each-good b (c ∷ cs) g (suc i) l = each-good b cs (both-true (goodSlot (slotAt b c)) (allGood (map (slotAt b) cs)) g .1) i (omega arith)
+each-good b (c ∷ cs) g zero l = and-true (goodSlot (slotAt b c)) (allGood (map (slotAt b) cs)) g .0
+each-good b (c ∷ cs) g (suc i) l = each-good b cs (and-true (goodSlot (slotAt b c)) (allGood (map (slotAt b) cs)) g .1) i (omega arith)
 
 pub all-short : (b : Bytes) → allGood (slotsFrom b 0 (length b / slotBytes)) ≡ true → Short b
 unfolding slotsFrom
@@ -314,10 +290,10 @@ all-short b g k l =
 
 pub good-parts : (b : Bytes) → goodSlots b ≡ true → (1 ≤ length b / slotBytes) × (allGood (slotsFrom b 0 (length b / slotBytes)) ≡ true)
 good-parts b g =
-    let (q, _) = both-true _ (not (repeats (namesFrom b 0 (count b)))) (sym (good-tests b) ∙ g) in
-    let (q′, good) = both-true _ (allGood (slotsFrom b 0 (count b))) q in
-    let (q″, _) = both-true _ (leb (count b) (limits .slots)) q′ in
-    let (_, some) = both-true (eqb (length b % slotBytes) 0) (leb 1 (count b)) q″ in
+    let (q, _) = and-true _ (not (repeats (namesFrom b 0 (count b)))) (sym (good-tests b) ∙ g) in
+    let (q′, good) = and-true _ (allGood (slotsFrom b 0 (count b))) q in
+    let (q″, _) = and-true _ (leb (count b) (limits .slots)) q′ in
+    let (_, some) = and-true (eqb (length b % slotBytes) 0) (leb 1 (count b)) q″ in
     (leb-true 1 (count b) some, good)
 
 pub good-short : (b : Bytes) → goodSlots b ≡ true → Short b

@@ -1,9 +1,5 @@
 // The fields of a slot.
 ghost use mathlib.Core.Path.{_≡_};
-ghost use Prim.Native.Nat.{_+_, _*_, _≤_};
-ghost use mathlib.Core.Bool.{not};
-ghost use lib.Dec.{eqb};
-ghost use lib.ListN.{length, getD};
 ghost use Rattle.rules.specs.Slots.{slotAt, goodSlot};
 ghost use Rattle.run_slots.specs.Slot.{Holds};
 use byte_buffer::four;
@@ -11,7 +7,6 @@ use rules::controller::Controller;
 use rules::slot_format::CAPACITY;
 use rules::slot_format::IMAGE;
 use rules::slot_format::SLOT_BYTES;
-use rules::slot_format::SLOT_DIGEST;
 use rules::slot_format::SLOT_SIZE;
 
 pub fn capacity(slots: &[u8], k: usize) -> usize
