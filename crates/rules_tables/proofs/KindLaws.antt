@@ -1,80 +1,99 @@
--- The codes of each kind of argument.
-use Prim.Native.Nat.{ℕ, _+_, _≤_}
-use mathlib.Core.Path.{_≡_, refl, sym, subst}
-use mathlib.Core.Bool.{Bool, true, false}
+-- The codes of each kind of argument. What holds of each row is one computed test over the table.
+use Prim.Native.Nat.{ℕ, _≤_}
+use mathlib.Core.Path.{_≡_, refl, sym, subst, _∙_}
+use mathlib.Core.List.{List, [], _∷_}
+use mathlib.Core.Bool.{Bool, true, false, not, _||_}
 use mathlib.Core.Logic.{_⊎_, inl, inr}
+use mathlib.Core.Option.{Option, some, none}
 use native.Mathlib.Omega.{arith}
 use lib.Dec.{eqb}
-use borrow.Author.Tests.{ne-eqb, eqb-true, eqb-false}
+use borrow.Author.Tests.{eqb-true}
 use Rattle.rules.specs.declared.tables.Argument.{Argument}
 use Rattle.rules.specs.declared.tables.Argument.the-variants.{Sixteen, Nil, Index, Alternatives, Parameters, Sequence}
-use Rattle.rules.specs.Commands.{rowOf}
+use Rattle.rules.specs.Commands.{Row, commands, rowOf, among}
+use Rattle.rules.specs.Tables as Tables
+use Rattle.rules.proofs.TableLaws.{rows-agree, Each, each-row}
 use Rattle.rules_tables.specs.Kinds.{kindOf}
 
--- neither 1 or 2 nor 19 or 20
+-- the codes with sixteen bytes, those with parameters, and neither
+abbrev sixteens : List ℕ
+sixteens = 1 ∷ 2 ∷ []
+
+abbrev parameterised : List ℕ
+parameterised = 19 ∷ 20 ∷ []
+
 abbrev pub Other : ℕ → Type 0
 Other c = (1 ≤ c → 3 ≤ c) × (19 ≤ c → 21 ≤ c)
 
-abbrev pub Codes : ℕ → Argument → Type 0
-Codes c Sixteen = (c ≡ 1) ⊎ (c ≡ 2)
-Codes c Nil = Other c
-Codes c Index = Other c
-Codes c Alternatives = Other c
-Codes c Parameters = (c ≡ 19) ⊎ (c ≡ 20)
-Codes c Sequence = Other c
+abbrev other : ℕ → Bool
+other c = not (among c sixteens || among c parameterised)
 
-abbrev Not : ℕ → ℕ → Type 0
-Not c k = c ≡ k → ⊥
+abbrev test : ℕ → Argument → Bool
+test c Sixteen = among c sixteens
+test c Nil = other c
+test c Index = other c
+test c Alternatives = other c
+test c Parameters = among c parameterised
+test c Sequence = other c
 
-passes : (c k : ℕ) → Not c k → Not c (k + 1) → k ≤ c → k + 2 ≤ c
-passes c k d e l = omega (arith, d, e, l)
+no : true ≡ false → ⊥
+no e = let z : _≡_ {A = ℕ} 0 1 = cc in omega arith
 
-unlisted : (c : ℕ) → Not c 1 → Not c 2 → Not c 3 → Not c 12 → Not c 14 → Not c 15 → Not c 19 → Not c 20 → Not c 21 → Not c 22 → Not c 23 → Not c 30 → Not c 32 → kindOf c ≡ Nil
+-- the row of a code has that code
+numbered : (rs : List Row) → Each (λ c r. r .number ≡ c) rs
+numbered [] = tt
+numbered (r ∷ rs) = (refl, numbered rs)
+
+row-number : (c : ℕ) (r : Row) → rowOf c commands ≡ some r → r .number ≡ c
+row-number c r e = each-row (λ c r. r .number ≡ c) commands c r (numbered commands) e
+
+-- each row's kind fits its code; a code without a row is none of those
+tested : (c : ℕ) → test c (kindOf c) ≡ true
 unfolding kindOf
-unlisted c d₁ d₂ d₃ d₁₂ d₁₄ d₁₅ d₁₉ d₂₀ d₂₁ d₂₂ d₂₃ d₃₀ d₃₂ =
-    rw (rowOf, ne-eqb c 1 d₁, ne-eqb c 2 d₂, ne-eqb c 3 d₃, ne-eqb c 12 d₁₂, ne-eqb c 14 d₁₄, ne-eqb c 15 d₁₅, ne-eqb c 19 d₁₉, ne-eqb c 20 d₂₀, ne-eqb c 21 d₂₁, ne-eqb c 22 d₂₂, ne-eqb c 23 d₂₃, ne-eqb c 30 d₃₀, ne-eqb c 32 d₃₂)
-
-pub codes : (c : ℕ) → Codes c (kindOf c)
-unfolding kindOf
-codes c = on 1 (λ z. rw z (inl refl))
-    λ d₁. on 2 (λ z. rw z (inr refl))
-    λ d₂. on 3 (λ z. rw z (λ l. omega (arith, l), λ l. omega (arith, l)))
-    λ d₃. on 12 (λ z. rw z (λ l. omega (arith, l), λ l. omega (arith, l)))
-    λ d₁₂. on 14 (λ z. rw z (λ l. omega (arith, l), λ l. omega (arith, l)))
-    λ d₁₄. on 15 (λ z. rw z (λ l. omega (arith, l), λ l. omega (arith, l)))
-    λ d₁₅. on 19 (λ z. rw z (inl refl))
-    λ d₁₉. on 20 (λ z. rw z (inr refl))
-    λ d₂₀. on 21 (λ z. rw z (λ l. omega (arith, l), λ l. omega (arith, l)))
-    λ d₂₁. on 22 (λ z. rw z (λ l. omega (arith, l), λ l. omega (arith, l)))
-    λ d₂₂. on 23 (λ z. rw z (λ l. omega (arith, l), λ l. omega (arith, l)))
-    λ d₂₃. on 30 (λ z. rw z (λ l. omega (arith, l), λ l. omega (arith, l)))
-    λ d₃₀. on 32 (λ z. rw z (λ l. omega (arith, l), λ l. omega (arith, l)))
-    λ d₃₂. subst (Codes c)
-    (sym (unlisted c d₁ d₂ d₃ d₁₂ d₁₄ d₁₅ d₁₉ d₂₀ d₂₁ d₂₂ d₂₃ d₃₀ d₃₂))
-    (passes c 1 d₁ d₂, passes c 19 d₁₉ d₂₀)
+tested c = go (rowOf c commands) refl
   where
-    on : (k : ℕ) → (c ≡ k → Codes c (kindOf c)) → ((c ≡ k → ⊥) → Codes c (kindOf c)) → Codes c (kindOf c)
-    on k p q = go (eqb c k) refl
+    not-listed : (k : ℕ) (r : Row) → rowOf k commands ≡ some r → rowOf c commands ≡ none → eqb c k ≡ false
+    not-listed k r e h = split (eqb c k) refl
       where
-        go : (b : Bool) → eqb c k ≡ b → Codes c (kindOf c)
-        go true e = p (eqb-true c k e)
-        go false e = q (eqb-false c k e)
+        split : (b : Bool) → eqb c k ≡ b → eqb c k ≡ false
+        split true q = let s : rowOf k commands ≡ none = subst (λ (x : ℕ). rowOf x commands ≡ none) (eqb-true c k q) h in let z : _≡_ {A = ℕ} 0 1 = cc in absurd (omega arith)
+        split false q = q
+
+    go : (o : Option Row) → rowOf c commands ≡ o → test c (kindOf c) ≡ true
+    go (some r) e =
+        let f : test (r .number) (Tables.kindOf (r .form)) ≡ true = rows-agree (λ x. test (x .number) (Tables.kindOf (x .form))) (λ x. true) c r refl e in
+        rw e (subst (λ (k : ℕ). test k (Tables.kindOf (r .form)) ≡ true) (row-number c r e) f)
+    go none e = rw (e, not-listed 1 _ refl e, not-listed 2 _ refl e, not-listed 19 _ refl e, not-listed 20 _ refl e)
+
+either : (c j k : ℕ) → among c (j ∷ k ∷ []) ≡ true → (c ≡ j) ⊎ (c ≡ k)
+either c j k e = go (eqb c j) (eqb c k) refl refl e
+  where
+    go : (a b : Bool) → eqb c j ≡ a → eqb c k ≡ b → (a || (b || false)) ≡ true → (c ≡ j) ⊎ (c ≡ k)
+    go true b p q h = inl (eqb-true c j p)
+    go false true p q h = inr (eqb-true c k q)
+    go false false p q h = absurd (no (sym h))
+
+neither : (c : ℕ) → other c ≡ true → Other c
+neither c h = (λ l. omega (arith, is-not 1 (λ e. rw e), is-not 2 (λ e. rw e)), λ l. omega (arith, is-not 19 (λ e. rw e), is-not 20 (λ e. rw e)))
+  where
+    is-not : (k : ℕ) → (c ≡ k → other c ≡ false) → c ≡ k → ⊥
+    is-not k f e = no (sym h ∙ f e)
 
 module _ (c : ℕ) where
   pub sixteen-codes : kindOf c ≡ Sixteen → (c ≡ 1) ⊎ (c ≡ 2)
-  sixteen-codes e = rw e at (codes c)
+  sixteen-codes e = either c 1 2 (rw e at (tested c))
 
   pub parameter-codes : kindOf c ≡ Parameters → (c ≡ 19) ⊎ (c ≡ 20)
-  parameter-codes e = rw e at (codes c)
+  parameter-codes e = either c 19 20 (rw e at (tested c))
 
   pub nil-codes : kindOf c ≡ Nil → Other c
-  nil-codes e = rw e at (codes c)
+  nil-codes e = neither c (rw e at (tested c))
 
   pub index-codes : kindOf c ≡ Index → Other c
-  index-codes e = rw e at (codes c)
+  index-codes e = neither c (rw e at (tested c))
 
   pub alternative-codes : kindOf c ≡ Alternatives → Other c
-  alternative-codes e = rw e at (codes c)
+  alternative-codes e = neither c (rw e at (tested c))
 
   pub sequence-codes : kindOf c ≡ Sequence → Other c
-  sequence-codes e = rw e at (codes c)
+  sequence-codes e = neither c (rw e at (tested c))
