@@ -8,7 +8,7 @@ use lib.ListN.{length, getD, replicate, length-map}
 use borrow.Author.Tests.{leb-true}
 use Rattle.rules.specs.declared.answers.Refusal.{Refusal}
 use Rattle.rules.specs.declared.answers.Refusal.the-variants.{EnvelopeTooLong}
-use Rattle.rules.specs.Limits.{limits}
+use Rattle.rules.specs.Limits.{limits, places}
 use Rattle.rules.specs.Bytes.{Bytes, Span, span, bytesAt, spanAt}
 use Rattle.rules.specs.Got.{Got, refused, got}
 use Rattle.rules.specs.Manifest.{Manifest, names}
@@ -37,14 +37,14 @@ module _ (s : Bytes) (number n : ℕ) (ids sections : List ℕ) (a : Accepted s 
   unfolding check
   envelope-short = leb-true _ _ (passed (leb (length s) (limits .envelope)) EnvelopeTooLong 0 _ (a .manifest) (a .checks) .0)
 
-  pub few : n ≤ 8
+  pub few : n ≤ limits .components
   few = omega (arith, counted, known .some-ids)
 
   pub number-small : number ≤ limits .largest
   number-small = omega (arith, a .numbered, known .number)
 
   spans : (k : ℕ) → k < length (a .manifest .ids) → spanAt ids k ≡ getD (a .manifest .ids) k (span 0 0)
-  spans k h = ap (λ (l : List ℕ). spanAt l k) (a .names) ∙ span-laid (a .manifest .ids) (replicate 16 0) k h
+  spans k h = ap (λ (l : List ℕ). spanAt l k) (a .names) ∙ span-laid (a .manifest .ids) (replicate places 0) k h
 
   pub inside : (k : ℕ) → k < n → (spanAt ids k .from ≤ spanAt ids k .to) × (spanAt ids k .to ≤ length s)
   inside k h =

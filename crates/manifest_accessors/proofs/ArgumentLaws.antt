@@ -48,7 +48,7 @@ module _ (s : Bytes) where
 
     sixteen-one : (op : Bytes → Op) → argument s deeper n m place (sixteen op) e at ≡ got (cmd, to) → IsOne
     unfolding argument
-    sixteen-one op q₀ = split _ (item BYTES 16 16 s e at) _ (cmd, to) q₀ λ h qh q₁. (op (part s (h .next) 16), none, sym (both q₁ .0))
+    sixteen-one op q₀ = split _ (item BYTES (limits .class) (limits .class) s e at) _ (cmd, to) q₀ λ h qh q₁. (op (part s (h .next) (limits .class)), none, sym (both q₁ .0))
 
     nil-one : (op : Op) → argument s deeper n m place (nil op) e at ≡ got (cmd, to) → IsOne
     unfolding argument

@@ -24,7 +24,7 @@ use Rattle.rules.proofs.CheckLaws.{item-law, number-law, one-of-kind, bytes-aft
 use Rattle.manifest_accessors.specs.declared.arguments.Args.{Args}
 use Rattle.run_slots.specs.Params.{meaning, Fit}
 use Rattle.manifest_accessors.specs.Heads.{HeadAt}
-use Rattle.manifest_accessors.specs.Arguments.{paramsOf, coerceOf, givenOf, Within, bareAt, overGiven, EntryAt, EntryPut}
+use Rattle.manifest_accessors.specs.Arguments.{paramsOf, coerceTrue, coerceFalse, coerceOf, trueByte, flagOf, givenOf, Within, bareAt, overGiven, EntryAt, EntryPut}
 use Rattle.manifest_accessors.proofs.HeadLaws.{one-of-whole, item-headed, number-headed, flag-at}
 
 -- what holds of each parameter and its key holds of the parameter of a key
@@ -44,17 +44,17 @@ param-of P (r ∷ rs) k x t e = go (eqb k (r .number)) refl (param-of P rs k x (
 
 -- a parameter's value by the head at its place
 module _ (s : Bytes) (n e at : ℕ) (f : e ≤ length s) (v : Given) (q : ℕ) where
-  coerce-read : parameter s n Coerce e at ≡ got (v, q) → (at < length s) × (q ≡ at + 1) × (v ≡ give (some (eqb (getD s at 0) 0xf5)) none none none none)
+  coerce-read : parameter s n Coerce e at ≡ got (v, q) → (at < length s) × (q ≡ at + 1) × (v ≡ give (some (eqb (getD s at 0) trueByte)) none none none none)
   unfolding parameter
   coerce-read q₀ =
       split _ (oneOf FALSE TRUE s e at) _ (v, q) q₀ λ h qh q₁.
       let (ev, eq) = both q₁ in
       let (l, kind) = go h (one-of-kind s FALSE TRUE e at h qh) in
       let (u, m, b) = flag-at s e at h (one-of-whole s e at h FALSE TRUE qh) l in
-      let t : eqb (h .kind) TRUE ≡ eqb (getD s at 0) 0xf5 = rw b kind in
+      let t : eqb (h .kind) TRUE ≡ eqb (getD s at 0) trueByte = rw b kind in
       (omega arith, sym eq ∙ m, sym ev ∙ (rw t))
     where
-      go : (h : Head) → (h .kind ≡ FALSE) ⊎ (h .kind ≡ TRUE) → (20 ≤ h .kind) × (eqb (h .kind) TRUE ≡ eqb (0xe0 + h .kind) 0xf5)
+      go : (h : Head) → (h .kind ≡ FALSE) ⊎ (h .kind ≡ TRUE) → (20 ≤ h .kind) × (eqb (h .kind) TRUE ≡ eqb (0xe0 + h .kind) trueByte)
       go h (inl i) = (omega arith, rw i)
       go h (inr i) = (omega arith, rw i)
 
@@ -99,19 +99,19 @@ module _ (s : Bytes) (n e at : ℕ) (f : e ≤ length s) (v : Given) (q : ℕ) w
 
   pub record DigestAt : Type 0 where
     pub headed : HeadAt s at
-    pub given : v ≡ give none none none (some (part s (headed .head .next) 32)) none
-    pub to : q ≡ headed .head .next + 32
+    pub given : v ≡ give none none none (some (part s (headed .head .next) (limits .digest))) none
+    pub to : q ≡ headed .head .next + limits .digest
     pub fits : q ≤ length s
     pub set : 0 < headed .head .next
 
   digest-read : parameter s n Digest e at ≡ got (v, q) → DigestAt
   unfolding parameter
   digest-read q₀ =
-      split _ (item BYTES 32 32 s e at) _ (v, q) q₀ λ h qh q₁.
+      split _ (item BYTES (limits .digest) (limits .digest) s e at) _ (v, q) q₀ λ h qh q₁.
       let (ev, eq) = both q₁ in
-      let i = item-law s BYTES 32 32 e at h qh in
+      let i = item-law s BYTES (limits .digest) (limits .digest) e at h qh in
       record {
-        headed = item-headed s BYTES 32 32 e at h f (omega arith) qh;
+        headed = item-headed s BYTES (limits .digest) (limits .digest) e at h f (omega arith) qh;
         given = sym ev;
         to = omega (arith, eq, bytes-after h (i .is), i .low, i .high);
         fits = omega (arith, i .fits);
@@ -149,7 +149,7 @@ module _ (s : Bytes) (key at : ℕ) (x : EntryAt s key at) where
   reads-as : (y : Parameter) → x .what ≡ y → parameter s (x .n) y (x .e) at ≡ got (x .given, x .to)
   reads-as y e = rw e at (x .reads)
 
-  pub entry-coerce : key ≡ 2 → (at < length s) × (x .to ≡ at + 1) × (x .given ≡ give (some (eqb (getD s at 0) 0xf5)) none none none none)
+  pub entry-coerce : key ≡ 2 → (at < length s) × (x .to ≡ at + 1) × (x .given ≡ give (some (eqb (getD s at 0) trueByte)) none none none none)
   entry-coerce k = coerce-read s (x .n) (x .e) at (x .fits) (x .given) (x .to) (reads-as Coerce (what-is key (x .what) Coerce (x .known) (rw k)))
 
   pub entry-uri : key ≡ 6 → UriAt s (x .n) (x .e) at (x .fits) (x .given) (x .to)
@@ -171,18 +171,18 @@ module _ (s : Bytes) (key at : ℕ) (x : EntryAt s key at) where
 abbrev pub Opens : Bytes → ℕ → ℕ → ℕ → Type 0
 Opens s at value next = (y : HeadAt s at) → (value ≡ y .head .num) × (next ≡ y .head .next)
 
-coerce-is : (t : Bool) → coerceOf (cond t 2 1) ≡ some t
+coerce-is : (t : Bool) → coerceOf (cond t coerceTrue coerceFalse) ≡ some t
 coerce-is true = refl
 coerce-is false = refl
 
 -- each parameter put over those of a
 module _ (s : Bytes) (key at : ℕ) (x : EntryAt s key at) (a : Args) where
-  pub put-coerce : key ≡ 2 → (b : ℕ) → b ≡ cond (eqb (getD s at 0) 0xf5) 2 1 → (next : ℕ) → next ≡ at + 1 →
+  pub put-coerce : key ≡ 2 → (b : ℕ) → b ≡ flagOf (getD s at 0) → (next : ℕ) → next ≡ at + 1 →
       EntryPut s key at x a
       (record { value = a .value; params = record { uri = a .params .uri; length = a .params .length; source = a .params .source; digest = a .params .digest; size = a .params .size }; coerce = b; next = next })
   put-coerce k b e next n =
       let (l, to, given) = entry-coerce s key at x k in
-      record { given = rw (given, e, coerce-is (eqb (getD s at 0) 0xf5)); next = omega arith; fit = λ f. record { source = f .source; digest = f .digest }; within = λ w. record { inside = w .inside; short = w .short } }
+      record { given = rw (given, e, coerce-is (eqb (getD s at 0) trueByte)); next = omega arith; fit = λ f. record { source = f .source; digest = f .digest }; within = λ w. record { inside = w .inside; short = w .short } }
 
   module _ (value next : ℕ) (o : Opens s at value next) where
     pub put-uri : key ≡ 6 →
@@ -216,7 +216,7 @@ module _ (s : Bytes) (key at : ℕ) (x : EntryAt s key at) (a : Args) where
 
     pub put-digest : key ≡ 11 →
         EntryPut s key at x a
-        (record { value = a .value; params = record { uri = a .params .uri; length = a .params .length; source = a .params .source; digest = next; size = a .params .size }; coerce = a .coerce; next = next + 32 })
+        (record { value = a .value; params = record { uri = a .params .uri; length = a .params .length; source = a .params .source; digest = next; size = a .params .size }; coerce = a .coerce; next = next + limits .digest })
     unfolding meaning
     put-digest k =
         let y = entry-digest s key at x k in

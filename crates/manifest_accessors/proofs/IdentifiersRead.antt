@@ -4,17 +4,18 @@ use mathlib.Core.Path.{_≡_, subst}
 use mathlib.Core.List.{List, [], _∷_, _++_, map}
 use mathlib.Core.Bool.{not}
 use native.Mathlib.Omega.{arith}
-use lib.Dec.{leb, eqb}
+use lib.Dec.{leb}
 use lib.ListN.{length, getD}
-use Rattle.rules.specs.declared.answers.Refusal.the-variants.{EnvelopeTooLong, NotCbor, Malformed, RepeatedIdentifier, WrongVersion}
+use Rattle.rules.specs.declared.answers.Refusal.the-variants.{Malformed, RepeatedIdentifier}
 use Rattle.rules.specs.Limits.{limits}
 use Rattle.rules.specs.Bytes.{Bytes, Span, span, bytesAt, member}
 use Rattle.rules.specs.Got.{got}
 use Rattle.rules.specs.Cbor.{ARRAY, MAP, item}
-use Rattle.rules.specs.Manifest.{Section, countAll, Manifest}
-use Rattle.rules.specs.Check.{number, key, inBytes, strings, identifier, identifiers, components, commonSeq, commonAt, sectionsAt, manifestAt, unread, check}
+use Rattle.rules.specs.Manifest.{Section, Manifest}
+use Rattle.rules.specs.Check.{key, inBytes, strings, identifier, identifiers, components, commonSeq, commonAt, check}
 use Rattle.rules.proofs.GotLaws.{passed, both, split, split₂}
 use Rattle.rules.proofs.CheckLaws.{Item, item-law, inBytes-law, strings-law}
+use Rattle.manifest_accessors.proofs.ManifestParts.{parts}
 
 -- a place in s
 abbrev pub In : Bytes → Span → Type 0
@@ -70,32 +71,7 @@ module _ (s : Bytes) where
       let (er, _) = both q₄ in
       rw (← er) (components-in (w .to) (w .from) ids (w .to) (omega (arith, j .fits)) (j .reads))
 
-  manifest-in : (e at : ℕ) (m : Manifest) (q : ℕ) → e ≤ length s → manifestAt s e at ≡ got (m, q) → AllIn s (m .ids)
-  unfolding manifestAt
-  manifest-in e at m q l q₀ =
-      split _ (item MAP 3 8 s e at) _ (m, q) q₀ λ h qh q₁.
-      split _ (key s 1 e (h .next)) _ (m, q) q₁ λ p qp q₂.
-      split₂ _ (number s e p) _ (m, q) q₂ λ version p₁ qv q₃.
-      let (_, q₄) = passed (eqb version 1) WrongVersion p _ (m, q) q₃ in
-      split _ (key s 2 e p₁) _ (m, q) q₄ λ p₂ qk q₅.
-      split₂ _ (number s e p₂) _ (m, q) q₅ λ n p₃ qn q₆.
-      split _ (key s 3 e p₃) _ (m, q) q₆ λ p₄ qk₃ q₇.
-      split₂ _ (inBytes s (commonAt s) e p₄) _ (m, q) q₇ λ c w qc q₈.
-      split₂ _ (sectionsAt s (length (c .0)) (h .num - 3) 8 (countAll (c .1)) e (w .to)) _ (m, q) q₈ λ ys p₆ qs q₉.
-      let j = inBytes-law s (commonAt s) e p₄ c w qc in
-      let (em, _) = both q₉ in
-      rw (← em) (common-in (w .to) (w .from) c (w .to) (omega (arith, j .fits)) (j .reads))
-
 pub ids-in : (s : Bytes) (m : Manifest) → check s ≡ got m → (k : ℕ) → k < length (m .ids) → In s (getD (m .ids) k (span 0 0))
-unfolding check
-ids-in s m q₀ k h =
-    let (_, q₁) = passed (leb (length s) (limits .envelope)) EnvelopeTooLong 0 _ m q₀ in
-    split _ (item MAP 2 2 s (length s) 0) _ m q₁ λ i qi q₂.
-    split _ (key s 1 (length s) (i .next)) _ m q₂ λ p qp q₃.
-    split _ (unread s (length s) p) _ m q₃ λ q qu q₄.
-    split _ (key s 3 (length s) q) _ m q₄ λ r qr q₅.
-    split₂ _ (inBytes s (manifestAt s) (length s) r) _ m q₅ λ m′ w qm q₆.
-    let (_, q₇) = passed (eqb (w .to) (length s)) NotCbor (w .to) _ m q₆ in
-    let j = inBytes-law s (manifestAt s) (length s) r m′ w qm in
-    let em : m′ ≡ m = cc in
-    nth s (m .ids) k (subst (λ (x : Manifest). AllIn s (x .ids)) em (manifest-in s (w .to) (w .from) m′ (w .to) (j .fits) (j .reads))) h
+ids-in s m q k h =
+    let x = parts s m q in
+    nth s (m .ids) k (rw (x .ids-are) (common-in s (x .place .to) (x .place .from) (x .common) (x .place .to) (x .inside) (x .reads))) h

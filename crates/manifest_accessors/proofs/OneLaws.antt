@@ -49,19 +49,19 @@ module _ (s : Bytes) (deeper : ℕ → Read Seq) (n m place e at : ℕ) (op : Op
 
   pub record SixteenAt (make : Bytes → Op) : Type 0 where
     pub headed : HeadAt s at
-    pub op-is : op ≡ make (part s (headed .head .next) 16)
+    pub op-is : op ≡ make (part s (headed .head .next) (limits .class))
     pub coerce-is : coerce ≡ none
-    pub to-is : to ≡ headed .head .next + 16
+    pub to-is : to ≡ headed .head .next + limits .class
     pub fits : to ≤ length s
 
   sixteen-read : (make : Bytes → Op) → Reads (sixteen make) → SixteenAt make
   unfolding argument
   sixteen-read make q₀ =
-      split _ (item BYTES 16 16 s e at) _ (one place op coerce, to) q₀ λ h qh q₁.
+      split _ (item BYTES (limits .class) (limits .class) s e at) _ (one place op coerce, to) q₀ λ h qh q₁.
       let (eo, et) = both q₁ in
-      let i = item-law s BYTES 16 16 e at h qh in
+      let i = item-law s BYTES (limits .class) (limits .class) e at h qh in
       record {
-        headed = item-headed s BYTES 16 16 e at h f (omega arith) qh;
+        headed = item-headed s BYTES (limits .class) (limits .class) e at h f (omega arith) qh;
         op-is = cc;
         coerce-is = cc;
         to-is = omega (arith, bytes-after h (i .is), i .low, i .high);
@@ -188,11 +188,11 @@ module _ (s : Bytes) (deeper : ℕ → Read Seq) (n m place e at : ℕ) (op : Op
       & tt)
 
 module _ (s : Bytes) (c v : ℕ) (p : Words.Params) where
-  op-1 : c ≡ 1 → opOf s c v p ≡ vendor (part s v 16)
+  op-1 : c ≡ 1 → opOf s c v p ≡ vendor (part s v (limits .class))
   unfolding opOf
   op-1 k = rw k
 
-  op-2 : c ≡ 2 → opOf s c v p ≡ class (part s v 16)
+  op-2 : c ≡ 2 → opOf s c v p ≡ class (part s v (limits .class))
   unfolding opOf
   op-2 k = rw k
 
@@ -228,7 +228,7 @@ module _ (s : Bytes) (c at : ℕ) (x : ArgumentAt s c at) where
     pub headed : HeadAt s at
     pub op-is : (p : Words.Params) → opOf s c (headed .head .next) p ≡ x .op
     pub coerce-is : x .coerce ≡ none
-    pub to-is : x .to ≡ headed .head .next + 16
+    pub to-is : x .to ≡ headed .head .next + limits .class
     pub fits : x .to ≤ length s
 
   pub one-sixteen : (c ≡ 1) ⊎ (c ≡ 2) → Sixteen
@@ -297,7 +297,7 @@ module _ (s : Bytes) (c at : ℕ) (x : ArgumentAt s c at) where
       go false e = omega (arith, one-plain .1 (eqb-false _ _ e) i)
 
   module _ (value next : ℕ) (o : Opens s at value next) where
-    pub read-sixteen : (c ≡ 1) ⊎ (c ≡ 2) → ArgumentRead s c at x (bareAt next (next + 16))
+    pub read-sixteen : (c ≡ 1) ⊎ (c ≡ 2) → ArgumentRead s c at x (bareAt next (next + limits .class))
     read-sixteen k =
         let y = one-sixteen k in
         let (ev, en) = o (y .headed) in

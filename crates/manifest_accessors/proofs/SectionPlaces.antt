@@ -11,6 +11,7 @@ use borrow.Author.Tests.{eqb-true, eqb-false}
 use Rattle.rules.specs.declared.answers.Group.{Group}
 use Rattle.rules.specs.Bytes.{Bytes}
 use Rattle.rules.specs.Commands.{among}
+use Rattle.rules.specs.Limits.{sectionCount}
 use Rattle.rules.specs.Manifest.{Section}
 use Rattle.rules.specs.Run.{sectionsOf}
 use Rattle.manifest_accessors.specs.Sections.{keyOf}
@@ -23,7 +24,7 @@ one-answer b t f = let z : _≡_ {A = Bool} true false = sym t ∙ f in let y : 
 abbrev pub Wanted : Group → List ℕ → ℕ → Bool → Type 0
 Wanted group places k w = w ≡ cond (eqb (getD places (2 * k + 1) 0) 0) false (among (keyOf k) (sectionsOf group))
 
-module _ (s : Bytes) (n : ℕ) (group : Group) (places : List ℕ) (k m : ℕ) (rest : List Section) (h : k < 6) (r : Rest s n places k m rest) where
+module _ (s : Bytes) (n : ℕ) (group : Group) (places : List ℕ) (k m : ℕ) (rest : List Section) (h : k < sectionCount) (r : Rest s n places k m rest) where
   -- section k is there, and the group's
   abbrev pub Taken : Type 0
   Taken = (x : Here s n places k m rest) × (among (x .section .key) (sectionsOf group) ≡ true)

@@ -1,25 +1,25 @@
 -- The sections of a checked manifest, one after the other, and where their places stand in the array.
 use Prim.Native.Nat.{ℕ, zero, suc, _+_, _-_, _*_, _≤_, _<_}
-use mathlib.Core.Path.{_≡_, refl, ap, _∙_, subst}
+use mathlib.Core.Path.{_≡_, refl, ap, _∙_}
 use mathlib.Core.List.{List, [], _∷_, _++_}
 use native.Mathlib.Omega.{arith}
 use native.Mathlib.Nat.{eq-or-lt-of-le}
 use mathlib.Core.Logic.{_⊎_, inl, inr}
-use lib.Dec.{leb, eqb}
 use lib.ListN.{length, getD, set, replicate, length-set, length-replicate}
 use lib.Seq.{getD-set-same, getD-set-other}
 use borrow.Author.Tests.{ne-eqb}
-use Rattle.rules.specs.declared.answers.Refusal.the-variants.{EnvelopeTooLong, NotCbor, WrongVersion}
-use Rattle.rules.specs.Limits.{limits}
+use Rattle.rules.specs.Limits.{limits, sectionCount, sectionPlaces}
 use Rattle.rules.specs.Bytes.{Bytes, Span}
 use Rattle.rules.specs.Got.{got}
 use Rattle.rules.specs.Cbor.{NUMBER, MAP, item}
+use Rattle.rules.specs.Commands.{COMMON, PAYLOAD_FETCH, RUN}
 use Rattle.rules.specs.Manifest.{count, Section, countAll, Manifest}
-use Rattle.rules.specs.Check.{number, key, inBytes, components, sequenceAt, sectionAt, commonSeq, commonAt, sectionsAt, manifestAt, unread, check}
+use Rattle.rules.specs.Check.{key, inBytes, components, sequenceAt, sectionAt, commonSeq, commonAt, sectionsAt, check}
 use Rattle.rules.proofs.GotLaws.{passed, both, split, split₂}
 use Rattle.rules.proofs.CheckLaws.{item-law, inBytes-law}
 use Rattle.check_manifest.specs.Sections.{sectionNo, placedOne, placed}
 use Rattle.manifest_accessors.specs.Sections.{keyOf}
+use Rattle.manifest_accessors.proofs.ManifestParts.{Parts, parts}
 
 -- a section as check read it, after m commands; its number is at least `least`
 pub record ArgumentRead (s : Bytes) (n m least : ℕ) (x : Section) : Type 0 where
@@ -27,7 +27,7 @@ pub record ArgumentRead (s : Bytes) (n m least : ℕ) (x : Section) : Type 0 whe
   pub some-bytes : 0 < x .place .to
   pub fits : x .place .to ≤ length s
   pub low : least ≤ sectionNo (x .key)
-  pub high : sectionNo (x .key) < 6
+  pub high : sectionNo (x .key) < sectionCount
   pub named : x .key ≡ keyOf (sectionNo (x .key))
 
 -- sections whose numbers ascend from `low` on
@@ -60,7 +60,7 @@ module _ (s : Bytes) where
       let (ex, eq) = both q₁ in
       rw (← ex) (record { key = refl; reads = i .reads; some-bytes = omega (arith, i .up, i .mid); fits = i .fits })
 
-  numbered : (n k m e at : ℕ) (x : Section) (q low : ℕ) → e ≤ length s → Sequenced n k m e at x q → low ≤ sectionNo k → sectionNo k < 6 → k ≡ keyOf (sectionNo k) →
+  numbered : (n k m e at : ℕ) (x : Section) (q low : ℕ) → e ≤ length s → Sequenced n k m e at x q → low ≤ sectionNo k → sectionNo k < sectionCount → k ≡ keyOf (sectionNo k) →
       ArgumentRead s n m low x
   numbered n k m e at x q low l r a b c =
       record {
@@ -72,27 +72,27 @@ module _ (s : Bytes) where
         named = rw (r .key) c;
       }
 
-  number-of : (k : ℕ) → 8 ≤ k → sectionNo k ≡ k - 7
-  number-of k h = rw (ne-eqb k 3 (λ e. omega arith))
+  number-of : (k : ℕ) → PAYLOAD_FETCH ≤ k → sectionNo k ≡ k - (PAYLOAD_FETCH - 1)
+  number-of k h = rw (ne-eqb k COMMON (λ e. omega arith))
 
-  key-of : (k : ℕ) → 8 ≤ k → k ≡ keyOf (sectionNo k)
-  key-of k h = rw (number-of k h, ne-eqb (k - 7) 0 (λ e. omega arith)) (omega arith)
+  key-of : (k : ℕ) → PAYLOAD_FETCH ≤ k → k ≡ keyOf (sectionNo k)
+  key-of k h = rw (number-of k h, ne-eqb (k - (PAYLOAD_FETCH - 1)) 0 (λ e. omega arith)) (omega arith)
 
-  sections-read : (n k low m e at : ℕ) (xs : List Section) (q : ℕ) → e ≤ length s → 8 ≤ low → sectionsAt s n k low m e at ≡ got (xs, q) → ReadAll s n m (low - 7) xs
+  sections-read : (n k low m e at : ℕ) (xs : List Section) (q : ℕ) → e ≤ length s → PAYLOAD_FETCH ≤ low → sectionsAt s n k low m e at ≡ got (xs, q) → ReadAll s n m (low - (PAYLOAD_FETCH - 1)) xs
   unfolding sectionsAt
   sections-read n zero low m e at xs q l h q₀ = let (ex, _) = both q₀ in rw (← ex) tt
   sections-read n (suc k) low m e at xs q l h q₀ =
-      split _ (item NUMBER low 12 s e at) _ (xs, q) q₀ λ i qi q₁.
+      split _ (item NUMBER low RUN s e at) _ (xs, q) q₀ λ i qi q₁.
       split₂ _ (sectionAt s n (i .num) m e (i .next)) _ (xs, q) q₁ λ x p qx q₂.
       split₂ _ (sectionsAt s n k (i .num + 1) (m + count (x .seq)) e p) _ (xs, q) q₂ λ ys p′ qs q₃.
-      let j = item-law s NUMBER low 12 e at i qi in
+      let j = item-law s NUMBER low RUN e at i qi in
       let r = section-reads n (i .num) m e (i .next) x p qx in
-      let b : 8 ≤ i .num = omega (arith, j .low) in
-      let f : sectionNo (i .num) ≡ i .num - 7 = number-of (i .num) b in
-      let g : sectionNo (x .key) + 1 ≡ i .num + 1 - 7 = ap (λ (z : ℕ). sectionNo z + 1) (r .key) ∙ omega arith in
+      let b : PAYLOAD_FETCH ≤ i .num = omega (arith, j .low) in
+      let f : sectionNo (i .num) ≡ i .num - (PAYLOAD_FETCH - 1) = number-of (i .num) b in
+      let g : sectionNo (x .key) + 1 ≡ i .num + 1 - (PAYLOAD_FETCH - 1) = ap (λ (z : ℕ). sectionNo z + 1) (r .key) ∙ omega arith in
       let t = sections-read n k (i .num + 1) (m + count (x .seq)) e p ys p′ l (omega arith) qs in
       let (ex, _) = both q₃ in
-      rw (← ex, g) (numbered n (i .num) m e (i .next) x p (low - 7) l r (omega (arith, j .low)) (omega (arith, j .high)) (key-of (i .num) b), t)
+      rw (← ex, g) (numbered n (i .num) m e (i .next) x p (low - (PAYLOAD_FETCH - 1)) l r (omega (arith, j .low)) (omega (arith, j .high)) (key-of (i .num) b), t)
 
   -- common's sequence, if there is one, before the sections
   common-read : (n k e at : ℕ) (xs ys : List Section) (q : ℕ) → e ≤ length s → commonSeq s n k e at ≡ got (xs, q) → ReadAll s n (countAll xs) 1 ys →
@@ -101,55 +101,35 @@ module _ (s : Bytes) where
   common-read n zero e at xs ys q l q₀ h = let (ex, _) = both q₀ in rw (← ex) (lower s n 0 1 0 ys (omega arith) (rw (← ex) at h))
   common-read n (suc k) e at xs ys q l q₀ h =
       split _ (key s 4 e at) _ (xs, q) q₀ λ p qp q₁.
-      split₂ _ (sectionAt s n 3 0 e p) _ (xs, q) q₁ λ x next qx q₂.
-      let r = section-reads n 3 0 e p x next qx in
+      split₂ _ (sectionAt s n COMMON 0 e p) _ (xs, q) q₁ λ x next qx q₂.
+      let r = section-reads n COMMON 0 e p x next qx in
       let (ex, _) = both q₂ in
       let g : sectionNo (x .key) + 1 ≡ 1 = ap (λ (z : ℕ). sectionNo z + 1) (r .key) in
       let c : 0 + count (x .seq) ≡ count (x .seq) + 0 = omega arith in
-      rw (← ex, g, c) (numbered n 3 0 e p x next 0 l r (omega arith) (omega arith) refl, rw (← ex) at h)
+      rw (← ex, g, c) (numbered n COMMON 0 e p x next 0 l r (omega arith) (omega arith) refl, rw (← ex) at h)
 
-  manifest-read : (e at : ℕ) (m : Manifest) (q : ℕ) → e ≤ length s → manifestAt s e at ≡ got (m, q) → ReadAll s (length (m .ids)) 0 0 (m .sections)
-  unfolding manifestAt commonAt
-  manifest-read e at m q l q₀ =
-      split _ (item MAP 3 8 s e at) _ (m, q) q₀ λ h qh q₁.
-      split _ (key s 1 e (h .next)) _ (m, q) q₁ λ p qp q₂.
-      split₂ _ (number s e p) _ (m, q) q₂ λ version p₁ qv q₃.
-      let (_, q₄) = passed (eqb version 1) WrongVersion p _ (m, q) q₃ in
-      split _ (key s 2 e p₁) _ (m, q) q₄ λ p₂ qk q₅.
-      split₂ _ (number s e p₂) _ (m, q) q₅ λ n p₃ qn q₆.
-      split _ (key s 3 e p₃) _ (m, q) q₆ λ p₄ qk₃ q₇.
-      split₂ _ (inBytes s (commonAt s) e p₄) _ (m, q) q₇ λ c w qc q₈.
-      split₂ _ (sectionsAt s (length (c .0)) (h .num - 3) 8 (countAll (c .1)) e (w .to)) _ (m, q) q₈ λ ys p₆ qs q₉.
-      let j = inBytes-law s (commonAt s) e p₄ c w qc in
-      let (em, _) = both q₉ in
-      let t = sections-read (length (c .0)) (h .num - 3) 8 (countAll (c .1)) e (w .to) ys p₆ l (omega arith) qs in
-      split _ (item MAP 1 2 s (w .to) (w .from)) _ (c, w .to) (j .reads) λ h′ qh′ r₁.
-      split _ (key s 2 (w .to) (h′ .next)) _ (c, w .to) r₁ λ p′ qp′ r₂.
-      split₂ _ (inBytes s (components s) (w .to) p′) _ (c, w .to) r₂ λ ids v qi r₃.
-      split₂ _ (commonSeq s (length ids) (h′ .num - 1) (w .to) (v .to)) _ (c, w .to) r₃ λ xs p₇ qx r₄.
-      let (ec, _) = both r₄ in
-      let ei : ids ≡ c .0 = ap (λ (z : List Span × List Section). z .0) ec in
-      let es : xs ≡ c .1 = ap (λ (z : List Span × List Section). z .1) ec in
-      rw (← em) (rw (ei, es) at (common-read (length ids) (h′ .num - 1) (w .to) (v .to) xs ys p₇ (omega (arith, j .fits)) qx (rw (ei, es) t)))
+sections-in : (s : Bytes) (m : Manifest) → Parts s m → ReadAll s (length (m .ids)) 0 0 (m .sections)
+unfolding commonAt
+sections-in s m x =
+    let c = x .common in
+    let w = x .place in
+    let t = sections-read s (length (c .0)) (x .entries) PAYLOAD_FETCH (countAll (c .1)) (x .e) (w .to) (x .sections) (x .next) (x .fits) (omega arith) (x .follow) in
+    split _ (item MAP 1 2 s (w .to) (w .from)) _ (c, w .to) (x .reads) λ h qh r₁.
+    split _ (key s 2 (w .to) (h .next)) _ (c, w .to) r₁ λ p qp r₂.
+    split₂ _ (inBytes s (components s) (w .to) p) _ (c, w .to) r₂ λ ids v qi r₃.
+    split₂ _ (commonSeq s (length ids) (h .num - 1) (w .to) (v .to)) _ (c, w .to) r₃ λ xs next qx r₄.
+    let (ec, _) = both r₄ in
+    let ei : ids ≡ c .0 = ap (λ (z : List Span × List Section). z .0) ec in
+    let es : xs ≡ c .1 = ap (λ (z : List Span × List Section). z .1) ec in
+    rw (x .ids-are, x .sections-are) (rw (ei, es) at (common-read s (length ids) (h .num - 1) (w .to) (v .to) xs (x .sections) next (x .inside) qx (rw (ei, es) t)))
 
 pub sections-of : (s : Bytes) (m : Manifest) → check s ≡ got m → ReadAll s (length (m .ids)) 0 0 (m .sections)
-unfolding check
-sections-of s m q₀ =
-    let (_, q₁) = passed (leb (length s) (limits .envelope)) EnvelopeTooLong 0 _ m q₀ in
-    split _ (item MAP 2 2 s (length s) 0) _ m q₁ λ h qh q₂.
-    split _ (key s 1 (length s) (h .next)) _ m q₂ λ p qp q₃.
-    split _ (unread s (length s) p) _ m q₃ λ q qu q₄.
-    split _ (key s 3 (length s) q) _ m q₄ λ r qr q₅.
-    split₂ _ (inBytes s (manifestAt s) (length s) r) _ m q₅ λ m′ w qm q₆.
-    let (_, q₇) = passed (eqb (w .to) (length s)) NotCbor (w .to) _ m q₆ in
-    let j = inBytes-law s (manifestAt s) (length s) r m′ w qm in
-    let em : m′ ≡ m = cc in
-    subst (λ (x : Manifest). ReadAll s (length (x .ids)) 0 0 (x .sections)) em (manifest-read s (w .to) (w .from) m′ (w .to) (j .fits) (j .reads))
+sections-of s m q = sections-in s m (parts s m q)
 
 -- what is left of the sections from number k on, in the array of places
 pub record Rest (s : Bytes) (n : ℕ) (places : List ℕ) (k m : ℕ) (rest : List Section) : Type 0 where
   pub array : List ℕ
-  pub size : length array ≡ 12
+  pub size : length array ≡ sectionPlaces
   pub empty : (i : ℕ) → 2 * k ≤ i → getD array i 0 ≡ 0
   pub stands : places ≡ placed rest array
   pub read : ReadAll s n m k rest
@@ -174,7 +154,7 @@ module _ (s : Bytes) (n : ℕ) where
       kept xs (m + count (x .seq)) (sectionNo (x .key) + 1) (placedOne x a) i (r .1) (omega arith) ∙ kept-one x a i (inl f)
 
   -- the places of the first section
-  module _ (x : Section) (xs : List Section) (m low : ℕ) (a : List ℕ) (l : length a ≡ 12) (r : ReadAll s n m low (x ∷ xs)) where
+  module _ (x : Section) (xs : List Section) (m low : ℕ) (a : List ℕ) (l : length a ≡ sectionPlaces) (r : ReadAll s n m low (x ∷ xs)) where
     first-from : getD (placed (x ∷ xs) a) (2 * sectionNo (x .key)) 0 ≡ x .place .from
     first-from =
         kept xs (m + count (x .seq)) (sectionNo (x .key) + 1) (placedOne x a) (2 * sectionNo (x .key)) (r .1) (omega arith)
@@ -187,12 +167,12 @@ module _ (s : Bytes) (n : ℕ) where
         ∙ getD-set-same (set a (2 * sectionNo (x .key)) (x .place .from)) (2 * sectionNo (x .key) + 1) (x .place .to) 0
         (omega (arith, r .0 .high, length-set a (2 * sectionNo (x .key)) (x .place .from)))
 
-  pub rest-start : (places : List ℕ) (m : Manifest) → length (m .ids) ≡ n → check s ≡ got m → places ≡ placed (m .sections) (replicate 12 0) → Rest s n places 0 0 (m .sections)
+  pub rest-start : (places : List ℕ) (m : Manifest) → length (m .ids) ≡ n → check s ≡ got m → places ≡ placed (m .sections) (replicate sectionPlaces 0) → Rest s n places 0 0 (m .sections)
   rest-start places m e q h =
       record {
-        array = replicate 12 0;
-        size = length-replicate {A = ℕ} 12 0;
-        empty = λ i l. zeros 12 i;
+        array = replicate sectionPlaces 0;
+        size = length-replicate {A = ℕ} sectionPlaces 0;
+        empty = λ i l. zeros sectionPlaces i;
         stands = h;
         read = rw e at (sections-of s m q);
       }
@@ -202,7 +182,7 @@ module _ (s : Bytes) (n : ℕ) where
       zeros (suc k) zero = refl
       zeros (suc k) (suc i) = zeros k i
 
-  pub rest-end : (places : List ℕ) (k m : ℕ) (rest : List Section) → 6 ≤ k → Rest s n places k m rest → rest ≡ []
+  pub rest-end : (places : List ℕ) (k m : ℕ) (rest : List Section) → sectionCount ≤ k → Rest s n places k m rest → rest ≡ []
   rest-end places k m [] h r = refl
   rest-end places k m (x ∷ xs) h r = absurd (omega (arith, r .read .0 .low, r .read .0 .high))
 
@@ -236,7 +216,7 @@ module _ (s : Bytes) (n : ℕ) where
       pub read : ArgumentRead s n m k section
       pub left : Rest s n places (k + 1) (m + count (section .seq)) others
 
-    pub rest-some : (rest : List Section) → k < 6 → (getD places (2 * k + 1) 0 ≡ 0 → ⊥) → Rest s n places k m rest → Here rest
+    pub rest-some : (rest : List Section) → k < sectionCount → (getD places (2 * k + 1) 0 ≡ 0 → ⊥) → Rest s n places k m rest → Here rest
     rest-some [] h d r = absurd (d (ap (λ (l : List ℕ). getD l (2 * k + 1) 0) (r .stands) ∙ r .empty (2 * k + 1) (omega arith)))
     rest-some (x ∷ xs) h d r = go (eq-or-lt-of-le (r .read .0 .low))
       where

@@ -7,6 +7,8 @@ use lib.Dec.{eqb}
 use lib.ListN.{length}
 use Rattle.rules.specs.Bytes.{Bytes}
 use Rattle.rules.specs.Got.{got}
+use Rattle.rules.specs.Cbor.{TRUE}
+use Rattle.rules.specs.Limits.{limits}
 use Rattle.rules.specs.declared.tables.Parameter.{Parameter}
 use Rattle.rules.specs.Commands.{Op, setIndex, code, component, Row, rowOf, commands, orElse, over, params, paramOf}
 use Rattle.rules.specs.Manifest.{Seq, one}
@@ -19,9 +21,22 @@ use Rattle.run_commands.specs.Op.{opOf}
 abbrev pub paramsOf : Args → Params
 paramsOf a = a .params
 
--- coerce as a number: 0 unset, 1 false, 2 true
+-- coerce as a number; 0 is unset
+abbrev pub coerceFalse : ℕ
+coerceFalse = 1
+
+abbrev pub coerceTrue : ℕ
+coerceTrue = 2
+
 abbrev pub isTrue : ℕ → Bool
-isTrue n = eqb n 2
+isTrue n = eqb n coerceTrue
+
+-- CBOR's true, false and nil are one byte each: 0xe0 and the kind
+abbrev pub trueByte : ℕ
+trueByte = 0xe0 + TRUE
+
+abbrev pub flagOf : ℕ → ℕ
+flagOf b = cond (eqb b trueByte) coerceTrue coerceFalse
 
 abbrev pub coerceOf : ℕ → Option Bool
 coerceOf n = optional n (isTrue n)
@@ -95,6 +110,6 @@ pub record ArgumentRead (s : Bytes) (c at : ℕ) (x : ArgumentAt s c at) (a : Ar
   pub next : a .next ≡ x .to
   pub fit : Fit s (x .n) (paramsOf a)
   pub within : Within s (paramsOf a)
-  pub sixteen : c < 3 → a .value + 16 ≤ length s
+  pub sixteen : c < 3 → a .value + limits .class ≤ length s
   pub inside : (i : ℕ) → i < x .n → component (x .op) i < x .n
   pub component : (i : ℕ) → component (x .op) i ≡ componentOf c (a .value) i

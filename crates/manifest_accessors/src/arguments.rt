@@ -1,19 +1,31 @@
 // The arguments of commands that write an event, in an envelope that check has accepted.
 ghost use mathlib.Core.Path.{_≡_};
-ghost use lib.Dec.{eqb};
-ghost use mathlib.Core.Bool.{cond};
 ghost use Rattle.run_slots.specs.Params.{Fit};
-ghost use Rattle.manifest_accessors.specs.Arguments.{paramsOf, givenOf, Within, bareAt, componentOf, EntryAt, EntryPut, Entries, ArgumentAt, ArgumentRead};
+ghost use Rattle.manifest_accessors.specs.Arguments.{paramsOf, flagOf, givenOf, Within, bareAt, componentOf, EntryAt, EntryPut, Entries, ArgumentAt, ArgumentRead};
 use crate::heads::open;
+use rules::codes::CLASS;
 use rules::codes::COERCE;
 use rules::codes::DIGEST;
+use rules::codes::OVERRIDE_PARAMETERS;
 use rules::codes::SET_INDEX;
+use rules::codes::SET_PARAMETERS;
 use rules::codes::SOURCE;
 use rules::codes::URI;
+use rules::codes::VENDOR;
 use rules::controller::Controller;
 use run_slots::params::Params;
 
-// The place of 16 bytes or the new index; the parameters; coerce: 0 unset, 1 false, 2 true; and the place after.
+// Coerce as a number.
+const COERCE_UNSET: usize = 0;
+
+pub const COERCE_FALSE: usize = 1;
+
+pub const COERCE_TRUE: usize = 2;
+
+// The byte of CBOR's true.
+const TRUE: u8 = 0xf5;
+
+// The place of the bytes of an identity, or the new index; the parameters; coerce; and the place after.
 pub struct Args {
     pub value: usize,
     pub params: Params,
@@ -34,19 +46,19 @@ fn bare(value: usize, next: usize) -> Args
     Args {
         value,
         params,
-        coerce: 0,
+        coerce: COERCE_UNSET,
         next,
     }
 }
 
 // Coerce by the byte of false or true.
 fn flag(b: u8) -> usize
-    ensures { λ r. ⌜ r ≡ cond (eqb b 0xf5) 2 1 ⌝ }
+    ensures { λ r. ⌜ r ≡ flagOf b ⌝ }
 {
-    if b == 0xf5 {
-        return 2;
+    if b == TRUE {
+        return COERCE_TRUE;
     }
-    1
+    COERCE_FALSE
 }
 
 // The parameter under that key at `at`, after those of `a`.
@@ -104,21 +116,21 @@ pub fn read_entries(s: &[u8], k: usize, at: usize) -> Args
     a
 }
 
-// The argument at `at` of the command of that code.
+// The argument at `at` of the command of that code. The codes of each kind of argument are the table's (proofs/KindLaws).
 pub fn read_one(s: &[u8], code: usize, at: usize) -> Args
     requires { ⌜ ArgumentAt (now s) code at ⌝ }
     ensures { λ r. ⌜ ((x : ArgumentAt (now (s .entry)) code at) → ArgumentRead (now (s .entry)) code at x r) ⌝ }
 {
     match code {
-        1 | 2 => {
+        VENDOR | CLASS => {
             let h = open(s, at);
-            bare(h.next, h.next + 16)
+            bare(h.next, h.next + Controller::CLASS_BYTES)
         }
-        12 => {
+        SET_INDEX => {
             let h = open(s, at);
             bare(h.value, h.next)
         }
-        19 | 20 => {
+        SET_PARAMETERS | OVERRIDE_PARAMETERS => {
             let h = open(s, at);
             read_entries(s, h.value, h.next)
         }

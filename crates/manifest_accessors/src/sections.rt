@@ -4,13 +4,19 @@ ghost use Prim.Native.Nat.{_<_};
 ghost use mathlib.Core.Bool.{false, cond};
 ghost use lib.Dec.{eqb};
 ghost use Rattle.rules.specs.Commands.{among};
+ghost use Rattle.rules.specs.Limits.{sectionCount};
 ghost use Rattle.rules.specs.Run.{sectionsOf};
 ghost use Rattle.manifest_accessors.specs.Sections.{keyOf};
 use rules::answers::Group;
+use rules::codes::PAYLOAD_FETCH;
+use rules::codes::VALIDATE;
 
-// Whether the group does the section of number k, which ends at `to`: common's sequence is 0, sections 8 to 12 are 1 to 5.
+// The numbers of the sections: common's sequence 0, then the others as their keys ascend. A boot begins with validate.
+const FIRST_OF_BOOT: usize = VALIDATE - PAYLOAD_FETCH + 1;
+
+// Whether the group does the section of number k, which ends at `to`.
 pub fn wanted(group: Group, k: usize, to: usize) -> bool
-    requires { ⌜ k < 6 ⌝ }
+    requires { ⌜ k < sectionCount ⌝ }
     ensures { λ r. ⌜ r ≡ cond (eqb to 0) false (among (keyOf k) (sectionsOf group)) ⌝ }
 {
     if to == 0 {
@@ -20,7 +26,7 @@ pub fn wanted(group: Group, k: usize, to: usize) -> bool
         return true;
     }
     match group {
-        Group::Install => k < 3,
-        Group::Boot => 3 <= k,
+        Group::Install => k < FIRST_OF_BOOT,
+        Group::Boot => FIRST_OF_BOOT <= k,
     }
 }

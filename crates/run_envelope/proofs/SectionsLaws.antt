@@ -11,12 +11,14 @@ use borrow.Author.Tests.{ne-eqb}
 use Rattle.rules.specs.declared.answers.End.{End}
 use Rattle.rules.specs.declared.answers.End.the-variants.{Finished, ConditionFailed, Started, Failed}
 use Rattle.rules.specs.declared.answers.Group.{Group}
-use Rattle.rules.specs.Answers.{endOf, failureOf}
+use Rattle.rules.specs.Answers.{endNumber, endOf, failureOf}
 use Rattle.rules.specs.Bytes.{Bytes}
 use Rattle.rules.specs.Commands.{among}
+use Rattle.rules.specs.Limits.{limits, sectionCount}
 use Rattle.rules.specs.Manifest.{Seq, count, Section}
 use Rattle.rules.specs.Step.{Env, State, Out, out}
 use Rattle.rules.specs.Run.{on, runSeq, runAll, sectionsOf, chosen, planOf}
+use Rattle.manifest_accessors.specs.Arguments.{coerceFalse}
 use Rattle.run_sequence.specs.declared.Run.{Run}
 use Rattle.run_commands.specs.Machine.{stateAt}
 use Rattle.run_sequence.specs.Cycle.{stateOf, SequenceJob, SequenceRan}
@@ -26,8 +28,8 @@ use Rattle.run_sequence.proofs.Keeping.{Kept, ready-of, kept-of, kept-after, ev
 use Rattle.manifest_accessors.proofs.SectionsRead.{Rest, Here, rest-start, rest-end}
 use Rattle.manifest_accessors.proofs.SectionPlaces.{Wanted, Taken, taken, skipped}
 
--- an end is no success unless its number is 0
-not-finished : (n : ℕ) → (n ≡ 0 → ⊥) → endOf n ≡ Finished → ⊥
+-- an end is no success unless its number is that of finished
+not-finished : (n : ℕ) → (n ≡ endNumber Finished → ⊥) → endOf n ≡ Finished → ⊥
 not-finished n h e = go (eqb n 1) (eqb n 2) (rw (ne-eqb n 0 h) at e)
   where
     go : (a b : Bool) → cond a ConditionFailed (cond b Started (Failed (failureOf n))) ≡ Finished → ⊥
@@ -54,7 +56,7 @@ module _ (env : Env) (q : Seq) (qs : List Seq) (st : State) (e : End) (st′ : S
   unfolding on
   all-goes n = all-next ∙ rw n
 
-module _ (s vendor class : Bytes) (assigned : List ℕ) (answers : Bytes) (group : Group) (places : List ℕ) (env : Env) (plan : List Seq) (slots₀ : Bytes) (words₀ : List ℕ) (trace₀ : Bytes) where
+module _ (s vendor class : Bytes) (assigned : List ℕ) (answers : Bytes) (group : Group) (places : List ℕ) (env : Env) (plan : List Seq) (slots₀ : Bytes) (params₀ : List ℕ) (trace₀ : Bytes) where
   -- before section k: the rule's answer is that for the sections that are left, from what memory holds now
   pub record Left (slots : Bytes) (params : List ℕ) (trace : Bytes) (run : Run) (k : ℕ) : Type 0 where
     pub kept : Kept env s vendor class assigned answers slots params trace 0
@@ -62,11 +64,11 @@ module _ (s vendor class : Bytes) (assigned : List ℕ) (answers : Bytes) (group
     pub rest : List Section
     pub stand : Rest s (length (env .ids)) places k commands rest
     pub few : run .events ≤ commands
-    pub going : run .end ≡ 0
-    pub goes : runAll env plan (stateAt s (length (env .ids)) words₀ slots₀ trace₀ 0 0) ≡ runAll env (chosen (sectionsOf group) rest) (stateOf s (length (env .ids)) params slots trace run)
+    pub going : run .end ≡ endNumber Finished
+    pub goes : runAll env plan (stateAt s (length (env .ids)) params₀ slots₀ trace₀ 0 0) ≡ runAll env (chosen (sectionsOf group) rest) (stateOf s (length (env .ids)) params slots trace run)
 
   module _ (slots : Bytes) (params : List ℕ) (trace : Bytes) (run : Run) (k : ℕ) (l : Left slots params trace run k) where
-    pub all-done : 6 ≤ k → SectionsRan s env plan slots₀ words₀ trace₀ run slots params trace
+    pub all-done : sectionCount ≤ k → SectionsRan s env plan slots₀ params₀ trace₀ run slots params trace
     unfolding runAll
     all-done h =
         let e : l .rest ≡ [] = rest-end s (length (env .ids)) places k (l .commands) (l .rest) h (l .stand) in
@@ -92,7 +94,7 @@ module _ (s vendor class : Bytes) (assigned : List ℕ) (answers : Bytes) (group
 
     -- section k is run
     module _ (x : Here s (length (env .ids)) places k (l .commands) (l .rest)) where
-      abbrev job : SequenceJob s 4 (startOf (getD places (2 * k) 0) run) vendor class assigned answers slots params trace
+      abbrev job : SequenceJob s (limits .depth) (startOf (getD places (2 * k) 0) run) vendor class assigned answers slots params trace
       job =
           record {
             ready = ready-of s vendor class assigned answers env slots params trace 0 (l .kept);
@@ -109,63 +111,63 @@ module _ (s vendor class : Bytes) (assigned : List ℕ) (answers : Bytes) (group
                 };
           }
 
-      module _ (a : among (x .section .key) (sectionsOf group) ≡ true) (r : Run) (slots′ : Bytes) (words′ : List ℕ) (trace′ : Bytes)
-          (d : SequenceRan s env (x .section .seq) false (startOf (getD places (2 * k) 0) run) slots params trace r slots′ words′ trace′) where
+      module _ (a : among (x .section .key) (sectionsOf group) ≡ true) (r : Run) (slots′ : Bytes) (params′ : List ℕ) (trace′ : Bytes)
+          (d : SequenceRan s env (x .section .seq) false (startOf (getD places (2 * k) 0) run) slots params trace r slots′ params′ trace′) where
         first :
-            runAll env plan (stateAt s (length (env .ids)) words₀ slots₀ trace₀ 0 0)
+            runAll env plan (stateAt s (length (env .ids)) params₀ slots₀ trace₀ 0 0)
             ≡ runAll env (x .section .seq ∷ chosen (sectionsOf group) (x .others)) (stateOf s (length (env .ids)) params slots trace run)
         first = l .goes ∙ ap (λ (xs : List Section). runAll env (chosen (sectionsOf group) xs) (stateOf s (length (env .ids)) params slots trace run)) (x .all) ∙ rw a
 
-        stopped : (r .end ≡ 0 → ⊥) → SectionsRan s env plan slots₀ words₀ trace₀ r slots′ words′ trace′
+        stopped : (r .end ≡ endNumber Finished → ⊥) → SectionsRan s env plan slots₀ params₀ trace₀ r slots′ params′ trace′
         stopped n =
             record {
               goes = sym (first ∙ all-stops env (x .section .seq) _ _ _ _ (d .goes) (not-finished (r .end) n));
               late = d .late;
             }
 
-        went : r .end ≡ 0 → Left slots′ words′ trace′ r (k + 1)
+        went : r .end ≡ endNumber Finished → Left slots′ params′ trace′ r (k + 1)
         went z =
             let st : State = stateOf s (length (env .ids)) params slots trace run in
             let y : Moves st (runSeq env (x .section .seq) false 0 false st .state) (count (x .section .seq)) = moves-seq env (x .section .seq) false 0 false st in
             record {
-              kept = kept-after s vendor class assigned answers env slots params trace 0 (l .kept) run _ _ y r slots′ words′ trace′ (d .goes) (d .fit) 0 (l .kept .inside);
+              kept = kept-after s vendor class assigned answers env slots params trace 0 (l .kept) run _ _ y r slots′ params′ trace′ (d .goes) (d .fit) 0 (l .kept .inside);
               commands = l .commands + count (x .section .seq);
               rest = x .others;
               stand = x .left;
-              few = events-after s vendor class assigned answers (length (env .ids)) params slots trace run _ _ (l .commands) y (l .few) r slots′ words′ trace′ (d .goes);
+              few = events-after s vendor class assigned answers (length (env .ids)) params slots trace run _ _ (l .commands) y (l .few) r slots′ params′ trace′ (d .goes);
               going = z;
               goes = first ∙ all-goes env (x .section .seq) _ _ _ _ (d .goes) (rw z refl);
             }
 
     -- one turn of the loop, whether section k is run or not
-    module _ (h : k < 6) (w : Bool) (e : Wanted group places k w) where
+    module _ (h : k < sectionCount) (w : Bool) (e : Wanted group places k w) where
       its-section : w ≡ true → Taken s (length (env .ids)) group places k (l .commands) (l .rest) h (l .stand)
       its-section t = taken s (length (env .ids)) group places k (l .commands) (l .rest) h (l .stand) (sym t ∙ e)
 
-      pub turn-job : w ≡ true → SequenceJob s 4 (startOf (getD places (2 * k) 0) run) vendor class assigned answers slots params trace
+      pub turn-job : w ≡ true → SequenceJob s (limits .depth) (startOf (getD places (2 * k) 0) run) vendor class assigned answers slots params trace
       turn-job t = let (x, a) = its-section t in job x
 
-      module _ (r : Run) (slots′ : Bytes) (words′ : List ℕ) (trace′ : Bytes)
-          (run-it : w ≡ true → (j : SequenceJob s 4 (startOf (getD places (2 * k) 0) run) vendor class assigned answers slots params trace) →
-          SequenceRan s (j .ready .env) (j .place .seq) false (startOf (getD places (2 * k) 0) run) slots params trace r slots′ words′ trace′)
-          (skip-it : w ≡ false → (r ≡ run) × (slots′ ≡ slots) × (words′ ≡ params) × (trace′ ≡ trace)) where
-        pub turn-stops : (r .end ≡ 0 → ⊥) → SectionsRan s env plan slots₀ words₀ trace₀ r slots′ words′ trace′
+      module _ (r : Run) (slots′ : Bytes) (params′ : List ℕ) (trace′ : Bytes)
+          (run-it : w ≡ true → (j : SequenceJob s (limits .depth) (startOf (getD places (2 * k) 0) run) vendor class assigned answers slots params trace) →
+          SequenceRan s (j .ready .env) (j .place .seq) false (startOf (getD places (2 * k) 0) run) slots params trace r slots′ params′ trace′)
+          (skip-it : w ≡ false → (r ≡ run) × (slots′ ≡ slots) × (params′ ≡ params) × (trace′ ≡ trace)) where
+        pub turn-stops : (r .end ≡ endNumber Finished → ⊥) → SectionsRan s env plan slots₀ params₀ trace₀ r slots′ params′ trace′
         turn-stops n = go w refl
           where
-            go : (b : Bool) → w ≡ b → SectionsRan s env plan slots₀ words₀ trace₀ r slots′ words′ trace′
-            go true t = let (x, a) = its-section t in stopped x a r slots′ words′ trace′ (run-it t (job x)) n
+            go : (b : Bool) → w ≡ b → SectionsRan s env plan slots₀ params₀ trace₀ r slots′ params′ trace′
+            go true t = let (x, a) = its-section t in stopped x a r slots′ params′ trace′ (run-it t (job x)) n
             go false t = absurd (n (ap (λ (y : Run). y .end) (skip-it t .0) ∙ l .going))
 
-        pub turn-goes : r .end ≡ 0 → Left slots′ words′ trace′ r (k + 1)
+        pub turn-goes : r .end ≡ endNumber Finished → Left slots′ params′ trace′ r (k + 1)
         turn-goes z = go w refl
           where
-            go : (b : Bool) → w ≡ b → Left slots′ words′ trace′ r (k + 1)
-            go true t = let (x, a) = its-section t in went x a r slots′ words′ trace′ (run-it t (job x)) z
+            go : (b : Bool) → w ≡ b → Left slots′ params′ trace′ r (k + 1)
+            go true t = let (x, a) = its-section t in went x a r slots′ params′ trace′ (run-it t (job x)) z
             go false t = let (p, q, u, v) = skip-it t in rw (p, q, u, v) (⊎-elim not-there not-wanted (skipped s (length (env .ids)) group places k (l .commands) (l .rest) h (l .stand) (sym t ∙ e)))
 
 pub left-start : (s vendor class : Bytes) (assigned : List ℕ) (answers : Bytes) (group : Group) (places : List ℕ) (slots : Bytes) (params : List ℕ) (trace : Bytes) →
     (j : SectionsJob s places vendor class assigned answers slots params trace) →
-    Left s vendor class assigned answers group places (j .ready .env) (planOf group (j .manifest)) slots params trace slots params trace (record { next = 0; index = 0; coerce = 1; events = 0; used = 0; end = 0 }) 0
+    Left s vendor class assigned answers group places (j .ready .env) (planOf group (j .manifest)) slots params trace slots params trace (record { next = 0; index = 0; coerce = coerceFalse; events = 0; used = 0; end = endNumber Finished }) 0
 left-start s vendor class assigned answers group places slots params trace j =
     record {
       kept = kept-of s vendor class assigned answers slots params trace 0 (j .ready);

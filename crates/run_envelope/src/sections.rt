@@ -1,13 +1,17 @@
 // The sections of a group, one after the other.
 ghost use mathlib.Core.Path.{_≡_};
 ghost use mathlib.Core.Bool.{true, false};
+ghost use Rattle.rules.specs.Limits.{limits};
 ghost use Rattle.rules.specs.Run.{planOf};
 ghost use Rattle.run_sequence.specs.Cycle.{SequenceJob, SequenceRan};
 ghost use Rattle.run_envelope.specs.Sections.{startOf, SectionsJob, SectionsRan};
+use manifest_accessors::arguments::COERCE_FALSE;
 use manifest_accessors::sections::wanted;
+use rules::answers::End;
 use rules::answers::Group;
 use rules::controller::AllParameters;
 use rules::controller::Controller;
+use rules::controller::SECTIONS;
 use rules::controller::SectionPlaces;
 use rules::controller::Sixteen;
 use rules::controller::SlotNumbers;
@@ -28,8 +32,8 @@ fn run_section(
     params: &mut AllParameters,
     trace: &mut [u8],
 ) -> Run
-    requires { ⌜ (wanted ≡ true → SequenceJob (now s) 4 (startOf from run) (now vendor) (now class) (now assigned) (now answers) (now slots) (now params) (now trace)) ⌝ }
-    ensures { λ r. ⌜ (wanted ≡ true → (j : SequenceJob (now (s .entry)) 4 (startOf from run) (now (vendor .entry)) (now (class .entry)) (now (assigned .entry)) (now (answers .entry)) (now (slots .entry)) (now (params .entry)) (now (trace .entry))) → SequenceRan (now (s .entry)) (j .ready .env) (j .place .seq) false (startOf from run) (now (slots .entry)) (now (params .entry)) (now (trace .entry)) r (now (slots .exit)) (now (params .exit)) (now (trace .exit))) × (wanted ≡ false → (r ≡ run) × (now (slots .exit) ≡ now (slots .entry)) × (now (params .exit) ≡ now (params .entry)) × (now (trace .exit) ≡ now (trace .entry))) ⌝ }
+    requires { ⌜ (wanted ≡ true → SequenceJob (now s) (limits .depth) (startOf from run) (now vendor) (now class) (now assigned) (now answers) (now slots) (now params) (now trace)) ⌝ }
+    ensures { λ r. ⌜ (wanted ≡ true → (j : SequenceJob (now (s .entry)) (limits .depth) (startOf from run) (now (vendor .entry)) (now (class .entry)) (now (assigned .entry)) (now (answers .entry)) (now (slots .entry)) (now (params .entry)) (now (trace .entry))) → SequenceRan (now (s .entry)) (j .ready .env) (j .place .seq) false (startOf from run) (now (slots .entry)) (now (params .entry)) (now (trace .entry)) r (now (slots .exit)) (now (params .exit)) (now (trace .exit))) × (wanted ≡ false → (r ≡ run) × (now (slots .exit) ≡ now (slots .entry)) × (now (params .exit) ≡ now (params .entry)) × (now (trace .exit) ≡ now (trace .entry))) ⌝ }
 {
     if !wanted {
         return run;
@@ -41,10 +45,10 @@ fn run_section(
         Run {
             next: from,
             index: 0,
-            coerce: 1,
+            coerce: COERCE_FALSE,
             events: run.events,
             used: run.used,
-            end: 0,
+            end: End::FINISHED,
         },
         vendor,
         class,
@@ -75,13 +79,13 @@ pub fn run_sections(
     let mut now = Run {
         next: 0,
         index: 0,
-        coerce: 1,
+        coerce: COERCE_FALSE,
         events: 0,
         used: 0,
-        end: 0,
+        end: End::FINISHED,
     };
     let mut k = 0;
-    while k < 6 {
+    while k < SECTIONS {
         let from = sections[2 * k];
         let to = sections[2 * k + 1];
         now = run_section(
@@ -98,7 +102,7 @@ pub fn run_sections(
             trace,
         );
         let end = now.end;
-        if end != 0 {
+        if end != End::FINISHED {
             return now;
         }
         k += 1;

@@ -29,18 +29,18 @@ module _ (s vendor class : Bytes) (assigned : List ℕ) (answers : Bytes) where
   -- after a run of something, at another index
   pub kept-after : (env : Env) (slots : Bytes) (params : List ℕ) (trace : Bytes) (index : ℕ) → Kept env s vendor class assigned answers slots params trace index →
       (run : Run) (o : Out) (n : ℕ) → Moves (stateOf s (length (env .ids)) params slots trace run) (o .state) n →
-      (r : Run) (slots′ : Bytes) (words′ : List ℕ) (trace′ : Bytes) → outOf s (length (env .ids)) words′ slots′ trace′ r ≡ o → FitAll s (length (env .ids)) words′ →
-      (index′ : ℕ) → index′ < length (env .ids) → Kept env s vendor class assigned answers slots′ words′ trace′ index′
-  kept-after env slots params trace index k run o n m r slots′ words′ trace′ e fit index′ inside =
+      (r : Run) (slots′ : Bytes) (params′ : List ℕ) (trace′ : Bytes) → outOf s (length (env .ids)) params′ slots′ trace′ r ≡ o → FitAll s (length (env .ids)) params′ →
+      (index′ : ℕ) → index′ < length (env .ids) → Kept env s vendor class assigned answers slots′ params′ trace′ index′
+  kept-after env slots params trace index k run o n m r slots′ params′ trace′ e fit index′ inside =
       record {
         lent =
-            lent-after env s vendor class assigned answers slots params trace (k .lent) (stateOf s (length (env .ids)) params slots trace run) (o .state) n refl refl m slots′ words′ trace′
+            lent-after env s vendor class assigned answers slots params trace (k .lent) (stateOf s (length (env .ids)) params slots trace run) (o .state) n refl refl m slots′ params′ trace′
             (ap (λ (x : Out). x .state .slots) e) (ap (λ (x : Out). x .state .trace) e) fit;
         inside = inside;
       }
 
   pub events-after : (n : ℕ) (params : List ℕ) (slots trace : Bytes) (run : Run) (o : Out) (k m : ℕ) → Moves (stateOf s n params slots trace run) (o .state) k → run .events ≤ m →
-      (r : Run) (slots′ : Bytes) (words′ : List ℕ) (trace′ : Bytes) → outOf s n words′ slots′ trace′ r ≡ o → r .events ≤ m + k
-  events-after n params slots trace run o k m v few r slots′ words′ trace′ e =
+      (r : Run) (slots′ : Bytes) (params′ : List ℕ) (trace′ : Bytes) → outOf s n params′ slots′ trace′ r ≡ o → r .events ≤ m + k
+  events-after n params slots trace run o k m v few r slots′ params′ trace′ e =
       let es : r .events ≡ o .state .events = ap (λ (x : Out). x .state .events) e in
       omega (arith, v .events)

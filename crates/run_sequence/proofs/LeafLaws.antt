@@ -44,13 +44,13 @@ module _ (s : Bytes) (code at : ℕ) (run : Run) (vendor class : Bytes) (assigne
   pub leaf-room : 8 * run .events + 8 ≤ length trace
   leaf-room = omega (arith, j .few, j .ready .lent .room)
 
-  pub leaf-ran : (d : Progress) (slots′ : Bytes) (words′ : List ℕ) (trace′ : Bytes) → d .events ≡ run .events + 1 →
-      outAt s (length (j .ready .env .ids)) words′ slots′ trace′ d
+  pub leaf-ran : (d : Progress) (slots′ : Bytes) (params′ : List ℕ) (trace′ : Bytes) → d .events ≡ run .events + 1 →
+      outAt s (length (j .ready .env .ids)) params′ slots′ trace′ d
       ≡ step (j .ready .env) (opOf s code (a .value) (paramsOf a)) i (run .next) (stateAt s (length (j .ready .env .ids)) params slots trace (run .events) (run .used)) →
-      FitAll s (length (j .ready .env .ids)) words′ → (c : ℕ) → c ≡ cond (eqb (a .coerce) 0) (run .coerce) (a .coerce) →
+      FitAll s (length (j .ready .env .ids)) params′ → (c : ℕ) → c ≡ cond (eqb (a .coerce) 0) (run .coerce) (a .coerce) →
       CommandRan s (j .ready .env) (one (run .next) (j .argument .op) (j .argument .coerce)) (j .argument .to) run slots params trace
-      (record { next = a .next; index = i; coerce = c; events = d .events; used = d .used; end = d .end }) slots′ words′ trace′
-  leaf-ran d slots′ words′ trace′ ev goes fit c ec =
+      (record { next = a .next; index = i; coerce = c; events = d .events; used = d .used; end = d .end }) slots′ params′ trace′
+  leaf-ran d slots′ params′ trace′ ev goes fit c ec =
       record {
         goes = goes ∙ (rw (r .op, leaf-component) (sym (run-one _ _ _ _ _ _)));
         fit = fit;

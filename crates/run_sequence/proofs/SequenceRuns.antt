@@ -10,17 +10,15 @@ use borrow.Author.Tests.{ne-eqb}
 use Rattle.rules.specs.declared.answers.End.the-variants.{Finished, ConditionFailed, Started, Failed}
 use Rattle.rules.specs.Answers.{endOf, failureOf}
 use Rattle.rules.specs.Bytes.{Bytes}
-use Rattle.rules.specs.Cbor.{ARRAY}
-use Rattle.rules.specs.Limits.{limits}
 use Rattle.rules.specs.Manifest.{Seq, then, Cmd, countCmd}
 use Rattle.rules.specs.Step.{Env, State, Out, out}
 use Rattle.rules.specs.Run.{on, next, runSeq, runCmd, indexAfter, coerceAfter}
 use Rattle.run_sequence.specs.declared.Run.{Run}
-use Rattle.manifest_accessors.specs.Arguments.{isTrue}
+use Rattle.manifest_accessors.specs.Arguments.{coerceFalse, isTrue}
 use Rattle.run_sequence.specs.Cycle.{stateOf, outOf, Ready, CommandJob, SequenceJob, CommandRan, SequenceRan, caughtBy}
 use Rattle.manifest_accessors.specs.Heads.{HeadAt}
-use Rattle.manifest_accessors.proofs.HeadLaws.{item-headed}
-use Rattle.manifest_accessors.proofs.SequencePlaces.{CommandsAt, Start, start, Turn, turn, no-more}
+use Rattle.manifest_accessors.proofs.SequencePlaces.{CommandsAt, start, start-head, start-commands, Turn, turn, no-more}
+use Rattle.manifest_accessors.proofs.PlaceLaws.{remaining, depth-falls, head-later, command-later}
 use Rattle.run_commands.proofs.LentLaws.{Moves, moves-cmd}
 use Rattle.run_sequence.proofs.Keeping.{Kept, ready-of, kept-of, kept-after, events-after}
 
@@ -80,21 +78,24 @@ module _ (s vendor class : Bytes) (assigned : List ℕ) (answers : Bytes) (depth
       abbrev pub command-job : CommandJob s depth now vendor class assigned answers slots params trace
       command-job = record { ready = ready-of s vendor class assigned answers env slots params trace (now .index) (l .kept); place = its-turn .first }
 
-      module _ (r : Run) (slots′ : Bytes) (words′ : List ℕ) (trace′ : Bytes)
-          (ran : CommandRan s env (its-turn .first .cmd) (its-turn .first .to) now slots params trace r slots′ words′ trace′) where
-        pub loop-stops : (r .end ≡ 0 → ⊥) → outOf s (length (env .ids)) words′ slots′ trace′ (caughtBy coercible (now .coerce) r) ≡ whole
+      module _ (r : Run) (slots′ : Bytes) (params′ : List ℕ) (trace′ : Bytes)
+          (ran : CommandRan s env (its-turn .first .cmd) (its-turn .first .to) now slots params trace r slots′ params′ trace′) where
+        pub loop-stops : (r .end ≡ 0 → ⊥) → outOf s (length (env .ids)) params′ slots′ trace′ (caughtBy coercible (now .coerce) r) ≡ whole
         loop-stops z =
-            sym (l .goes ∙ rw (its-turn .cmds) (stops env (its-turn .first .cmd) (its-turn .rest .cmds) coercible (now .index) (isTrue (now .coerce)) (stateOf s (length (env .ids)) params slots trace now) (stateOf s (length (env .ids)) words′ slots′ trace′ r) (r .end) z (sym (ran .goes))))
+            sym (l .goes ∙ rw (its-turn .cmds) (stops env (its-turn .first .cmd) (its-turn .rest .cmds) coercible (now .index) (isTrue (now .coerce)) (stateOf s (length (env .ids)) params slots trace now) (stateOf s (length (env .ids)) params′ slots′ trace′ r) (r .end) z (sym (ran .goes))))
 
-        pub loop-goes-on : r .end ≡ 0 → Loop s vendor class assigned answers depth coercible env whole slots′ words′ trace′ (left - 1) r
+        pub loop-rises : r .end ≡ 0 → now .next < r .next
+        loop-rises z = omega (arith, ran .next z, command-later s (length (env .ids)) depth (now .events) (now .next) (its-turn .first))
+
+        pub loop-goes-on : r .end ≡ 0 → Loop s vendor class assigned answers depth coercible env whole slots′ params′ trace′ (left - 1) r
         loop-goes-on z =
             let t = its-turn in
             let st : State = stateOf s (length (env .ids)) params slots trace now in
             let m : Moves st (runCmd env (t .first .cmd) (now .index) st .state) (countCmd (t .first .cmd)) = moves-cmd env (t .first .cmd) (now .index) st in
             let w : r .events ≤ t .first .m + countCmd (t .first .cmd) =
-            events-after s vendor class assigned answers (length (env .ids)) params slots trace now _ _ (t .first .m) m (t .under) r slots′ words′ trace′ (ran .goes) in
+            events-after s vendor class assigned answers (length (env .ids)) params slots trace now _ _ (t .first .m) m (t .under) r slots′ params′ trace′ (ran .goes) in
             record {
-              kept = kept-after s vendor class assigned answers env slots params trace (now .index) (l .kept) now _ _ m r slots′ words′ trace′ (ran .goes) (ran .fit) (r .index) (ran .inside z);
+              kept = kept-after s vendor class assigned answers env slots params trace (now .index) (l .kept) now _ _ m r slots′ params′ trace′ (ran .goes) (ran .fit) (r .index) (ran .inside z);
               place =
                   record {
                     section = t .rest .section;
@@ -108,44 +109,31 @@ module _ (s vendor class : Bytes) (assigned : List ℕ) (answers : Bytes) (depth
                   };
               goes =
                   l .goes ∙ ap (λ (a : Seq). runSeq env a coercible (now .index) (isTrue (now .coerce)) st) (t .cmds)
-                  ∙ rw (ran .index z, ran .coerce) (goes-on env (t .first .cmd) (t .rest .cmds) coercible (now .index) (isTrue (now .coerce)) st (stateOf s (length (env .ids)) words′ slots′ trace′ r) (r .end) z (sym (ran .goes)));
+                  ∙ rw (ran .index z, ran .coerce) (goes-on env (t .first .cmd) (t .rest .cmds) coercible (now .index) (isTrue (now .coerce)) st (stateOf s (length (env .ids)) params′ slots′ trace′ r) (r .end) z (sym (ran .goes)));
               calm = z;
             }
 
 -- a run of a sequence, from its job
 module _ (s : Bytes) (depth : ℕ) (run : Run) (vendor class : Bytes) (assigned : List ℕ) (answers slots : Bytes) (params : List ℕ) (trace : Bytes)
     (j : SequenceJob s depth run vendor class assigned answers slots params trace) where
-  abbrev began : Start s (length (j .ready .env .ids)) depth (run .events) (run .next) (j .place)
-  began = start s (length (j .ready .env .ids)) depth (run .events) (run .next) (j .place)
-
   pub sequence-deep : 0 < depth
-  sequence-deep = began .deep
+  sequence-deep = start s (length (j .ready .env .ids)) depth (run .events) (run .next) (j .place) .deep
 
   abbrev pub sequence-head : HeadAt s (run .next)
-  sequence-head = item-headed s ARRAY 0 (limits .sequence + limits .sequence) (j .place .e) (run .next) (began .head) (j .place .fits) (omega arith) (began .item)
+  sequence-head = start-head s (length (j .ready .env .ids)) depth (run .events) (run .next) (j .place)
 
-  abbrev pub commands-job : (v p : ℕ) → (v ≡ sequence-head .head .num) × (p ≡ sequence-head .head .next) →
-      CommandsJob s (depth - 1) (v / 2) (record { next = p; index = run .index; coerce = 1; events = run .events; used = run .used; end = 0 }) vendor class assigned answers slots params trace
-  commands-job v p q =
-      record {
-        ready = j .ready;
-        place =
-            record {
-              section = j .place .section;
-              m = j .place .m;
-              e = j .place .e;
-              fits = j .place .fits;
-              cmds = j .place .seq;
-              to = j .place .to;
-              reads = rw (q .0, q .1) (began .reads);
-              few = j .place .few;
-            };
-      }
+  module _ (v p : ℕ) (q : (v ≡ sequence-head .head .num) × (p ≡ sequence-head .head .next)) where
+    abbrev pub commands-job : CommandsJob s (depth - 1) (v / 2) (record { next = p; index = run .index; coerce = coerceFalse; events = run .events; used = run .used; end = 0 }) vendor class assigned answers slots params trace
+    commands-job = record { ready = j .ready; place = start-commands s (length (j .ready .env .ids)) depth (run .events) (run .next) (j .place) v p q }
+
+    -- a command at that place or later is one less deep, and of fewer bytes
+    pub command-falls : (at : ℕ) → p ≤ at → remaining s (depth - 1) at < remaining s depth (run .next)
+    command-falls at l = depth-falls s depth (run .next) at sequence-deep (omega (arith, q .1, head-later s (run .next) sequence-head))
 
 module _ (s vendor class : Bytes) (assigned : List ℕ) (answers : Bytes) (depth : ℕ) (coercible : Bool) (slots : Bytes) (params : List ℕ) (trace : Bytes) (left : ℕ) (now : Run)
-    (env : Env) (seq : Seq) (run : Run) (slots₀ : Bytes) (words₀ : List ℕ) (trace₀ : Bytes)
-    (l : Loop s vendor class assigned answers depth coercible env (runSeq env seq coercible (run .index) false (stateOf s (length (env .ids)) words₀ slots₀ trace₀ run)) slots params trace left now) where
-  pub sequence-done : left ≡ 0 → SequenceRan s env seq coercible run slots₀ words₀ trace₀ now slots params trace
+    (env : Env) (seq : Seq) (run : Run) (slots₀ : Bytes) (params₀ : List ℕ) (trace₀ : Bytes)
+    (l : Loop s vendor class assigned answers depth coercible env (runSeq env seq coercible (run .index) false (stateOf s (length (env .ids)) params₀ slots₀ trace₀ run)) slots params trace left now) where
+  pub sequence-done : left ≡ 0 → SequenceRan s env seq coercible run slots₀ params₀ trace₀ now slots params trace
   sequence-done z =
       record {
         goes = loop-done s vendor class assigned answers depth coercible slots params trace left now env _ l z;
@@ -153,12 +141,12 @@ module _ (s vendor class : Bytes) (assigned : List ℕ) (answers : Bytes) (depth
         late = λ h. absurd (omega (arith, l .calm));
       }
 
-  module _ (h : 0 < left) (r : Run) (slots′ : Bytes) (words′ : List ℕ) (trace′ : Bytes)
-      (ran : CommandRan s env (its-turn s vendor class assigned answers depth coercible slots params trace left now env _ l h .first .cmd) (its-turn s vendor class assigned answers depth coercible slots params trace left now env _ l h .first .to) now slots params trace r slots′ words′ trace′) where
-    pub sequence-stopped : (r .end ≡ 0 → ⊥) → SequenceRan s env seq coercible run slots₀ words₀ trace₀ (caughtBy coercible (now .coerce) r) slots′ words′ trace′
+  module _ (h : 0 < left) (r : Run) (slots′ : Bytes) (params′ : List ℕ) (trace′ : Bytes)
+      (ran : CommandRan s env (its-turn s vendor class assigned answers depth coercible slots params trace left now env _ l h .first .cmd) (its-turn s vendor class assigned answers depth coercible slots params trace left now env _ l h .first .to) now slots params trace r slots′ params′ trace′) where
+    pub sequence-stopped : (r .end ≡ 0 → ⊥) → SequenceRan s env seq coercible run slots₀ params₀ trace₀ (caughtBy coercible (now .coerce) r) slots′ params′ trace′
     sequence-stopped z =
         record {
-          goes = loop-stops s vendor class assigned answers depth coercible slots params trace left now env _ l h r slots′ words′ trace′ ran z;
+          goes = loop-stops s vendor class assigned answers depth coercible slots params trace left now env _ l h r slots′ params′ trace′ ran z;
           fit = ran .fit;
           late = λ p. ran .late (omega (arith, z));
         }

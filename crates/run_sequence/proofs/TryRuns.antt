@@ -9,35 +9,34 @@ use lib.ListN.{length}
 use borrow.Author.Tests.{ne-eqb}
 use Rattle.rules.specs.declared.answers.End.{End}
 use Rattle.rules.specs.declared.answers.End.the-variants.{Finished, ConditionFailed, Started, Failed}
-use Rattle.rules.specs.Answers.{endOf, failureOf}
+use Rattle.rules.specs.Answers.{endNumber, endOf, failureOf}
 use Rattle.rules.specs.Bytes.{Bytes}
-use Rattle.rules.specs.Cbor.{BYTES, ARRAY}
 use Rattle.rules.specs.Limits.{limits}
 use Rattle.rules.specs.Manifest.{Seq, Cmd, one, try, Alts, last, or, count}
-use Rattle.rules.specs.Check.{sequenceAt}
 use Rattle.rules.specs.Step.{Env, State, Out, out}
 use Rattle.rules.specs.Run.{on, next, runSeq, runCmd, runAlts, indexAfter, coerceAfter}
 use Rattle.run_sequence.specs.declared.Run.{Run}
 use Rattle.run_slots.specs.Params.{FitAll}
 use Rattle.manifest_accessors.specs.Heads.{HeadAt, Strings}
-use Rattle.run_sequence.specs.Cycle.{stateOf, outOf, LeafJob, CommandJob, SequenceJob, CommandRan, SequenceRan}
+use Rattle.run_sequence.specs.Cycle.{stateOf, outOf, LeafJob, CommandJob, SequenceJob, CommandRan, SequenceRan, runAt}
 use Rattle.manifest_accessors.specs.Arguments.{ArgumentAt}
 use Rattle.manifest_accessors.proofs.ArgumentLaws.{command-one}
-use Rattle.manifest_accessors.proofs.HeadLaws.{item-headed, number-headed}
+use Rattle.manifest_accessors.proofs.HeadLaws.{number-headed}
 use Rattle.run_commands.proofs.LentLaws.{Moves, moves-seq}
 use Rattle.run_sequence.proofs.Keeping.{Kept, ready-of, kept-of, kept-after, events-after}
-use Rattle.manifest_accessors.proofs.CommandPlaces.{Coded, coded, Sub, its-sequence, Tries, its-alternatives, listOf, alternatives-law}
-use Rattle.manifest_accessors.proofs.TryPlaces.{AltsAt, Choice, choice, no-choice, strings-at}
+use Rattle.manifest_accessors.proofs.CommandPlaces.{Coded, coded, string-head, string-fits, string-sequence, Sub, its-sequence, Tries, its-alternatives, listOf}
+use Rattle.manifest_accessors.proofs.TryPlaces.{AltsAt, try-head, try-places, Choice, choice, no-choice, strings-at}
+use Rattle.manifest_accessors.proofs.PlaceLaws.{remaining, bytes-fall, head-later, command-starts}
 
 -- the run where a sequence starts, and after a command that held sequences
 abbrev pub entered : Run → ℕ → Run → Run
-entered run at now = record { next = at; index = run .index; coerce = run .coerce; events = now .events; used = now .used; end = 0 }
+entered run at now = runAt run at now (endNumber Finished)
 
 abbrev pub left : Run → ℕ → Run → Run
-left run at now = record { next = at; index = run .index; coerce = run .coerce; events = now .events; used = now .used; end = now .end }
+left run at now = runAt run at now (now .end)
 
 abbrev pub failed : Run → ℕ → Run → Run
-failed run at now = record { next = at; index = run .index; coerce = run .coerce; events = now .events; used = now .used; end = 1 }
+failed run at now = runAt run at now (endNumber ConditionFailed)
 
 -- 'alternatives in turn until one succeeds'
 unfoldable pub tryAll : Env → List Seq → ℕ → State → Out
@@ -87,12 +86,12 @@ pub record AltsLoop (s vendor class : Bytes) (assigned : List ℕ) (answers : By
   pub final : k ≡ 0 → 0 < now .events
 
 -- what a command that held sequences leaves
-holds-sequences : (s : Bytes) (env : Env) (cmd : Cmd) (to : ℕ) (run : Run) (slots : Bytes) (params : List ℕ) (trace : Bytes) (at : ℕ) (r : Run) (slots′ : Bytes) (words′ : List ℕ) (trace′ : Bytes) →
-    outOf s (length (env .ids)) words′ slots′ trace′ r ≡ runCmd env cmd (run .index) (stateOf s (length (env .ids)) params slots trace run) →
-    FitAll s (length (env .ids)) words′ → (0 < r .end → 0 < r .events) → (r .end ≡ 0 → at ≡ to) → run .index < length (env .ids) →
+holds-sequences : (s : Bytes) (env : Env) (cmd : Cmd) (to : ℕ) (run : Run) (slots : Bytes) (params : List ℕ) (trace : Bytes) (at : ℕ) (r : Run) (slots′ : Bytes) (params′ : List ℕ) (trace′ : Bytes) →
+    outOf s (length (env .ids)) params′ slots′ trace′ r ≡ runCmd env cmd (run .index) (stateOf s (length (env .ids)) params slots trace run) →
+    FitAll s (length (env .ids)) params′ → (0 < r .end → 0 < r .events) → (r .end ≡ 0 → at ≡ to) → run .index < length (env .ids) →
     ((i : ℕ) → indexAfter cmd i ≡ i) → ((c : Bool) → coerceAfter cmd c ≡ c) →
-    CommandRan s env cmd to run slots params trace (left run at r) slots′ words′ trace′
-holds-sequences s env cmd to run slots params trace at r slots′ words′ trace′ goes fit late next inside index coerce =
+    CommandRan s env cmd to run slots params trace (left run at r) slots′ params′ trace′
+holds-sequences s env cmd to run slots params trace at r slots′ params′ trace′ goes fit late next inside index coerce =
     record {
       goes = goes;
       fit = fit;
@@ -103,9 +102,9 @@ holds-sequences s env cmd to run slots params trace at r slots′ words′ trace
       coerce = sym (coerce _);
     }
 
-ran-as : (s : Bytes) (env : Env) (cmd cmd′ : Cmd) (to to′ : ℕ) (run : Run) (slots : Bytes) (params : List ℕ) (trace : Bytes) (r : Run) (slots′ : Bytes) (words′ : List ℕ) (trace′ : Bytes) →
-    cmd ≡ cmd′ → to′ ≡ to → CommandRan s env cmd′ to′ run slots params trace r slots′ words′ trace′ → CommandRan s env cmd to run slots params trace r slots′ words′ trace′
-ran-as s env cmd cmd′ to to′ run slots params trace r slots′ words′ trace′ e e′ ran = rw (e, ← e′) ran
+ran-as : (s : Bytes) (env : Env) (cmd cmd′ : Cmd) (to to′ : ℕ) (run : Run) (slots : Bytes) (params : List ℕ) (trace : Bytes) (r : Run) (slots′ : Bytes) (params′ : List ℕ) (trace′ : Bytes) →
+    cmd ≡ cmd′ → to′ ≡ to → CommandRan s env cmd′ to′ run slots params trace r slots′ params′ trace′ → CommandRan s env cmd to run slots params trace r slots′ params′ trace′
+ran-as s env cmd cmd′ to to′ run slots params trace r slots′ params′ trace′ e e′ ran = rw (e, ← e′) ran
 
 module _ (s : Bytes) (depth : ℕ) (run : Run) (vendor class : Bytes) (assigned : List ℕ) (answers slots : Bytes) (params : List ℕ) (trace : Bytes)
     (j : CommandJob s depth run vendor class assigned answers slots params trace) where
@@ -115,17 +114,25 @@ module _ (s : Bytes) (depth : ℕ) (run : Run) (vendor class : Bytes) (assigned 
   abbrev pub command-head : HeadAt s (run .next)
   command-head = number-headed s (j .place .e) (run .next) (its-code .code) (its-code .from) (j .place .fits) (its-code .reads)
 
+  -- a sequence at a later place is of fewer bytes
+  pub sequence-falls : (a b from : ℕ) → run .next < a → a ≤ b → b < from → remaining s depth from < remaining s depth (run .next)
+  sequence-falls a b from l m u =
+      bytes-fall s depth (run .next) from (command-starts s (length (j .ready .env .ids)) depth (run .events) (run .next) (j .place)) (omega arith)
+
   module _ (v p : ℕ) (q : (v ≡ its-code .code) × (p ≡ its-code .from)) where
+    code-later : run .next < p
+    code-later = omega (arith, q .1, head-later s (run .next) command-head)
+
     -- 30
     module _ (z : v ≡ 30) where
       abbrev pub sub-at : Sub s (length (j .ready .env .ids)) depth (run .events) (run .next) (j .place) p
       sub-at = its-sequence s (length (j .ready .env .ids)) depth (run .events) (run .next) (j .place) its-code p (q .1) (sym (q .0) ∙ z)
 
       abbrev pub sub-head : HeadAt s p
-      sub-head = item-headed s BYTES 0 (limits .largest) (j .place .e) p (sub-at .inside .head) (j .place .fits) (omega arith) (sub-at .inside .item)
+      sub-head = string-head s (length (j .ready .env .ids)) (j .place .section) depth (j .place .m + 1) (j .place .e) p (sub-at .seq) (sub-at .inside) (j .place .fits)
 
       pub sub-fits : sub-at .inside .head .next + sub-at .inside .head .num ≤ length s
-      sub-fits = omega (arith, sub-at .inside .fits, j .place .fits)
+      sub-fits = string-fits s (length (j .ready .env .ids)) (j .place .section) depth (j .place .m + 1) (j .place .e) p (sub-at .seq) (sub-at .inside) (j .place .fits)
 
       module _ (w from : ℕ) (o : (w ≡ sub-at .inside .head .num) × (from ≡ sub-at .inside .head .next)) where
         abbrev pub sub-job : SequenceJob s depth (entered run from run) vendor class assigned answers slots params trace
@@ -133,23 +140,19 @@ module _ (s : Bytes) (depth : ℕ) (run : Run) (vendor class : Bytes) (assigned 
             record {
               ready = j .ready;
               place =
-                  record {
-                    section = j .place .section;
-                    m = j .place .m + 1;
-                    e = sub-at .inside .head .next + sub-at .inside .head .num;
-                    fits = sub-fits;
-                    seq = sub-at .seq;
-                    to = sub-at .inside .head .next + sub-at .inside .head .num;
-                    reads = rw (o .1) (sub-at .inside .reads);
-                    few = omega (arith, j .place .few);
-                  };
+                  string-sequence s (length (j .ready .env .ids)) (j .place .section) depth (j .place .m + 1) (j .place .e) p (sub-at .seq) (sub-at .inside) (j .place .fits)
+                  (run .events) from (omega (arith, j .place .few)) (o .1);
             }
 
-        pub sub-ran : (r : Run) (slots′ : Bytes) (words′ : List ℕ) (trace′ : Bytes) → SequenceRan s (j .ready .env) (sub-at .seq) true (entered run from run) slots params trace r slots′ words′ trace′ →
-            CommandRan s (j .ready .env) (j .place .cmd) (j .place .to) run slots params trace (left run (from + w) r) slots′ words′ trace′
+        -- as deep, and of fewer bytes
+        pub sub-falls : remaining s depth from < remaining s depth (run .next)
+        sub-falls = sequence-falls p p from code-later (omega arith) (omega (arith, o .1, head-later s p sub-head))
+
+        pub sub-ran : (r : Run) (slots′ : Bytes) (params′ : List ℕ) (trace′ : Bytes) → SequenceRan s (j .ready .env) (sub-at .seq) true (entered run from run) slots params trace r slots′ params′ trace′ →
+            CommandRan s (j .ready .env) (j .place .cmd) (j .place .to) run slots params trace (left run (from + w) r) slots′ params′ trace′
         unfolding runSeq
-        sub-ran r slots′ words′ trace′ ran =
-            holds-sequences s (j .ready .env) (j .place .cmd) (j .place .to) run slots params trace (from + w) r slots′ words′ trace′
+        sub-ran r slots′ params′ trace′ ran =
+            holds-sequences s (j .ready .env) (j .place .cmd) (j .place .to) run slots params trace (from + w) r slots′ params′ trace′
             (ran .goes ∙ ap (λ (c : Cmd). runCmd (j .ready .env) c (run .index) (stateOf s (length (j .ready .env .ids)) params slots trace run)) (sym (sub-at .is)))
             (ran .fit) (ran .late) (λ x. omega (arith, o .0, o .1, sub-at .to)) (j .ready .inside) (λ i. rw (sub-at .is)) (λ c. rw (sub-at .is))
 
@@ -167,10 +170,10 @@ module _ (s : Bytes) (depth : ℕ) (run : Run) (vendor class : Bytes) (assigned 
       abbrev pub leaf-job : LeafJob s v p run vendor class assigned answers slots params trace
       leaf-job = record { ready = j .ready; argument = one-at .0; among = one-at .1; few = omega (arith, j .place .few, one-at .4) }
 
-      pub leaf-ran : (r : Run) (slots′ : Bytes) (words′ : List ℕ) (trace′ : Bytes) →
-          CommandRan s (j .ready .env) (one (run .next) (one-at .0 .op) (one-at .0 .coerce)) (one-at .0 .to) run slots params trace r slots′ words′ trace′ →
-          CommandRan s (j .ready .env) (j .place .cmd) (j .place .to) run slots params trace r slots′ words′ trace′
-      leaf-ran r slots′ words′ trace′ ran = ran-as s (j .ready .env) _ _ _ _ run slots params trace r slots′ words′ trace′ (one-at .2) (one-at .3) ran
+      pub leaf-ran : (r : Run) (slots′ : Bytes) (params′ : List ℕ) (trace′ : Bytes) →
+          CommandRan s (j .ready .env) (one (run .next) (one-at .0 .op) (one-at .0 .coerce)) (one-at .0 .to) run slots params trace r slots′ params′ trace′ →
+          CommandRan s (j .ready .env) (j .place .cmd) (j .place .to) run slots params trace r slots′ params′ trace′
+      leaf-ran r slots′ params′ trace′ ran = ran-as s (j .ready .env) _ _ _ _ run slots params trace r slots′ params′ trace′ (one-at .2) (one-at .3) ran
 
     -- 15
     module _ (z : v ≡ 15) where
@@ -178,41 +181,33 @@ module _ (s : Bytes) (depth : ℕ) (run : Run) (vendor class : Bytes) (assigned 
       tries-at = its-alternatives s (length (j .ready .env .ids)) depth (run .events) (run .next) (j .place) its-code p (q .1) (sym (q .0) ∙ z)
 
       abbrev pub tries-head : HeadAt s p
-      tries-head = item-headed s ARRAY 1 (limits .alternatives) (j .place .e) p (tries-at .head) (j .place .fits) (omega arith) (tries-at .item)
+      tries-head = try-head s (length (j .ready .env .ids)) depth (run .events) (run .next) (j .place) p tries-at
+
+      pub tries-later : (w from : ℕ) → (w ≡ tries-at .head .num) × (from ≡ tries-at .head .next) → run .next < from
+      tries-later w from o = omega (arith, o .1, code-later, head-later s p tries-head)
 
       pub tries-start : (w from : ℕ) → (w ≡ tries-at .head .num) × (from ≡ tries-at .head .next) →
           AltsLoop s vendor class assigned answers depth (j .ready .env) (j .place .cmd) (j .place .to) run (runCmd (j .ready .env) (j .place .cmd) (run .index) (stateOf s (length (j .ready .env .ids)) params slots trace run)) slots params trace from w run
       unfolding runSeq
       tries-start w from o =
-          let (l, size) = alternatives-law s (sequenceAt s (length (j .ready .env .ids)) (j .place .section) depth) (tries-at .head .num - 1) (j .place .m + 1) (j .place .e) (tries-at .head .next) (tries-at .alts) (j .place .to) (tries-at .reads) in
           record {
             alts = tries-at .alts;
             is = tries-at .is;
             kept = kept-of s vendor class assigned answers slots params trace (run .index) (j .ready);
-            place =
-                record {
-                  section = j .place .section;
-                  m = j .place .m + 1;
-                  e = j .place .e;
-                  fits = j .place .fits;
-                  seqs = listOf (tries-at .alts);
-                  size = omega (arith, size, o .0, tries-at .some-of);
-                  reads = rw (o .1) l;
-                  few = omega (arith, j .place .few);
-                };
+            place = try-places s (length (j .ready .env .ids)) depth (run .events) (run .next) (j .place) p tries-at w from o;
             goes = ap (λ (c : Cmd). runCmd (j .ready .env) c (run .index) (stateOf s (length (j .ready .env .ids)) params slots trace run)) (tries-at .is) ∙ try-law (j .ready .env) (tries-at .alts) (run .index) (stateOf s (length (j .ready .env .ids)) params slots trace run);
             final = λ x. absurd (omega (arith, o .0, tries-at .some-of));
           }
 
-module _ (s vendor class : Bytes) (assigned : List ℕ) (answers : Bytes) (depth : ℕ) (env : Env) (cmd : Cmd) (to : ℕ) (run : Run) (slots₀ : Bytes) (words₀ : List ℕ) (trace₀ : Bytes) (slots : Bytes) (params : List ℕ) (trace : Bytes) (p k : ℕ) (now : Run)
-    (l : AltsLoop s vendor class assigned answers depth env cmd to run (runCmd env cmd (run .index) (stateOf s (length (env .ids)) words₀ slots₀ trace₀ run)) slots params trace p k now) where
+module _ (s vendor class : Bytes) (assigned : List ℕ) (answers : Bytes) (depth : ℕ) (env : Env) (cmd : Cmd) (to : ℕ) (run : Run) (slots₀ : Bytes) (params₀ : List ℕ) (trace₀ : Bytes) (slots : Bytes) (params : List ℕ) (trace : Bytes) (p k : ℕ) (now : Run)
+    (l : AltsLoop s vendor class assigned answers depth env cmd to run (runCmd env cmd (run .index) (stateOf s (length (env .ids)) params₀ slots₀ trace₀ run)) slots params trace p k now) where
   -- none succeeded
-  pub tries-failed : k ≡ 0 → CommandRan s env cmd to run slots₀ words₀ trace₀ (failed run p now) slots params trace
+  pub tries-failed : k ≡ 0 → CommandRan s env cmd to run slots₀ params₀ trace₀ (failed run p now) slots params trace
   unfolding tryAll
   tries-failed z =
       let (none, at) = no-choice s (length (env .ids)) depth (now .events) k p to (l .place) z in
       let st : State = stateOf s (length (env .ids)) params slots trace now in
-      holds-sequences s env cmd to run slots₀ words₀ trace₀ p (failed run p now) slots params trace
+      holds-sequences s env cmd to run slots₀ params₀ trace₀ p (failed run p now) slots params trace
       (sym (l .goes ∙ ap (λ (a : List Seq). tryAll env a (run .index) st) none))
       (l .kept .lent .fit) (λ x. l .final z) (λ x. at) (l .kept .inside) (λ i. rw (l .is)) (λ c. rw (l .is))
 
@@ -221,27 +216,22 @@ module _ (s vendor class : Bytes) (assigned : List ℕ) (answers : Bytes) (depth
     its-choice = choice s (length (env .ids)) depth (now .events) k p to (l .place) h
 
     abbrev pub choice-head : HeadAt s p
-    choice-head = item-headed s BYTES 0 (limits .largest) (l .place .e) p (its-choice .inside .head) (l .place .fits) (omega arith) (its-choice .inside .item)
+    choice-head = string-head s (length (env .ids)) (l .place .section) depth (l .place .m) (l .place .e) p (its-choice .first) (its-choice .inside) (l .place .fits)
 
     pub choice-fits : its-choice .inside .head .next + its-choice .inside .head .num ≤ length s
-    choice-fits = omega (arith, its-choice .inside .fits, l .place .fits)
+    choice-fits = string-fits s (length (env .ids)) (l .place .section) depth (l .place .m) (l .place .e) p (its-choice .first) (its-choice .inside) (l .place .fits)
 
     module _ (w from : ℕ) (o : (w ≡ its-choice .inside .head .num) × (from ≡ its-choice .inside .head .next)) where
+      pub choice-later : p < from
+      choice-later = omega (arith, o .1, head-later s p choice-head)
+
       abbrev pub choice-job : SequenceJob s depth (entered run from now) vendor class assigned answers slots params trace
       choice-job =
           record {
             ready = ready-of s vendor class assigned answers env slots params trace (run .index) (l .kept);
             place =
-                record {
-                  section = l .place .section;
-                  m = l .place .m;
-                  e = its-choice .inside .head .next + its-choice .inside .head .num;
-                  fits = choice-fits;
-                  seq = its-choice .first;
-                  to = its-choice .inside .head .next + its-choice .inside .head .num;
-                  reads = rw (o .1) (its-choice .inside .reads);
-                  few = l .place .few;
-                };
+                string-sequence s (length (env .ids)) (l .place .section) depth (l .place .m) (l .place .e) p (its-choice .first) (its-choice .inside) (l .place .fits)
+                (now .events) from (l .place .few) (o .1);
           }
 
       abbrev pub choice-rest : Strings s (k - 1) (from + w)
@@ -253,27 +243,27 @@ module _ (s vendor class : Bytes) (assigned : List ℕ) (answers : Bytes) (depth
             reads = rw (o .0, o .1) (strings-at s (length (env .ids)) depth 0 (k - 1) (its-choice .inside .head .next + its-choice .inside .head .num) to (its-choice .rest) .reads);
           }
 
-      module _ (r : Run) (slots′ : Bytes) (words′ : List ℕ) (trace′ : Bytes)
-          (ran : SequenceRan s env (its-choice .first) false (entered run from now) slots params trace r slots′ words′ trace′) where
-        pub tries-end : (r .end ≡ 1 → ⊥) → (at : ℕ) → at ≡ to → CommandRan s env cmd to run slots₀ words₀ trace₀ (left run at r) slots′ words′ trace′
+      module _ (r : Run) (slots′ : Bytes) (params′ : List ℕ) (trace′ : Bytes)
+          (ran : SequenceRan s env (its-choice .first) false (entered run from now) slots params trace r slots′ params′ trace′) where
+        pub tries-end : (r .end ≡ 1 → ⊥) → (at : ℕ) → at ≡ to → CommandRan s env cmd to run slots₀ params₀ trace₀ (left run at r) slots′ params′ trace′
         tries-end z at e =
             let st : State = stateOf s (length (env .ids)) params slots trace now in
-            holds-sequences s env cmd to run slots₀ words₀ trace₀ at r slots′ words′ trace′
-            (sym (l .goes ∙ ap (λ (a : List Seq). tryAll env a (run .index) st) (its-choice .seqs) ∙ try-off env (its-choice .first) (its-choice .rest .seqs) (run .index) st (stateOf s (length (env .ids)) words′ slots′ trace′ r) (r .end) z (sym (ran .goes))))
+            holds-sequences s env cmd to run slots₀ params₀ trace₀ at r slots′ params′ trace′
+            (sym (l .goes ∙ ap (λ (a : List Seq). tryAll env a (run .index) st) (its-choice .seqs) ∙ try-off env (its-choice .first) (its-choice .rest .seqs) (run .index) st (stateOf s (length (env .ids)) params′ slots′ trace′ r) (r .end) z (sym (ran .goes))))
             (ran .fit) (ran .late) (λ x. e) (l .kept .inside) (λ i. rw (l .is)) (λ c. rw (l .is))
 
         pub tries-on : r .end ≡ 1 →
-            AltsLoop s vendor class assigned answers depth env cmd to run (runCmd env cmd (run .index) (stateOf s (length (env .ids)) words₀ slots₀ trace₀ run)) slots′ words′ trace′ (from + w) (k - 1) r
+            AltsLoop s vendor class assigned answers depth env cmd to run (runCmd env cmd (run .index) (stateOf s (length (env .ids)) params₀ slots₀ trace₀ run)) slots′ params′ trace′ (from + w) (k - 1) r
         tries-on z =
             let t = its-choice in
             let st : State = stateOf s (length (env .ids)) params slots trace now in
             let m : Moves st (runSeq env (t .first) false (run .index) false st .state) (count (t .first)) = moves-seq env (t .first) false (run .index) false st in
             let few : r .events ≤ l .place .m + count (t .first) =
-            events-after s vendor class assigned answers (length (env .ids)) params slots trace (entered run from now) _ _ (l .place .m) m (l .place .few) r slots′ words′ trace′ (ran .goes) in
+            events-after s vendor class assigned answers (length (env .ids)) params slots trace (entered run from now) _ _ (l .place .m) m (l .place .few) r slots′ params′ trace′ (ran .goes) in
             record {
               alts = l .alts;
               is = l .is;
-              kept = kept-after s vendor class assigned answers env slots params trace (run .index) (l .kept) (entered run from now) _ _ m r slots′ words′ trace′ (ran .goes) (ran .fit) (run .index) (l .kept .inside);
+              kept = kept-after s vendor class assigned answers env slots params trace (run .index) (l .kept) (entered run from now) _ _ m r slots′ params′ trace′ (ran .goes) (ran .fit) (run .index) (l .kept .inside);
               place =
                   record {
                     section = t .rest .section;
@@ -287,6 +277,6 @@ module _ (s vendor class : Bytes) (assigned : List ℕ) (answers : Bytes) (depth
                   };
               goes =
                   l .goes ∙ ap (λ (a : List Seq). tryAll env a (run .index) st) (t .seqs)
-                  ∙ try-on env (t .first) (t .rest .seqs) (run .index) st (stateOf s (length (env .ids)) words′ slots′ trace′ r) (r .end) z (sym (ran .goes));
+                  ∙ try-on env (t .first) (t .rest .seqs) (run .index) st (stateOf s (length (env .ids)) params′ slots′ trace′ r) (r .end) z (sym (ran .goes));
               final = λ x. ran .late (omega (arith, z));
             }

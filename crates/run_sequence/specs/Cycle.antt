@@ -5,7 +5,8 @@ use mathlib.Core.Bool.{Bool, false, _&&_, cond}
 use lib.Dec.{eqb}
 use mathlib.Core.List.{List}
 use lib.ListN.{length}
-use Rattle.rules.specs.Answers.{endOf}
+use Rattle.rules.specs.declared.answers.End.the-variants.{Finished, ConditionFailed}
+use Rattle.rules.specs.Answers.{endNumber, endOf}
 use Rattle.rules.specs.Bytes.{Bytes}
 use Rattle.rules.specs.Limits.{limits}
 use Rattle.rules.specs.Manifest.{Seq, Cmd}
@@ -45,6 +46,11 @@ pub record LeafJob (s : Bytes) (code at : ℕ) (run : Run) (vendor class : Bytes
   pub among : argument .n ≡ length (ready .env .ids)
   pub few : run .events < limits .commands
 
+-- a run at a place: the index and coerce of the sequence `holder`, what `now` has done, and an end
+abbrev pub runAt : Run → ℕ → Run → ℕ → Run
+runAt holder at now end =
+    record { next = at; index = holder .index; coerce = holder .coerce; events = now .events; used = now .used; end = end }
+
 -- 'a condition failure inside, while that sequence's coerce is true, is a success'
 abbrev pub caughtBy : Bool → ℕ → Run → Run
 caughtBy coercible coerce r =
@@ -54,20 +60,20 @@ caughtBy coercible coerce r =
       coerce = r .coerce;
       events = r .events;
       used = r .used;
-      end = cond (coercible && isTrue coerce && eqb (r .end) 1) 0 (r .end);
+      end = cond (coercible && isTrue coerce && eqb (r .end) (endNumber ConditionFailed)) (endNumber Finished) (r .end);
     }
 
 -- what was left in memory is what the rule gives; where the command went well, the next one's place, index and coerce are known
-pub record CommandRan (s : Bytes) (env : Env) (cmd : Cmd) (to : ℕ) (run : Run) (slots : Bytes) (params : List ℕ) (trace : Bytes) (r : Run) (slots′ : Bytes) (words′ : List ℕ) (trace′ : Bytes) : Type 0 where
-  pub goes : outOf s (length (env .ids)) words′ slots′ trace′ r ≡ runCmd env cmd (run .index) (stateOf s (length (env .ids)) params slots trace run)
-  pub fit : FitAll s (length (env .ids)) words′
-  pub late : 0 < r .end → 0 < r .events
-  pub next : r .end ≡ 0 → r .next ≡ to
-  pub index : r .end ≡ 0 → r .index ≡ indexAfter cmd (run .index)
-  pub inside : r .end ≡ 0 → r .index < length (env .ids)
+pub record CommandRan (s : Bytes) (env : Env) (cmd : Cmd) (to : ℕ) (run : Run) (slots : Bytes) (params : List ℕ) (trace : Bytes) (r : Run) (slots′ : Bytes) (params′ : List ℕ) (trace′ : Bytes) : Type 0 where
+  pub goes : outOf s (length (env .ids)) params′ slots′ trace′ r ≡ runCmd env cmd (run .index) (stateOf s (length (env .ids)) params slots trace run)
+  pub fit : FitAll s (length (env .ids)) params′
+  pub late : endNumber Finished < r .end → 0 < r .events
+  pub next : r .end ≡ endNumber Finished → r .next ≡ to
+  pub index : r .end ≡ endNumber Finished → r .index ≡ indexAfter cmd (run .index)
+  pub inside : r .end ≡ endNumber Finished → r .index < length (env .ids)
   pub coerce : isTrue (r .coerce) ≡ coerceAfter cmd (isTrue (run .coerce))
 
-pub record SequenceRan (s : Bytes) (env : Env) (seq : Seq) (coercible : Bool) (run : Run) (slots : Bytes) (params : List ℕ) (trace : Bytes) (r : Run) (slots′ : Bytes) (words′ : List ℕ) (trace′ : Bytes) : Type 0 where
-  pub goes : outOf s (length (env .ids)) words′ slots′ trace′ r ≡ runSeq env seq coercible (run .index) false (stateOf s (length (env .ids)) params slots trace run)
-  pub fit : FitAll s (length (env .ids)) words′
-  pub late : 0 < r .end → 0 < r .events
+pub record SequenceRan (s : Bytes) (env : Env) (seq : Seq) (coercible : Bool) (run : Run) (slots : Bytes) (params : List ℕ) (trace : Bytes) (r : Run) (slots′ : Bytes) (params′ : List ℕ) (trace′ : Bytes) : Type 0 where
+  pub goes : outOf s (length (env .ids)) params′ slots′ trace′ r ≡ runSeq env seq coercible (run .index) false (stateOf s (length (env .ids)) params slots trace run)
+  pub fit : FitAll s (length (env .ids)) params′
+  pub late : endNumber Finished < r .end → 0 < r .events

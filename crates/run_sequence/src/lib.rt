@@ -1,19 +1,24 @@
 // The run of sequences and commands: sequences hold commands and commands hold sequences.
 ghost use mathlib.Core.Path.{_≡_};
 ghost use Rattle.rules.specs.Manifest.{one};
-ghost use Rattle.run_sequence.specs.Cycle.{LeafJob, CommandJob, SequenceJob, CommandRan, SequenceRan, caughtBy};
+ghost use Rattle.run_sequence.specs.Cycle.{LeafJob, CommandJob, SequenceJob, CommandRan, SequenceRan, runAt, caughtBy};
+use manifest_accessors::arguments::COERCE_FALSE;
+use manifest_accessors::arguments::COERCE_TRUE;
 use manifest_accessors::arguments::component;
 use manifest_accessors::arguments::read_one;
 use manifest_accessors::heads::open;
 use manifest_accessors::heads::skip;
+use rules::answers::End;
+use rules::codes::RUN_SEQUENCE;
+use rules::codes::TRY_EACH;
 use rules::controller::AllParameters;
 use rules::controller::Sixteen;
 use rules::controller::SlotNumbers;
 use run_commands::perform::perform;
 use run_slots::params::either;
 
-// Where the next command is, the index and coerce of the sequence (1 false, 2 true), events written, answers used, and
-// the number of the end of what was done last, 0 to go on.
+// Where the next command is, the index and coerce of the sequence, events written, answers used, and the number of the
+// end of what was done last.
 pub struct Run {
     pub next: usize,
     pub index: usize,
@@ -69,49 +74,21 @@ fn leaf(
     }
 }
 
-// The run at the start of the sequence at `at`, with what `now` has done.
-fn enter(run: Run, at: usize, now: Run) -> Run
-    ensures { λ r. ⌜ r ≡ record { next = at; index = run .index; coerce = run .coerce; events = now .events; used = now .used; end = 0 } ⌝ }
+// The run at `at`: the index and coerce of the sequence `holder`, what `now` has done, and that end.
+fn run_at(holder: Run, at: usize, now: Run, end: usize) -> Run
+    ensures { λ r. ⌜ r ≡ runAt holder at now end ⌝ }
 {
     Run {
         next: at,
-        index: run.index,
-        coerce: run.coerce,
+        index: holder.index,
+        coerce: holder.coerce,
         events: now.events,
         used: now.used,
-        end: 0,
+        end,
     }
 }
 
-// The run after a command that held sequences: its caller's index and coerce, with what `now` has done.
-fn leave(caller: Run, at: usize, now: Run) -> Run
-    ensures { λ r. ⌜ r ≡ record { next = at; index = caller .index; coerce = caller .coerce; events = now .events; used = now .used; end = now .end } ⌝ }
-{
-    Run {
-        next: at,
-        index: caller.index,
-        coerce: caller.coerce,
-        events: now.events,
-        used: now.used,
-        end: now.end,
-    }
-}
-
-// The run after a try each of which no alternative succeeded.
-fn all_failed(outer: Run, at: usize, now: Run) -> Run
-    ensures { λ r. ⌜ r ≡ record { next = at; index = outer .index; coerce = outer .coerce; events = now .events; used = now .used; end = 1 } ⌝ }
-{
-    Run {
-        next: at,
-        index: outer.index,
-        coerce: outer.coerce,
-        events: now.events,
-        used: now.used,
-        end: 1,
-    }
-}
-
-// The sequence at run.next. `coercible`: code 30 runs it, so that its coerce makes a failed condition a success.
+// The sequence at run.next. `coercible`: a run sequence runs it, so that its coerce makes a failed condition a success.
 pub fn run_sequence(
     s: &[u8],
     depth: usize,
@@ -133,10 +110,10 @@ pub fn run_sequence(
     let mut now = Run {
         next: h.next,
         index: run.index,
-        coerce: 1,
+        coerce: COERCE_FALSE,
         events: run.events,
         used: run.used,
-        end: 0,
+        end: End::FINISHED,
     };
     while 0 < left {
         let coerce = now.coerce;
@@ -153,7 +130,7 @@ pub fn run_sequence(
             trace,
         );
         let end = now.end;
-        if end != 0 {
+        if end != End::FINISHED {
             return caught(now, coercible, coerce);
         }
         left -= 1;
@@ -161,16 +138,16 @@ pub fn run_sequence(
     now
 }
 
-// Where a condition failed in a sequence that code 30 runs and coerce is true, a success.
+// Where a condition failed in a sequence that a run sequence runs and coerce is true, a success.
 fn caught(run: Run, coercible: bool, coerce: usize) -> Run
     ensures { λ r. ⌜ r ≡ caughtBy coercible coerce run ⌝ }
 {
     let end = run.end;
     if coercible {
-        if coerce == 2 {
-            if end == 1 {
+        if coerce == COERCE_TRUE {
+            if end == End::CONDITION_FAILED {
                 let mut r = run;
-                r.end = 0;
+                r.end = End::FINISHED;
                 return r;
             }
         }
@@ -196,13 +173,13 @@ pub fn run_command(
 {
     let c = open(s, run.next);
     let code = c.value;
-    if code == 30 {
+    if code == RUN_SEQUENCE {
         let b = open(s, c.next);
         let inner = run_sequence(
             s,
             depth,
             true,
-            enter(run, b.next, run),
+            run_at(run, b.next, run, End::FINISHED),
             vendor,
             class,
             assigned,
@@ -211,9 +188,9 @@ pub fn run_command(
             params,
             trace,
         );
-        return leave(run, b.next + b.value, inner);
+        return run_at(run, b.next + b.value, inner, inner.end);
     }
-    if code == 15 {
+    if code == TRY_EACH {
         let h = open(s, c.next);
         let mut p = h.next;
         let mut left = h.value;
@@ -224,7 +201,7 @@ pub fn run_command(
                 s,
                 depth,
                 false,
-                enter(run, b.next, now),
+                run_at(run, b.next, now, End::FINISHED),
                 vendor,
                 class,
                 assigned,
@@ -236,11 +213,11 @@ pub fn run_command(
             p = b.next + b.value;
             left -= 1;
             let end = now.end;
-            if end != 1 {
-                return leave(run, skip(s, left, p), now);
+            if end != End::CONDITION_FAILED {
+                return run_at(run, skip(s, left, p), now, end);
             }
         }
-        return all_failed(run, p, now);
+        return run_at(run, p, now, End::CONDITION_FAILED);
     }
     leaf(
         s,

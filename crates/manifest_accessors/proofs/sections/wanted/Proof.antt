@@ -7,13 +7,14 @@ use borrow.Author.Needs.{needs}
 use borrow.Author.Tests.{eq-eqb, ne-eqb}
 use Rattle.rules.specs.declared.answers.Group.{Group}
 use Rattle.rules.specs.declared.answers.Group.the-variants.{Install, Boot}
-use Rattle.rules.specs.Commands.{among}
+use Rattle.rules.specs.Commands.{among, COMMON}
+use Rattle.rules.specs.Limits.{sectionCount}
 use Rattle.rules.specs.Run.{sectionsOf}
 use Rattle.manifest_accessors.specs.Sections.{keyOf}
 use Rattle.manifest_accessors.proofs.sections.wanted.Statement.{statement}
 use Rattle.manifest_accessors.proofs.sections.wanted.Tie as tie
 
-in-install : (k : ℕ) → k < 6 → (k ≡ 0 → ⊥) → ltb k 3 ≡ among (keyOf k) (sectionsOf Install)
+in-install : (k : ℕ) → k < sectionCount → (k ≡ 0 → ⊥) → ltb k 3 ≡ among (keyOf k) (sectionsOf Install)
 in-install zero h d = absurd (d refl)
 in-install (suc zero) h d = refl
 in-install (suc (suc zero)) h d = refl
@@ -22,7 +23,7 @@ in-install (suc (suc (suc (suc zero)))) h d = refl
 in-install (suc (suc (suc (suc (suc zero))))) h d = refl
 in-install (suc (suc (suc (suc (suc (suc k)))))) h d = absurd (omega arith)
 
-in-boot : (k : ℕ) → k < 6 → (k ≡ 0 → ⊥) → leb 3 k ≡ among (keyOf k) (sectionsOf Boot)
+in-boot : (k : ℕ) → k < sectionCount → (k ≡ 0 → ⊥) → leb 3 k ≡ among (keyOf k) (sectionsOf Boot)
 in-boot zero h d = absurd (d refl)
 in-boot (suc zero) h d = refl
 in-boot (suc (suc zero)) h d = refl
@@ -35,11 +36,11 @@ module _ (g : Group) (k to : ℕ) (d : to ≡ 0 → ⊥) where
   common-law : k ≡ 0 → true ≡ cond (eqb to 0) false (among (keyOf k) (sectionsOf g))
   common-law z = rw (ne-eqb to 0 d, z) (each g)
     where
-      each : (g : Group) → true ≡ among 3 (sectionsOf g)
+      each : (g : Group) → true ≡ among COMMON (sectionsOf g)
       each Install = refl
       each Boot = refl
 
-  module _ (h : k < 6) (z : k ≡ 0 → ⊥) where
+  module _ (h : k < sectionCount) (z : k ≡ 0 → ⊥) where
     install-law : g ≡ Install → ltb k 3 ≡ cond (eqb to 0) false (among (keyOf k) (sectionsOf g))
     install-law e = rw (ne-eqb to 0 d, e) (in-install k h z)
 

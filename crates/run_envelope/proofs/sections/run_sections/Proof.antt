@@ -3,6 +3,7 @@ use Prim.Native.Nat.{_-_}
 use lib.ListN.{length}
 use native.Mathlib.Omega.{arith}
 use borrow.Author.Needs.{needs}
+use Rattle.rules.specs.Limits.{sectionCount}
 use Rattle.rules.specs.Run.{planOf}
 use Rattle.run_envelope.specs.Sections.{SectionsJob}
 use Rattle.run_envelope.proofs.SectionsLaws.{Left, left-start, turn-job, turn-stops, turn-goes, all-done}
@@ -10,13 +11,13 @@ use Rattle.run_envelope.proofs.sections.run_sections.Statement.{stateme
 use Rattle.run_envelope.proofs.sections.run_sections.Tie as tie
 
 abbrev Inv-loop : tie.InvT-loop
-Inv-loop s group sections vendor class assigned answers slots₀ words₀ trace₀ now₀ k₀ slots params trace now k =
+Inv-loop s group sections vendor class assigned answers slots₀ params₀ trace₀ now₀ k₀ slots params trace now k =
     (length slots ≡ length slots₀) × (length trace ≡ length trace₀)
-    × ((j : SectionsJob s sections vendor class assigned answers slots₀ words₀ trace₀) →
-    Left s vendor class assigned answers group sections (j .ready .env) (planOf group (j .manifest)) slots₀ words₀ trace₀ slots params trace now k)
+    × ((j : SectionsJob s sections vendor class assigned answers slots₀ params₀ trace₀) →
+    Left s vendor class assigned answers group sections (j .ready .env) (planOf group (j .manifest)) slots₀ params₀ trace₀ slots params trace now k)
 
 abbrev μ-loop : tie.MeasureT-loop
-μ-loop s group sections vendor class assigned answers slots₀ words₀ trace₀ now₀ k₀ slots params trace now k = 6 - k
+μ-loop s group sections vendor class assigned answers slots₀ params₀ trace₀ now₀ k₀ slots params trace now k = sectionCount - k
 
 start : tie.Need-loop-holds Inv-loop μ-loop
 start c = (refl, refl, λ j. left-start _ _ _ _ _ _ _ _ _ _ j)
