@@ -5,13 +5,14 @@ use mathlib.Core.List.{List, [], _++_, map}
 use native.Mathlib.Omega.{arith}
 use lib.ListN.{length, length-append}
 use Rattle.rules.specs.Bytes.{Bytes, put, bytesAt, spanAt, flat}
+use Rattle.rules.specs.ProgramFormat.{nameSize}
 use Rattle.rules.specs.Program.{idBytes}
 use Rattle.run_slots.specs.Slot.{namesAt}
 use Rattle.run_slots.proofs.SearchLaws.{leftAt, left-turn, left-end, left-all}
 use Rattle.component_ids.specs.Identifiers.{InBytes}
 use Rattle.translate_record.specs.Record.{Filled}
 use Rattle.rules.proofs.BytesLaws.{length-part}
-use Rattle.translate_record.proofs.FillLaws.{put-append}
+use Rattle.byte_buffer.proofs.PutLaws.{put-append}
 
 module _ (s : Bytes) (a : List ℕ) (n : ℕ) where
   abbrev pub named : Bytes
@@ -35,10 +36,10 @@ module _ (s : Bytes) (a : List ℕ) (n : ℕ) where
     names-turn = ap (λ (l : List Bytes). flat (map idBytes l)) (left-turn s a k n h)
 
     module _ (i : InBytes a n (length s)) where
-      name-size : length (idBytes (bytesAt s (spanAt a k))) ≡ 4 + (spanAt a k .to - spanAt a k .from)
+      name-size : length (idBytes (bytesAt s (spanAt a k))) ≡ nameSize + (spanAt a k .to - spanAt a k .from)
       name-size = omega (arith, length-part s (spanAt a k .from) (spanAt a k .to - spanAt a k .from) (omega (arith, i k h)))
 
-      pub left-size : length (namesLeft k) ≡ 4 + (spanAt a k .to - spanAt a k .from) + length (namesLeft (k + 1))
+      pub left-size : length (namesLeft k) ≡ nameSize + (spanAt a k .to - spanAt a k .from) + length (namesLeft (k + 1))
       left-size = ap length names-turn ∙ length-append (idBytes (bytesAt s (spanAt a k))) (namesLeft (k + 1)) ∙ omega (arith, name-size)
 
       -- one more is written

@@ -8,6 +8,7 @@ use native.Mathlib.Omega.{arith}
 use lib.ListN.{length, getD, replicate}
 use Rattle.rules.specs.declared.answers.Group.{Group}
 use Rattle.rules.specs.Bytes.{Bytes}
+use Rattle.rules.specs.Limits.{limits, sectionCount, sectionPlaces}
 use Rattle.rules.specs.Got.{got}
 use Rattle.rules.specs.Manifest.{Seq, count, Section, Manifest}
 use Rattle.rules.specs.Check.{check}
@@ -27,11 +28,11 @@ module _ (s : Bytes) (n : ℕ) (group : Group) (places : List ℕ) where
   abbrev pub seqsOf : (k : ℕ) → PlanAt k → List Seq
   seqsOf k p = chosen (sectionsOf group) (p .rest)
 
-  abbrev pub plan-start : (m : Manifest) → length (m .ids) ≡ n → check s ≡ got m → places ≡ placed (m .sections) (replicate 12 0) → PlanAt 0
+  abbrev pub plan-start : (m : Manifest) → length (m .ids) ≡ n → check s ≡ got m → places ≡ placed (m .sections) (replicate sectionPlaces 0) → PlanAt 0
   plan-start m e q h = record { commands = 0; rest = m .sections; stand = rest-start s n places m e q h }
 
   module _ (k : ℕ) (p : PlanAt k) where
-    pub plan-end : 6 ≤ k → seqsOf k p ≡ []
+    pub plan-end : sectionCount ≤ k → seqsOf k p ≡ []
     plan-end h = ap (chosen (sectionsOf group)) (rest-end s n places k (p .commands) (p .rest) h (p .stand))
 
     abbrev left-by : Here s n places k (p .commands) (p .rest) → PlanAt (k + 1)
@@ -41,7 +42,7 @@ module _ (s : Bytes) (n : ℕ) (group : Group) (places : List ℕ) where
       pub next : PlanAt (k + 1)
       pub same : seqsOf (k + 1) next ≡ seqsOf k p
 
-    pub skip : k < 6 → Places.Wanted group places k false → Skipped
+    pub skip : k < sectionCount → Places.Wanted group places k false → Skipped
     skip h w = go (Places.skipped s n group places k (p .commands) (p .rest) h (p .stand) w)
       where
         go : Places.Skipped s n group places k (p .commands) (p .rest) h (p .stand) → Skipped
@@ -49,11 +50,11 @@ module _ (s : Bytes) (n : ℕ) (group : Group) (places : List ℕ) where
         go (inr (x, a)) = record { next = left-by x; same = sym (ap (chosen (sectionsOf group)) (x .all) ∙ rw a) }
 
     pub record Taken : Type 0 where
-      pub place : SequenceAt s n 4 0 (getD places (2 * k) 0)
+      pub place : SequenceAt s n (limits .depth) 0 (getD places (2 * k) 0)
       pub next : PlanAt (k + 1)
       pub first : seqsOf k p ≡ place .seq ∷ seqsOf (k + 1) next
 
-    pub take : k < 6 → Places.Wanted group places k true → Taken
+    pub take : k < sectionCount → Places.Wanted group places k true → Taken
     take h w =
         let (x, a) = Places.taken s n group places k (p .commands) (p .rest) h (p .stand) w in
         record {

@@ -7,10 +7,11 @@ use native.Mathlib.Omega.{arith}
 use lib.ListN.{length, getD, length-map}
 use Rattle.rules.specs.declared.answers.Group.{Group}
 use Rattle.rules.specs.Bytes.{Bytes, put, bytesAt}
+use Rattle.rules.specs.Limits.{limits, sectionCount}
 use Rattle.rules.specs.Manifest.{Seq}
 use Rattle.rules.specs.Run.{planOf}
 use Rattle.rules.specs.Program.{Rec, size, flatSeq, flatAll, programOf}
-use Rattle.rules.specs.ProgramFormat.{NONE}
+use Rattle.rules.specs.ProgramFormat.{NONE, recordSize}
 use Rattle.rules.specs.ProgramSize.{argSize, sizeAll, argSizeAll}
 use Rattle.rules_theorems.proofs.ManifestLaws.{Sound, sound}
 use Rattle.rules_theorems.proofs.RoundTrip.{GoodProgram}
@@ -55,7 +56,7 @@ module _ (s : Bytes) (group : Group) (places : List ℕ) (h : SectionsHere s pla
   formed : GoodProgram (programOf s group (h .manifest))
   formed = well-formed s group (h .manifest) known
 
-  plan-few : sizeAll plan ≤ 1024
+  plan-few : sizeAll plan ≤ limits .records
   unfolding programOf
   plan-few = omega (arith, formed .few, length-all plan 0)
 
@@ -78,22 +79,22 @@ module _ (s : Bytes) (group : Group) (places : List ℕ) (h : SectionsHere s pla
   pub sizing-starts : Sizing 0 (record { next = 0; records = 0; arguments = 0 })
   sizing-starts = record { at = plan-start s components group places (h .manifest) refl (h .checks) (h .places); records = omega arith; arguments = omega arith }
 
-  pub sizing-done : (k : ℕ) (now : Size) → Sizing k now → 6 ≤ k → SectionsSized plan now
+  pub sizing-done : (k : ℕ) (now : Size) → Sizing k now → sectionCount ≤ k → SectionsSized plan now
   sizing-done k now z l =
       let e = plan-end s components group places k (z .at) l in
       record { records = omega (arith, z .records, ap sizeAll e, size-none .0); arguments = omega (arith, z .arguments, ap argSizeAll e, size-none .1) }
 
-  module _ (k : ℕ) (now : Size) (z : Sizing k now) (l : k < 6) (w : Bool) (e : Wanted group places k w) where
+  module _ (k : ℕ) (now : Size) (z : Sizing k now) (l : k < sectionCount) (w : Bool) (e : Wanted group places k w) where
     taken : w ≡ true → Taken s components group places k (z .at)
     taken t = take s components group places k (z .at) l (sym t ∙ e)
 
     skipped : w ≡ false → Skipped s components group places k (z .at)
     skipped t = skip s components group places k (z .at) l (sym t ∙ e)
 
-    pub sizing-job : w ≡ true → SequenceHere s 4 (getD places (2 * k) 0)
+    pub sizing-job : w ≡ true → SequenceHere s (limits .depth) (getD places (2 * k) 0)
     sizing-job t = record { n = components; place = taken t .place; small = omega (arith, plan-small, z .records, z .arguments, first-size k (z .at) (taken t) .0, first-size k (z .at) (taken t) .1) }
 
-    module _ (r : Size) (whole : w ≡ true → (j : SequenceHere s 4 (getD places (2 * k) 0)) → SequenceSized (j .place .seq) r)
+    module _ (r : Size) (whole : w ≡ true → (j : SequenceHere s (limits .depth) (getD places (2 * k) 0)) → SequenceSized (j .place .seq) r)
         (none : w ≡ false → (r .records ≡ 0) × (r .arguments ≡ 0)) where
       pub sizing-on : Sizing (k + 1) (record { next = 0; records = now .records + r .records; arguments = now .arguments + r .arguments })
       unfolding sizing-job
@@ -119,39 +120,39 @@ module _ (s : Bytes) (group : Group) (places : List ℕ) (h : SectionsHere s pla
       sizing-adds = (omega (arith, sizing-on .records, plan-small), omega (arith, sizing-on .arguments, plan-small))
 
   -- what is written and the sections that are left make the whole
-  module _ (pen : WriteState) (room₀ : Bytes) where
+  module _ (state : WriteState) (room₀ : Bytes) where
     pub record Writing (room : Bytes) (k : ℕ) (now : WriteState) : Type 0 where
       pub at : PlanAt s components group places k
       pub done : List Rec
-      pub wrote : Wrote done pen room₀ now room
+      pub wrote : Wrote done state room₀ now room
       pub goes : flatAll plan 0 ≡ done ++ flatAll (seqsOf s components group places k at) (now .n)
-      pub enough : now .to + 10 * sizeAll (seqsOf s components group places k at) + argSizeAll (seqsOf s components group places k at) ≤ length room
-      pub few : now .n + sizeAll (seqsOf s components group places k at) ≤ 1024
+      pub enough : now .to + recordSize * sizeAll (seqsOf s components group places k at) + argSizeAll (seqsOf s components group places k at) ≤ length room
+      pub few : now .n + sizeAll (seqsOf s components group places k at) ≤ limits .records
       pub small : length room ≤ most
 
-    pub writing-starts : pen .n ≡ 0 → pen .to + 10 * sizeAll plan + argSizeAll plan ≤ length room₀ → length room₀ ≤ most → Writing room₀ 0 pen
+    pub writing-starts : state .n ≡ 0 → state .to + recordSize * sizeAll plan + argSizeAll plan ≤ length room₀ → length room₀ ≤ most → Writing room₀ 0 state
     writing-starts z e l =
         record {
           at = plan-start s components group places (h .manifest) refl (h .checks) (h .places);
           done = [];
-          wrote = wrote-none pen pen room₀ refl refl;
+          wrote = wrote-none state state room₀ refl refl;
           goes = ap (flatAll plan) (sym z);
           enough = e;
           few = omega (arith, plan-few);
           small = l;
         }
 
-    pub writing-done : (room : Bytes) (k : ℕ) (now : WriteState) → Writing room k now → 6 ≤ k → room ≡ put room₀ (pen .to) (written (flatAll plan 0))
+    pub writing-done : (room : Bytes) (k : ℕ) (now : WriteState) → Writing room k now → sectionCount ≤ k → room ≡ put room₀ (state .to) (written (flatAll plan 0))
     writing-done room k now z l =
         let e = plan-end s components group places k (z .at) l in
         let f : flatAll plan 0 ≡ z .done = z .goes ∙ ap (λ (x : List Seq). z .done ++ flatAll x (now .n)) e ∙ ap (λ (x : List Rec). z .done ++ x) (flat-none (now .n)) ∙ append-nil (z .done) in
-        z .wrote .filled ∙ ap (λ (x : List Rec). put room₀ (pen .to) (written x)) (sym f)
+        z .wrote .filled ∙ ap (λ (x : List Rec). put room₀ (state .to) (written x)) (sym f)
 
-    module _ (room : Bytes) (k : ℕ) (now : WriteState) (z : Writing room k now) (l : k < 6) (w : Bool) (e : Wanted group places k w) where
+    module _ (room : Bytes) (k : ℕ) (now : WriteState) (z : Writing room k now) (l : k < sectionCount) (w : Bool) (e : Wanted group places k w) where
       its : w ≡ true → Taken s components group places k (z .at)
       its t = take s components group places k (z .at) l (sym t ∙ e)
 
-      pub writing-job : w ≡ true → SequenceJob s 4 (startOf (getD places (2 * k) 0) now) room
+      pub writing-job : w ≡ true → SequenceJob s (limits .depth) (startOf (getD places (2 * k) 0) now) room
       writing-job t =
           record {
             n = components;
@@ -164,7 +165,7 @@ module _ (s : Bytes) (group : Group) (places : List ℕ) (h : SectionsHere s pla
           }
 
       module _ (r : WriteState) (room′ : Bytes)
-          (whole : w ≡ true → (j : SequenceJob s 4 (startOf (getD places (2 * k) 0) now) room) → Wrote (flatSeq (j .place .seq) false 0 false NONE 0 (now .n)) now room r room′)
+          (whole : w ≡ true → (j : SequenceJob s (limits .depth) (startOf (getD places (2 * k) 0) now) room) → Wrote (flatSeq (j .place .seq) false 0 false NONE 0 (now .n)) now room r room′)
           (none : w ≡ false → (r ≡ now) × (room′ ≡ room)) where
         pub writing-on : Writing room′ (k + 1) r
         unfolding writing-job
@@ -176,11 +177,11 @@ module _ (s : Bytes) (group : Group) (places : List ℕ) (h : SectionsHere s pla
                 let f : List Rec = flatSeq a false 0 false NONE 0 (now .n) in
                 let y : Wrote f now room r room′ = whole t (writing-job t) in
                 let n : r .n ≡ now .n + size a = omega (arith, y .n, length-seq a false 0 false NONE 0 (now .n)) in
-                let to : r .to ≡ now .to + 10 * size a + argSize a = omega (arith, y .to, bytes-seq a false 0 false NONE 0 (now .n)) in
+                let to : r .to ≡ now .to + recordSize * size a + argSize a = omega (arith, y .to, bytes-seq a false 0 false NONE 0 (now .n)) in
                 record {
                   at = its t .next;
                   done = z .done ++ f;
-                  wrote = wrote-then (z .done) f pen room₀ now room now r room′ refl refl (z .wrote) y;
+                  wrote = wrote-then (z .done) f state room₀ now room now r room′ refl refl (z .wrote) y;
                   goes =
                       z .goes
                       ∙ ap (λ (x : List Seq). z .done ++ flatAll x (now .n)) (its t .first)

@@ -10,6 +10,7 @@ use Rattle.rules.specs.declared.answers.Group.{Group}
 use Rattle.rules.specs.declared.answers.Refusal.{Refusal}
 use Rattle.rules.specs.declared.answers.Refusal.the-variants.{ShortRoom}
 use Rattle.rules.specs.Limits.{limits}
+use Rattle.rules.specs.ProgramFormat.{startSize, recordSize}
 use Rattle.rules.specs.Bytes.{Bytes, put, flat, spanAt}
 use Rattle.rules.specs.Got.{refused}
 use Rattle.rules.specs.Manifest.{Seq}
@@ -31,14 +32,15 @@ use Rattle.translate.specs.Sections.{SectionsHere, SectionsSized, Sectio
 use Rattle.translate.specs.Start.{startBytes}
 use Rattle.translate.specs.Translate.{Translates}
 use Rattle.rules.proofs.BytesLaws.{length-part}
-use Rattle.translate_record.proofs.FillLaws.{put-append, filled-length}
+use Rattle.byte_buffer.proofs.PutLaws.{put-append}
+use Rattle.translate_record.proofs.FillLaws.{filled-length}
 
 id-short : (ids : List Bytes) (k : ℕ) → GoodIds ids → k < length ids → length (getD ids k []) ≤ limits .identifier
 id-short [] k g h = absurd (omega arith)
 id-short (x ∷ xs) zero g h = g .1
 id-short (x ∷ xs) (suc k) g h = id-short xs k (g .2) (omega arith)
 
-start-length : (g : Group) (number n records : ℕ) → length (startBytes g number n records) ≡ 11
+start-length : (g : Group) (number n records : ℕ) → length (startBytes g number n records) ≡ startSize
 unfolding startBytes
 start-length g number n records = refl
 
@@ -48,7 +50,7 @@ put-front b room h = let z : 0 + length b ≡ length b = omega arith in sets-eq 
 
 pub refused-translation : (s : Bytes) (group : Group) (k : Refusal) (p : ℕ) (room : Bytes) → check s ≡ refused k p → Translates (translate s group (length room)) (Refused k p) room room
 unfolding translate
-refused-translation s group k p room e = rw e (refl, refl)
+refused-translation s group k p room e = rw e (refl, refl, refl)
 
 module _ (s : Bytes) (number n : ℕ) (ids sections : List ℕ) (a : Accepted s number n ids sections) (group : Group) where
   abbrev plan : List Seq
@@ -63,7 +65,7 @@ module _ (s : Bytes) (number n : ℕ) (ids sections : List ℕ) (a : Accepted s 
   abbrev pub here : SectionsHere s sections
   here = record { manifest = a .manifest; checks = a .checks; places = a .places }
 
-  pub ids-near : InBytes ids n 65536
+  pub ids-near : InBytes ids n (limits .envelope)
   ids-near k h = let i = inside s number n ids sections a k h in (i .0, omega (arith, i .1, envelope-short s number n ids sections a))
 
   pub ids-short : (k : ℕ) → k < n → spanAt ids k .to - spanAt ids k .from < 256
@@ -77,7 +79,7 @@ module _ (s : Bytes) (number n : ℕ) (ids sections : List ℕ) (a : Accepted s 
   module _ (size : Size) (sized : (j : SectionsHere s sections) → SectionsSized (planOf group (j .manifest)) size) (width : ℕ)
       (wide : (t : Bytes) → InBytes ids n (length t) → width ≡ length (flat (map idBytes (namesAt t ids n)))) where
     abbrev total : ℕ
-    total = 11 + width + 10 * size .records + size .arguments
+    total = startSize + width + recordSize * size .records + size .arguments
 
     widths : width ≡ length identifiers
     widths = wide s (inside s number n ids sections a)
@@ -93,28 +95,28 @@ module _ (s : Bytes) (number n : ℕ) (ids sections : List ℕ) (a : Accepted s 
           program-size s group (a .manifest) (known s number n ids sections a),
         )
 
-    pub total-small : total ≤ 32768
+    pub total-small : total ≤ limits .program
     total-small = omega (arith, total-is, well-formed s group (a .manifest) (known s number n ids sections a) .short)
 
     pub too-short : (room : Bytes) → length room < total → Translates (translate s group (length room)) (Refused ShortRoom 0) room room
     unfolding translate
     too-short room h =
         let l : length room < length program = omega (arith, total-is) in
-        rw (a .checks, lt-leb (length program) (length room) l) (refl, refl)
+        rw (a .checks, lt-leb (length program) (length room) l) (refl, refl, refl)
 
     module _ (room : Bytes) (enough : total ≤ length room) (room₁ : Bytes) (first : room₁ ≡ put room 0 (startBytes group number n (size .records))) where
       same-size : length room₁ ≡ length room
       same-size = ap length first ∙ length-sets room 0 (startBytes group number n (size .records))
 
-      pub names-fit : 11 + length identifiers ≤ length room₁
+      pub names-fit : startSize + length identifiers ≤ length room₁
       names-fit = omega (arith, same-size, widths, enough)
 
-      module _ (at : ℕ) (room₂ : Bytes) (second : Filled identifiers 11 room₁ at room₂) where
+      module _ (at : ℕ) (room₂ : Bytes) (second : Filled identifiers startSize room₁ at room₂) where
         pub job : length room₂ ≤ most → SectionsJob s group sections at room₂
         job small =
             record {
               here = here;
-              enough = omega (arith, second .next, widths, enough, same-size, filled-length identifiers 11 room₁ at room₂ second, sized here .records, sized here .arguments);
+              enough = omega (arith, second .next, widths, enough, same-size, filled-length identifiers startSize room₁ at room₂ second, sized here .records, sized here .arguments);
               small = small;
             }
 
@@ -131,8 +133,8 @@ module _ (s : Bytes) (number n : ℕ) (ids sections : List ℕ) (a : Accepted s 
 
           all : room₃ ≡ put room 0 program
           all =
-              let l : 11 ≡ 0 + length (startBytes group number n (size .records)) = omega (arith, start-length group number n (size .records)) in
-              let e : put room₁ 11 identifiers ≡ put room 0 (startBytes group number n (size .records) ++ identifiers) =
+              let l : startSize ≡ 0 + length (startBytes group number n (size .records)) = omega (arith, start-length group number n (size .records)) in
+              let e : put room₁ startSize identifiers ≡ put room 0 (startBytes group number n (size .records) ++ identifiers) =
               rw (first, l) (put-append room 0 (startBytes group number n (size .records)) identifiers) in
               let f : at ≡ 0 + length (startBytes group number n (size .records) ++ identifiers) =
               omega (arith, second .next, length-append (startBytes group number n (size .records)) identifiers, start-length group number n (size .records)) in
@@ -142,4 +144,4 @@ module _ (s : Bytes) (number n : ℕ) (ids sections : List ℕ) (a : Accepted s 
           unfolding translate
           translated =
               let l : length program ≤ length room = omega (arith, total-is) in
-              rw (a .checks, le-leb (length program) (length room) l) (ap Program total-is, all ∙ put-front program room l)
+              rw (a .checks, le-leb (length program) (length room) l) (ap Program total-is, all ∙ put-front program room l, ap (λ (n : ℕ). (0, n)) total-is)

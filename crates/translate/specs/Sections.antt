@@ -5,6 +5,8 @@ use mathlib.Core.List.{List}
 use lib.ListN.{length, replicate}
 use Rattle.rules.specs.declared.answers.Group.{Group}
 use Rattle.rules.specs.Bytes.{Bytes}
+use Rattle.rules.specs.Limits.{sectionPlaces}
+use Rattle.rules.specs.ProgramFormat.{recordSize}
 use Rattle.rules.specs.Got.{got}
 use Rattle.rules.specs.Manifest.{Seq, Manifest}
 use Rattle.rules.specs.Check.{check}
@@ -19,7 +21,7 @@ use Rattle.translate_size.specs.Size.{most}
 pub record SectionsHere (s : Bytes) (sections : List ℕ) : Type 0 where
   pub manifest : Manifest
   pub checks : check s ≡ got manifest
-  pub places : sections ≡ placed (manifest .sections) (replicate 12 0)
+  pub places : sections ≡ placed (manifest .sections) (replicate sectionPlaces 0)
 
 pub record SectionsSized (plan : List Seq) (r : Size) : Type 0 where
   pub records : r .records ≡ sizeAll plan
@@ -28,9 +30,9 @@ pub record SectionsSized (plan : List Seq) (r : Size) : Type 0 where
 -- and room for their records
 pub record SectionsJob (s : Bytes) (group : Group) (sections : List ℕ) (to : ℕ) (room : Bytes) : Type 0 where
   pub here : SectionsHere s sections
-  pub enough : to + 10 * sizeAll (planOf group (here .manifest)) + argSizeAll (planOf group (here .manifest)) ≤ length room
+  pub enough : to + recordSize * sizeAll (planOf group (here .manifest)) + argSizeAll (planOf group (here .manifest)) ≤ length room
   pub small : length room ≤ most
 
--- the pen at the start of the sequence at `from`, where `now` writes
+-- the state at the start of the sequence at `from`: its records follow those of `now`
 abbrev pub startOf : ℕ → WriteState → WriteState
 startOf from now = record { next = from; index = 0; coerce = 1; n = now .n; to = now .to }

@@ -11,6 +11,7 @@ use rules::answers::Group;
 use rules::answers::Refusal;
 use rules::controller::Places;
 use rules::controller::SectionPlaces;
+use rules::program_format::RECORD_BYTES;
 use rules::program_format::START_BYTES;
 use sections::size_sections;
 use sections::write_sections;
@@ -41,7 +42,7 @@ fn translate_checked(
 {
     let size = size_sections(s, group, sections);
     let names = size_names(ids, n);
-    let length = START_BYTES + names + 10 * size.records + size.arguments;
+    let length = START_BYTES + names + RECORD_BYTES * size.records + size.arguments;
     if room.len() < length {
         return Translated::Refused(Refusal::ShortRoom, 0);
     }

@@ -4,18 +4,20 @@ ghost use mathlib.Core.List.{map};
 ghost use Prim.Native.Nat.{ℕ, _+_, _-_, _*_, _≤_, _<_};
 ghost use lib.ListN.{length};
 ghost use Rattle.rules.specs.Bytes.{Bytes, part, flat, spanAt};
+ghost use Rattle.rules.specs.Limits.{limits};
+ghost use Rattle.rules.specs.ProgramFormat.{nameSize};
 ghost use Rattle.rules.specs.Program.{idBytes};
 ghost use Rattle.run_slots.specs.Slot.{namesAt};
 ghost use Rattle.component_ids.specs.Identifiers.{InBytes};
 ghost use Rattle.translate_record.specs.Record.{Filled};
+use byte_buffer::copy;
 use rules::controller::Places;
-use translate_record::bytes::copy;
-
-const NAME_BYTES: usize = 4;
+use rules::program_format;
+use rules::program_format::NAME_BYTES;
 
 // How many bytes the records of the n identifiers have.
 pub fn size_names(ids: &Places, n: usize) -> usize
-    requires { ⌜ (n ≤ 8) × InBytes (now ids) n 65536 ⌝ }
+    requires { ⌜ (n ≤ limits .components) × InBytes (now ids) n (limits .envelope) ⌝ }
     ensures { λ r. ⌜ ((s : Bytes) → InBytes (now (ids .entry)) n (length s) → r ≡ length (flat (map idBytes (namesAt s (now (ids .entry)) n)))) ⌝ }
 {
     let mut sum = 0;
@@ -29,20 +31,20 @@ pub fn size_names(ids: &Places, n: usize) -> usize
 
 // The record of the identifier of n bytes at `from`: the place after it.
 fn put_name(s: &[u8], from: usize, n: usize, room: &mut [u8], to: usize) -> usize
-    requires { ⌜ (from + n ≤ length (now s)) × (n < 256) × (to + 4 + n ≤ length (now room)) ⌝ }
+    requires { ⌜ (from + n ≤ length (now s)) × (n < 256) × (to + nameSize + n ≤ length (now room)) ⌝ }
     ensures { λ r. ⌜ Filled (idBytes (part (now (s .entry)) from n)) to (now (room .entry)) r (now (room .exit)) ⌝ }
 {
-    room[to] = 0x53;
-    room[to + 1] = 0x50;
-    room[to + 2] = 0xfd;
-    room[to + 3] = n as u8;
+    room[to] = program_format::MARK;
+    room[to + 1] = program_format::MARK_2;
+    room[to + program_format::CODE] = program_format::NAME as u8;
+    room[to + program_format::NAME_LENGTH] = n as u8;
     copy(s, from, n, room, to + NAME_BYTES);
     to + NAME_BYTES + n
 }
 
 // The records of the n identifiers at the places `ids` of s, written from `at` on: the place after them.
 pub fn write_names(s: &[u8], ids: &Places, n: usize, room: &mut [u8], at: usize) -> usize
-    requires { ⌜ (n ≤ 8) × InBytes (now ids) n (length (now s)) × ((k : ℕ) → k < n → spanAt (now ids) k .to - spanAt (now ids) k .from < 256) × (at + length (flat (map idBytes (namesAt (now s) (now ids) n))) ≤ length (now room)) ⌝ }
+    requires { ⌜ (n ≤ limits .components) × InBytes (now ids) n (length (now s)) × ((k : ℕ) → k < n → spanAt (now ids) k .to - spanAt (now ids) k .from < 256) × (at + length (flat (map idBytes (namesAt (now s) (now ids) n))) ≤ length (now room)) ⌝ }
     ensures { λ r. ⌜ Filled (flat (map idBytes (namesAt (now (s .entry)) (now (ids .entry)) n))) at (now (room .entry)) r (now (room .exit)) ⌝ }
 {
     let mut to = at;

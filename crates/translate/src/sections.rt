@@ -2,6 +2,7 @@
 ghost use mathlib.Core.Path.{_≡_};
 ghost use mathlib.Core.Bool.{true, false};
 ghost use Rattle.rules.specs.Bytes.{put};
+ghost use Rattle.rules.specs.Limits.{limits};
 ghost use Rattle.rules.specs.Program.{flatSeq, flatAll};
 ghost use Rattle.rules.specs.ProgramFormat.{NONE};
 ghost use Rattle.rules.specs.Run.{planOf};
@@ -12,6 +13,7 @@ ghost use Rattle.translate.specs.Sections.{SectionsHere, SectionsSized, 
 use manifest_accessors::sections::wanted;
 use rules::answers::Group;
 use rules::controller::Controller;
+use rules::controller::SECTIONS;
 use rules::controller::SectionPlaces;
 use rules::program_format::NO_TARGET;
 use translate_record::record::WriteState;
@@ -21,8 +23,8 @@ use translate_size::sizes::size_sequence;
 
 // The size of the sequence at `from`; nothing where it is not wanted.
 fn size_section(s: &[u8], wanted: bool, from: usize) -> Size
-    requires { ⌜ (wanted ≡ true → SequenceHere (now s) 4 from) ⌝ }
-    ensures { λ r. ⌜ (wanted ≡ true → (j : SequenceHere (now (s .entry)) 4 from) → SequenceSized (j .place .seq) r) × (wanted ≡ false → (r .records ≡ 0) × (r .arguments ≡ 0)) ⌝ }
+    requires { ⌜ (wanted ≡ true → SequenceHere (now s) (limits .depth) from) ⌝ }
+    ensures { λ r. ⌜ (wanted ≡ true → (j : SequenceHere (now (s .entry)) (limits .depth) from) → SequenceSized (j .place .seq) r) × (wanted ≡ false → (r .records ≡ 0) × (r .arguments ≡ 0)) ⌝ }
 {
     if !wanted {
         return Size {
@@ -45,7 +47,7 @@ pub fn size_sections(s: &[u8], group: Group, sections: &SectionPlaces) -> Size
         arguments: 0,
     };
     let mut k = 0;
-    while k < 6 {
+    while k < SECTIONS {
         let from = sections[2 * k];
         let to = sections[2 * k + 1];
         let r = size_section(s, wanted(group, k, to), from);
@@ -59,19 +61,19 @@ pub fn size_sections(s: &[u8], group: Group, sections: &SectionPlaces) -> Size
     now
 }
 
-// The sequence at `from`, written at the pen; nothing where it is not wanted.
+// The sequence at `from`, written from the state on; nothing where it is not wanted.
 fn write_section(
     s: &[u8],
     wanted: bool,
     from: usize,
-    pen: WriteState,
+    state: WriteState,
     room: &mut [u8],
 ) -> WriteState
-    requires { ⌜ (wanted ≡ true → SequenceJob (now s) 4 (startOf from pen) (now room)) ⌝ }
-    ensures { λ r. ⌜ (wanted ≡ true → (j : SequenceJob (now (s .entry)) 4 (startOf from pen) (now (room .entry))) → Wrote (flatSeq (j .place .seq) false 0 false NONE 0 (pen .n)) pen (now (room .entry)) r (now (room .exit))) × (wanted ≡ false → (r ≡ pen) × (now (room .exit) ≡ now (room .entry))) ⌝ }
+    requires { ⌜ (wanted ≡ true → SequenceJob (now s) (limits .depth) (startOf from state) (now room)) ⌝ }
+    ensures { λ r. ⌜ (wanted ≡ true → (j : SequenceJob (now (s .entry)) (limits .depth) (startOf from state) (now (room .entry))) → Wrote (flatSeq (j .place .seq) false 0 false NONE 0 (state .n)) state (now (room .entry)) r (now (room .exit))) × (wanted ≡ false → (r ≡ state) × (now (room .exit) ≡ now (room .entry))) ⌝ }
 {
     if !wanted {
-        return pen;
+        return state;
     }
     write_sequence(
         s,
@@ -83,8 +85,8 @@ fn write_section(
             next: from,
             index: 0,
             coerce: 1,
-            n: pen.n,
-            to: pen.to,
+            n: state.n,
+            to: state.to,
         },
         room,
     )
@@ -103,7 +105,7 @@ pub fn write_sections(s: &[u8], group: Group, sections: &SectionPlaces, to: usiz
         to,
     };
     let mut k = 0;
-    while k < 6 {
+    while k < SECTIONS {
         let from = sections[2 * k];
         let end = sections[2 * k + 1];
         now = write_section(s, wanted(group, k, end), from, now, room);

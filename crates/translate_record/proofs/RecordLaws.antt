@@ -8,8 +8,9 @@ use native.Mathlib.Omega.{arith}
 use lib.Dec.{eqb}
 use lib.ListN.{length, length-append}
 use Rattle.rules.specs.Bytes.{Bytes, put, part, be4}
+use Rattle.rules.specs.Limits.{limits}
 use Rattle.rules.specs.Commands as Rules
-use Rattle.rules.specs.ProgramFormat.{NONE}
+use Rattle.rules.specs.ProgramFormat.{JUMP, NONE, recordSize}
 use Rattle.rules.specs.Commands.{Op, vendor, class, imageMatch, setIndex, abort, setParams, overrideParams, fetch, copy, run, swap, code}
 use Rattle.rules.specs.Manifest.{one}
 use Rattle.rules.specs.Program.{does, jump, targetOf, entry, paramBytes, argBytes, recBytes, flatCmd, flatSeq}
@@ -23,7 +24,8 @@ use Rattle.manifest_accessors.proofs.OneLaws.{one-plain, coerce-after}
 use Rattle.translate_record.specs.declared.record.WriteState.{WriteState}
 use Rattle.translate_record.specs.Record.{Filled, headBytes, written, JumpWrote, LeafJob, CommandWrote}
 use Rattle.rules.proofs.BytesLaws.{length-part}
-use Rattle.translate_record.proofs.FillLaws.{put-before, filled-then}
+use Rattle.byte_buffer.proofs.PutLaws.{put-before}
+use Rattle.translate_record.proofs.FillLaws.{filled-then}
 
 -- the entries of the parameters
 module _ (s : Bytes) (p : Params) where
@@ -34,7 +36,7 @@ module _ (s : Bytes) (p : Params) where
   sourceBytes = entry 10 (λ n. n ∷ []) (optional (p .source) (p .source - 1))
 
   abbrev pub digestBytes : Bytes
-  digestBytes = entry 11 (λ b. b) (optional (p .digest) (part s (p .digest) 32))
+  digestBytes = entry 11 (λ b. b) (optional (p .digest) (part s (p .digest) (limits .digest)))
 
   abbrev pub sizeBytes : Bytes
   sizeBytes = entry 12 be4 (optional (p .size) (p .size - 1))
@@ -56,14 +58,14 @@ module _ (s : Bytes) (p : Params) where
 
 -- the argument by the code
 module _ (s : Bytes) (c v : ℕ) (p : Params) where
-  pub sixteen-bytes : (c ≡ 1) ⊎ (c ≡ 2) → argBytes (opOf s c v p) ≡ part s v 16
+  pub sixteen-bytes : (c ≡ 1) ⊎ (c ≡ 2) → argBytes (opOf s c v p) ≡ part s v (limits .class)
   unfolding opOf
   sixteen-bytes (inl k) = rw k
   sixteen-bytes (inr k) = rw k
 
-  pub sixteen-filled : (c ≡ 1) ⊎ (c ≡ 2) → v + 16 ≤ length s → (to : ℕ) (room room′ : Bytes) → room′ ≡ put room to (part s v 16) →
-      Filled (argBytes (opOf s c v p)) to room (to + 16) room′
-  sixteen-filled k l to room room′ e = rw (sixteen-bytes k) (record { filled = e; next = omega (arith, length-part s v 16 l) })
+  pub sixteen-filled : (c ≡ 1) ⊎ (c ≡ 2) → v + limits .class ≤ length s → (to : ℕ) (room room′ : Bytes) → room′ ≡ put room to (part s v (limits .class)) →
+      Filled (argBytes (opOf s c v p)) to room (to + limits .class) room′
+  sixteen-filled k l to room room′ e = rw (sixteen-bytes k) (record { filled = e; next = omega (arith, length-part s v (limits .class) l) })
 
   pub params-bytes : (c ≡ 19) ⊎ (c ≡ 20) → argBytes (opOf s c v p) ≡ paramBytes (meaning s p)
   unfolding opOf
@@ -84,7 +86,7 @@ no-bytes run c k i j = refl
 no-bytes swap c k i j = refl
 
 -- a record is its head and its argument
-head-length : (c i p t n : ℕ) → length (headBytes c i p t n) ≡ 10
+head-length : (c i p t n : ℕ) → length (headBytes c i p t n) ≡ recordSize
 unfolding headBytes
 head-length c i p t n = refl
 
@@ -92,7 +94,7 @@ command-bytes : (op : Op) (i p t : ℕ) → written (does op i p t ∷ []) ≡ h
 unfolding headBytes written recBytes
 command-bytes op i p t = append-nil _
 
-jump-bytes : (t : ℕ) → written (jump t ∷ []) ≡ headBytes 0xff 0 0 t 0
+jump-bytes : (t : ℕ) → written (jump t ∷ []) ≡ headBytes JUMP 0 0 t 0
 unfolding headBytes written recBytes
 jump-bytes t = refl
 
@@ -100,17 +102,17 @@ flat-one : (p : ℕ) (op : Op) (b : _) (i t n : ℕ) → flatCmd (one p op b) i 
 unfolding flatSeq
 flat-one p op b i t n = refl
 
-pub jump-wrote : (target : ℕ) (pen : WriteState) (room room′ : Bytes) → room′ ≡ put room (pen .to) (headBytes 0xff 0 0 target 0) →
-    JumpWrote target pen room (record { next = pen .next; index = pen .index; coerce = pen .coerce; n = pen .n + 1; to = pen .to + 10 }) room′
-jump-wrote target pen room room′ e =
+pub jump-wrote : (target : ℕ) (state : WriteState) (room room′ : Bytes) → room′ ≡ put room (state .to) (headBytes JUMP 0 0 target 0) →
+    JumpWrote target state room (record { next = state .next; index = state .index; coerce = state .coerce; n = state .n + 1; to = state .to + recordSize }) room′
+jump-wrote target state room room′ e =
     record {
-      wrote = record { filled = e ∙ (rw (jump-bytes target)); to = rw (jump-bytes target, head-length 0xff 0 0 target 0); n = refl };
+      wrote = record { filled = e ∙ (rw (jump-bytes target)); to = rw (jump-bytes target, head-length JUMP 0 0 target 0); n = refl };
       next = refl;
       index = refl;
       coerce = refl;
     }
 
-module _ (s : Bytes) (c at : ℕ) (pen : WriteState) (room : Bytes) (j : LeafJob s c at pen room) (a : Args) (r : ArgumentRead s c at (j .argument) a) where
+module _ (s : Bytes) (c at : ℕ) (state : WriteState) (room : Bytes) (j : LeafJob s c at state room) (a : Args) (r : ArgumentRead s c at (j .argument) a) where
   is-code : code (j .argument .op) ≡ c
   is-code = one-plain s c at (j .argument) .0
 
@@ -123,39 +125,39 @@ module _ (s : Bytes) (c at : ℕ) (pen : WriteState) (room : Bytes) (j : LeafJob
   pub leaf-fit : Fit s 256 (paramsOf a)
   leaf-fit = record { source = omega (arith, r .fit .source, j .components); digest = r .fit .digest }
 
-  pub leaf-room : pen .to + 10 + length (argBytes (opOf s c (a .value) (paramsOf a))) ≤ length room
+  pub leaf-room : state .to + recordSize + length (argBytes (opOf s c (a .value) (paramsOf a))) ≤ length room
   leaf-room = rw (r .op) (j .enough)
 
-  module _ (i : ℕ) (e : i ≡ cond (eqb c 12) (a .value) (pen .index)) where
-    leaf-component : i ≡ Rules.component (j .argument .op) (pen .index)
-    leaf-component = e ∙ sym (r .component (pen .index))
+  module _ (i : ℕ) (e : i ≡ cond (eqb c 12) (a .value) (state .index)) where
+    leaf-component : i ≡ Rules.component (j .argument .op) (state .index)
+    leaf-component = e ∙ sym (r .component (state .index))
 
     pub leaf-inside : i < j .argument .n
-    leaf-inside = omega (arith, leaf-component, r .inside (pen .index) (j .inside))
+    leaf-inside = omega (arith, leaf-component, r .inside (state .index) (j .inside))
 
-    pub leaf-wrote : (target t : ℕ) → t ≡ cond (Rules.conditionIn (Rules.rowOf c Rules.commands)) target NONE → (to : ℕ) (room₁ : Bytes) → Filled (argBytes (opOf s c (a .value) (paramsOf a))) (pen .to + 10) room to room₁ →
-        (room₂ : Bytes) → room₂ ≡ put room₁ (pen .to) (headBytes c i (pen .next) t (to - (pen .to + 10))) → (b : ℕ) → b ≡ cond (eqb (a .coerce) 0) (pen .coerce) (a .coerce) →
-        CommandWrote (one (pen .next) (j .argument .op) (j .argument .coerce)) (j .argument .to) (j .argument .n) target pen room
-        (record { next = a .next; index = i; coerce = b; n = pen .n + 1; to = to }) room₂
+    pub leaf-wrote : (target t : ℕ) → t ≡ cond (Rules.conditionIn (Rules.rowOf c Rules.commands)) target NONE → (to : ℕ) (room₁ : Bytes) → Filled (argBytes (opOf s c (a .value) (paramsOf a))) (state .to + recordSize) room to room₁ →
+        (room₂ : Bytes) → room₂ ≡ put room₁ (state .to) (headBytes c i (state .next) t (to - (state .to + recordSize))) → (b : ℕ) → b ≡ cond (eqb (a .coerce) 0) (state .coerce) (a .coerce) →
+        CommandWrote (one (state .next) (j .argument .op) (j .argument .coerce)) (j .argument .to) (j .argument .n) target state room
+        (record { next = a .next; index = i; coerce = b; n = state .n + 1; to = to }) room₂
     leaf-wrote target t et to room₁ f room₂ g b eb =
         let op = j .argument .op in
         let args = argBytes op in
-        let f′ : Filled args (pen .to + 10) room to room₁ = rw (r .op) at f in
-        let size : to - (pen .to + 10) ≡ length args = omega (arith, f′ .next) in
+        let f′ : Filled args (state .to + recordSize) room to room₁ = rw (r .op) at f in
+        let size : to - (state .to + recordSize) ≡ length args = omega (arith, f′ .next) in
         let target-is : t ≡ targetOf op target = rw is-code et in
-        let head = headBytes (code op) (Rules.component op (pen .index)) (pen .next) (targetOf op target) (length args) in
-        let ten : length head ≡ 10 = head-length _ _ _ _ _ in
-        let bytes : written (flatCmd (one (pen .next) op (j .argument .coerce)) (pen .index) target (pen .n)) ≡ head ++ args = rw (flat-one (pen .next) op (j .argument .coerce) (pen .index) target (pen .n)) (command-bytes op _ (pen .next) (targetOf op target)) in
-        let whole : put (put room (pen .to + 10) args) (pen .to) head ≡ put room (pen .to) (head ++ args) = rw ten at (put-before room (pen .to) head args) in
-        let same : headBytes c i (pen .next) t (to - (pen .to + 10)) ≡ head = rw (size, target-is, leaf-component, is-code) in
+        let head = headBytes (code op) (Rules.component op (state .index)) (state .next) (targetOf op target) (length args) in
+        let ten : length head ≡ recordSize = head-length _ _ _ _ _ in
+        let bytes : written (flatCmd (one (state .next) op (j .argument .coerce)) (state .index) target (state .n)) ≡ head ++ args = rw (flat-one (state .next) op (j .argument .coerce) (state .index) target (state .n)) (command-bytes op _ (state .next) (targetOf op target)) in
+        let whole : put (put room (state .to + recordSize) args) (state .to) head ≡ put room (state .to) (head ++ args) = rw ten at (put-before room (state .to) head args) in
+        let same : headBytes c i (state .next) t (to - (state .to + recordSize)) ≡ head = rw (size, target-is, leaf-component, is-code) in
         record {
           wrote = record {
             filled = g ∙ (rw (same, f′ .filled, bytes) whole);
             to = rw bytes (omega (arith, f′ .next, ten, length-append head args));
-            n = rw (flat-one (pen .next) op (j .argument .coerce) (pen .index) target (pen .n));
+            n = rw (flat-one (state .next) op (j .argument .coerce) (state .index) target (state .n));
           };
           next = r .next;
           index = leaf-component;
           inside = leaf-inside;
-          coerce = rw (eb, ← r .coerce) (coerce-after (a .coerce) (pen .coerce));
+          coerce = rw (eb, ← r .coerce) (coerce-after (a .coerce) (state .coerce));
         }

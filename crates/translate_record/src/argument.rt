@@ -3,13 +3,20 @@ ghost use mathlib.Core.List.{[], _∷_};
 ghost use Prim.Native.Nat.{_+_, _-_, _≤_, _<_};
 ghost use lib.ListN.{length};
 ghost use Rattle.rules.specs.Bytes.{part, be4};
+ghost use Rattle.rules.specs.Limits.{limits};
 ghost use Rattle.rules.specs.Program.{entry, paramBytes, argBytes};
 ghost use Rattle.run_slots.specs.Params.{optional, meaning, Fit};
 ghost use Rattle.run_commands.specs.Op.{opOf, IsCode};
 ghost use Rattle.manifest_accessors.specs.Arguments.{paramsOf, Within};
 ghost use Rattle.translate_record.specs.Record.{Filled};
-use crate::bytes::copy;
+use byte_buffer::copy;
+use byte_buffer::put_u32;
 use manifest_accessors::arguments::Args;
+use rules::codes;
+use rules::controller::Controller;
+use rules::program_format::ENTRY_BYTES;
+use rules::program_format::SIZE_BYTES;
+use rules::program_format::SOURCE_BYTES;
 use rules::tables::Argument;
 use rules_tables::argument_of;
 
@@ -23,8 +30,8 @@ fn put_string(s: &[u8], key: u8, from: usize, n: usize, room: &mut [u8], to: usi
     }
     room[to] = key;
     room[to + 1] = n as u8;
-    copy(s, from, n, room, to + 2);
-    to + 2 + n
+    copy(s, from, n, room, to + ENTRY_BYTES);
+    to + ENTRY_BYTES + n
 }
 
 // The source, which is one less than the number; 0 is unset.
@@ -35,10 +42,10 @@ fn put_source(source: usize, room: &mut [u8], to: usize) -> usize
     if source == 0 {
         return to;
     }
-    room[to] = 10;
-    room[to + 1] = 1;
-    room[to + 2] = (source - 1) as u8;
-    to + 3
+    room[to] = codes::SOURCE as u8;
+    room[to + 1] = SOURCE_BYTES as u8;
+    room[to + ENTRY_BYTES] = (source - 1) as u8;
+    to + ENTRY_BYTES + SOURCE_BYTES
 }
 
 // The size, which is one less than the number; 0 is unset.
@@ -49,14 +56,10 @@ fn put_size(size: usize, room: &mut [u8], to: usize) -> usize
     if size == 0 {
         return to;
     }
-    let n = size - 1;
-    room[to] = 12;
-    room[to + 1] = 4;
-    room[to + 2] = (n / 16777216 % 256) as u8;
-    room[to + 3] = (n / 65536 % 256) as u8;
-    room[to + 4] = (n / 256 % 256) as u8;
-    room[to + 5] = (n % 256) as u8;
-    to + 6
+    room[to] = codes::SIZE as u8;
+    room[to + 1] = SIZE_BYTES as u8;
+    put_u32(room, to + ENTRY_BYTES, size - 1);
+    to + ENTRY_BYTES + SIZE_BYTES
 }
 
 // The parameters that are set.
@@ -65,21 +68,28 @@ fn put_parameters(s: &[u8], a: Args, room: &mut [u8], to: usize) -> usize
     ensures { λ r. ⌜ Filled (paramBytes (meaning (now (s .entry)) (paramsOf a))) to (now (room .entry)) r (now (room .exit)) ⌝ }
 {
     let g = a.params;
-    let p = put_string(s, 6, g.uri, g.length, room, to);
+    let p = put_string(s, codes::URI as u8, g.uri, g.length, room, to);
     let q = put_source(g.source, room, p);
-    let r = put_string(s, 11, g.digest, 32, room, q);
+    let r = put_string(
+        s,
+        codes::DIGEST as u8,
+        g.digest,
+        Controller::DIGEST_BYTES,
+        room,
+        q,
+    );
     put_size(g.size, room, r)
 }
 
 // The argument of the command of that code, by its kind in the table.
 pub fn put_argument(s: &[u8], code: usize, a: Args, room: &mut [u8], to: usize) -> usize
-    requires { ⌜ Within (now s) (paramsOf a) × Fit (now s) 256 (paramsOf a) × (code < 3 → a .value + 16 ≤ length (now s)) × IsCode (now s) code (a .value) (paramsOf a) × (to + length (argBytes (opOf (now s) code (a .value) (paramsOf a))) ≤ length (now room)) ⌝ }
+    requires { ⌜ Within (now s) (paramsOf a) × Fit (now s) 256 (paramsOf a) × (code < 3 → a .value + limits .class ≤ length (now s)) × IsCode (now s) code (a .value) (paramsOf a) × (to + length (argBytes (opOf (now s) code (a .value) (paramsOf a))) ≤ length (now room)) ⌝ }
     ensures { λ r. ⌜ Filled (argBytes (opOf (now (s .entry)) code (a .value) (paramsOf a))) to (now (room .entry)) r (now (room .exit)) ⌝ }
 {
     match argument_of(code) {
         Argument::Sixteen => {
-            copy(s, a.value, 16, room, to);
-            to + 16
+            copy(s, a.value, Controller::CLASS_BYTES, room, to);
+            to + Controller::CLASS_BYTES
         }
         Argument::Parameters => put_parameters(s, a, room, to),
         Argument::Nil => to,

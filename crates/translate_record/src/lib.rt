@@ -1,4 +1,3 @@
-// ArgumentAt record of a program, written to lent room.
+// A record of a program, written to lent room.
 pub mod argument;
-pub mod bytes;
 pub mod record;

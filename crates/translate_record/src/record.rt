@@ -1,16 +1,19 @@
-// ArgumentAt record, written to lent room.
+// A record, written to lent room.
 ghost use mathlib.Core.Path.{_≡_};
 ghost use mathlib.Core.Bool.{cond};
 ghost use Prim.Native.Nat.{_+_, _≤_, _<_};
 ghost use lib.ListN.{length};
 ghost use Rattle.rules.specs.Bytes.{put};
 ghost use Rattle.rules.specs.Commands.{commands, rowOf, conditionIn};
+ghost use Rattle.rules.specs.Limits.{limits};
 ghost use Rattle.rules.specs.Manifest.{one};
-ghost use Rattle.rules.specs.ProgramFormat.{NONE};
+ghost use Rattle.rules.specs.ProgramFormat.{NONE, recordSize};
 ghost use Rattle.translate_record.specs.Record.{headBytes, JumpWrote, LeafJob, CommandWrote};
 use crate::argument::put_argument;
+use byte_buffer::put_u16;
 use manifest_accessors::arguments::component;
 use manifest_accessors::arguments::read_one;
+use rules::program_format;
 use rules::program_format::JUMP;
 use rules::program_format::NO_TARGET;
 use rules::program_format::RECORD_BYTES;
@@ -26,7 +29,7 @@ pub struct WriteState {
     pub to: usize,
 }
 
-// `53 50`, code, component, place in 2, target in 2, length of the argument in 2.
+// Mark, code, component, place in 2, target in 2, length of the argument in 2.
 fn put_head(
     room: &mut [u8],
     to: usize,
@@ -36,19 +39,16 @@ fn put_head(
     target: usize,
     size: usize,
 )
-    requires { ⌜ (to + 10 ≤ length (now room)) × (code < 256) × (component < 256) ⌝ }
+    requires { ⌜ (to + recordSize ≤ length (now room)) × (code < 256) × (component < 256) ⌝ }
     ensures { λ _. ⌜ now (room .exit) ≡ put (now (room .entry)) to (headBytes code component place target size) ⌝ }
 {
-    room[to] = 0x53;
-    room[to + 1] = 0x50;
-    room[to + 2] = code as u8;
-    room[to + 3] = component as u8;
-    room[to + 4] = (place / 256 % 256) as u8;
-    room[to + 5] = (place % 256) as u8;
-    room[to + 6] = (target / 256 % 256) as u8;
-    room[to + 7] = (target % 256) as u8;
-    room[to + 8] = (size / 256 % 256) as u8;
-    room[to + 9] = (size % 256) as u8;
+    room[to] = program_format::MARK;
+    room[to + 1] = program_format::MARK_2;
+    room[to + program_format::CODE] = code as u8;
+    room[to + program_format::COMPONENT] = component as u8;
+    put_u16(room, to + program_format::PLACE, place);
+    put_u16(room, to + program_format::TARGET, target);
+    put_u16(room, to + program_format::ARGUMENT_LENGTH, size);
 }
 
 // Only a condition has a target.
@@ -62,17 +62,17 @@ fn target_of(code: usize, target: usize) -> usize
 }
 
 // A jump to the record of that number.
-pub fn put_jump(target: usize, pen: WriteState, room: &mut [u8]) -> WriteState
-    requires { ⌜ (pen .to + 10 ≤ length (now room)) × (pen .n < 1024) ⌝ }
-    ensures { λ r. ⌜ JumpWrote target pen (now (room .entry)) r (now (room .exit)) ⌝ }
+pub fn put_jump(target: usize, state: WriteState, room: &mut [u8]) -> WriteState
+    requires { ⌜ (state .to + recordSize ≤ length (now room)) × (state .n < limits .records) ⌝ }
+    ensures { λ r. ⌜ JumpWrote target state (now (room .entry)) r (now (room .exit)) ⌝ }
 {
-    put_head(room, pen.to, JUMP, 0, 0, target, 0);
+    put_head(room, state.to, JUMP, 0, 0, target, 0);
     WriteState {
-        next: pen.next,
-        index: pen.index,
-        coerce: pen.coerce,
-        n: pen.n + 1,
-        to: pen.to + RECORD_BYTES,
+        next: state.next,
+        index: state.index,
+        coerce: state.coerce,
+        n: state.n + 1,
+        to: state.to + RECORD_BYTES,
     }
 }
 
@@ -82,30 +82,30 @@ pub fn put_command(
     code: usize,
     at: usize,
     target: usize,
-    pen: WriteState,
+    state: WriteState,
     room: &mut [u8],
 ) -> WriteState
-    requires { ⌜ LeafJob (now s) code at pen (now room) ⌝ }
-    ensures { λ r. ⌜ ((j : LeafJob (now (s .entry)) code at pen (now (room .entry))) → CommandWrote (one (pen .next) (j .argument .op) (j .argument .coerce)) (j .argument .to) (j .argument .n) target pen (now (room .entry)) r (now (room .exit))) ⌝ }
+    requires { ⌜ LeafJob (now s) code at state (now room) ⌝ }
+    ensures { λ r. ⌜ ((j : LeafJob (now (s .entry)) code at state (now (room .entry))) → CommandWrote (one (state .next) (j .argument .op) (j .argument .coerce)) (j .argument .to) (j .argument .n) target state (now (room .entry)) r (now (room .exit))) ⌝ }
 {
     let a = read_one(s, code, at);
-    let index = component(code, a.value, pen.index);
-    let start = pen.to + RECORD_BYTES;
+    let index = component(code, a.value, state.index);
+    let start = state.to + RECORD_BYTES;
     let end = put_argument(s, code, a, room, start);
     put_head(
         room,
-        pen.to,
+        state.to,
         code,
         index,
-        pen.next,
+        state.next,
         target_of(code, target),
         end - start,
     );
     WriteState {
         next: a.next,
         index,
-        coerce: either(a.coerce, a.coerce, pen.coerce),
-        n: pen.n + 1,
+        coerce: either(a.coerce, a.coerce, state.coerce),
+        n: state.n + 1,
         to: end,
     }
 }

@@ -10,6 +10,7 @@ use lib.Seq.{length-sets}
 use Rattle.rules.specs.Bytes.{Bytes, put}
 use Rattle.rules.specs.Cbor.{BYTES, ARRAY}
 use Rattle.rules.specs.Limits.{limits}
+use Rattle.rules.specs.ProgramFormat.{recordSize}
 use Rattle.rules.specs.Commands.{Op}
 use Rattle.rules.specs.Manifest.{Seq, end, then, Cmd, one, sub, try, Alts, last, or}
 use Rattle.rules.specs.Check.{sequenceAt}
@@ -30,62 +31,62 @@ use Rattle.translate_record.specs.declared.record.WriteState.{WriteState}
 use Rattle.translate_size.specs.Size.{most, SequenceHere, CommandHere}
 use Rattle.translate_record.specs.Record.{written, LeafJob, Wrote, CommandWrote, JumpWrote}
 use Rattle.translate_sequence.specs.Write.{SequenceJob, CommandJob}
-use Rattle.translate_record.proofs.FillLaws.{put-append}
+use Rattle.byte_buffer.proofs.PutLaws.{put-append}
 
 pub written-append : (a b : List Rec) → written (a ++ b) ≡ written a ++ written b
 unfolding written
 written-append [] b = refl
 written-append (x ∷ a) b = ap (λ (w : Bytes). recBytes x ++ w) (written-append a b) ∙ sym (append-assoc (recBytes x) (written a) (written b))
 
-bytes-jump : (t : ℕ) → length (written (jump t ∷ [])) ≡ 10
+bytes-jump : (t : ℕ) → length (written (jump t ∷ [])) ≡ recordSize
 unfolding written recBytes
 bytes-jump t = refl
 
 length-written : (a b : List Rec) → length (written (a ++ b)) ≡ length (written a) + length (written b)
 length-written a b = ap length (written-append a b) ∙ length-append (written a) (written b)
 
-pub bytes-seq : (a : Seq) (coercible : Bool) (i : ℕ) (c : Bool) (t z k : ℕ) → length (written (flatSeq a coercible i c t z k)) ≡ 10 * size a + argSize a
+pub bytes-seq : (a : Seq) (coercible : Bool) (i : ℕ) (c : Bool) (t z k : ℕ) → length (written (flatSeq a coercible i c t z k)) ≡ recordSize * size a + argSize a
 unfolding written bytes
 bytes-seq a coercible i c t z k = sum-seq a coercible i c t z k .1
 
-bytes-cmd : (x : Cmd) (i t k : ℕ) → length (written (flatCmd x i t k)) ≡ 10 * sizeCmd x + argSizeCmd x
+bytes-cmd : (x : Cmd) (i t k : ℕ) → length (written (flatCmd x i t k)) ≡ recordSize * sizeCmd x + argSizeCmd x
 unfolding written bytes
 bytes-cmd x i t k = sum-cmd x i t k .1
 
 -- nothing written
-pub wrote-none : (pen now : WriteState) (room : Bytes) → now .to ≡ pen .to → now .n ≡ pen .n → Wrote [] pen room now room
+pub wrote-none : (state now : WriteState) (room : Bytes) → now .to ≡ state .to → now .n ≡ state .n → Wrote [] state room now room
 unfolding written
-wrote-none pen now room e e′ = record { filled = refl; to = omega (arith, e); n = omega (arith, e′) }
+wrote-none state now room e e′ = record { filled = refl; to = omega (arith, e); n = omega (arith, e′) }
 
 -- one after the other
-pub wrote-then : (a b : List Rec) (pen : WriteState) (room : Bytes) (now : WriteState) (room′ : Bytes) (at : WriteState) (r : WriteState) (room″ : Bytes) → at .to ≡ now .to → at .n ≡ now .n →
-    Wrote a pen room now room′ → Wrote b at room′ r room″ → Wrote (a ++ b) pen room r room″
-wrote-then a b pen room now room′ at r room″ e e′ w v =
+pub wrote-then : (a b : List Rec) (state : WriteState) (room : Bytes) (now : WriteState) (room′ : Bytes) (at : WriteState) (r : WriteState) (room″ : Bytes) → at .to ≡ now .to → at .n ≡ now .n →
+    Wrote a state room now room′ → Wrote b at room′ r room″ → Wrote (a ++ b) state room r room″
+wrote-then a b state room now room′ at r room″ e e′ w v =
     record {
-      filled = v .filled ∙ rw (e, w .to, w .filled, written-append a b) (put-append room (pen .to) (written a) (written b));
+      filled = v .filled ∙ rw (e, w .to, w .filled, written-append a b) (put-append room (state .to) (written a) (written b));
       to = omega (arith, v .to, e, w .to, length-written a b);
       n = omega (arith, v .n, e′, w .n, length-append a b);
     }
 
-pub same-room : (a : List Rec) (pen : WriteState) (room : Bytes) (now : WriteState) (room′ : Bytes) → Wrote a pen room now room′ → length room′ ≡ length room
-same-room a pen room now room′ w = ap length (w .filled) ∙ length-sets room (pen .to) (written a)
+pub same-room : (a : List Rec) (state : WriteState) (room : Bytes) (now : WriteState) (room′ : Bytes) → Wrote a state room now room′ → length room′ ≡ length room
+same-room a state room now room′ w = ap length (w .filled) ∙ length-sets room (state .to) (written a)
 
 -- some commands as check read them, and room for their records
-pub record CommandsJob (s : Bytes) (depth k : ℕ) (pen : WriteState) (room : Bytes) : Type 0 where
+pub record CommandsJob (s : Bytes) (depth k : ℕ) (state : WriteState) (room : Bytes) : Type 0 where
   pub n : ℕ
-  pub place : CommandsAt s n depth 0 k (pen .next)
-  pub inside : pen .index < n
-  pub components : n ≤ 8
-  pub enough : pen .to + 10 * size (place .cmds) + argSize (place .cmds) ≤ length room
-  pub few : pen .n + size (place .cmds) ≤ 1024
+  pub place : CommandsAt s n depth 0 k (state .next)
+  pub inside : state .index < n
+  pub components : n ≤ limits .components
+  pub enough : state .to + recordSize * size (place .cmds) + argSize (place .cmds) ≤ length room
+  pub few : state .n + size (place .cmds) ≤ limits .records
   pub small : length room ≤ most
 
 -- the loop over commands: the records of the whole are those written and those of the commands that are left
-pub record Loop (s : Bytes) (depth : ℕ) (coercible : Bool) (target beyond components : ℕ) (whole : List Rec) (pen : WriteState) (room₀ room : Bytes) (left : ℕ) (now : WriteState) : Type 0 where
+pub record Loop (s : Bytes) (depth : ℕ) (coercible : Bool) (target beyond components : ℕ) (whole : List Rec) (state : WriteState) (room₀ room : Bytes) (left : ℕ) (now : WriteState) : Type 0 where
   pub job : CommandsJob s depth left now room
   pub same : job .n ≡ components
   pub done : List Rec
-  pub wrote : Wrote done pen room₀ now room
+  pub wrote : Wrote done state room₀ now room
   pub goes : whole ≡ done ++ flatSeq (job .place .cmds) coercible (now .index) (isTrue (now .coerce)) target beyond (now .n)
 
 flat-then : (x : Cmd) (xs : Seq) (coercible : Bool) (i : ℕ) (c : Bool) (t z n : ℕ) →
@@ -110,9 +111,9 @@ module _ (s : Bytes) (depth : ℕ) (coercible : Bool) (target beyond : ℕ) wher
       Loop s depth coercible target beyond (x .n) (flatSeq (x .place .cmds) coercible (now .index) (isTrue (now .coerce)) target beyond (now .n)) now room room left now
   loop-starts left now room x = record { job = x; same = refl; done = []; wrote = wrote-none now now room refl refl; goes = refl }
 
-  module _ (components : ℕ) (whole : List Rec) (pen : WriteState) (room₀ room : Bytes) (left : ℕ) (now : WriteState)
-      (l : Loop s depth coercible target beyond components whole pen room₀ room left now) where
-    pub loop-done : left ≡ 0 → Wrote whole pen room₀ now room
+  module _ (components : ℕ) (whole : List Rec) (state : WriteState) (room₀ room : Bytes) (left : ℕ) (now : WriteState)
+      (l : Loop s depth coercible target beyond components whole state room₀ room left now) where
+    pub loop-done : left ≡ 0 → Wrote whole state room₀ now room
     loop-done z =
         let e : whole ≡ l .done =
         l .goes
@@ -145,7 +146,7 @@ module _ (s : Bytes) (depth : ℕ) (coercible : Bool) (target beyond : ℕ) wher
 
       pub loop-goes-on : (t : ℕ) → t ≡ cond (coercible && isTrue (now .coerce)) beyond target → (r : WriteState) (room′ : Bytes) →
           CommandWrote (its-turn .first .cmd) (its-turn .first .to) (l .job .n) t now room r room′ →
-          Loop s depth coercible target beyond components whole pen room₀ room′ (left - 1) r
+          Loop s depth coercible target beyond components whole state room₀ room′ (left - 1) r
       loop-goes-on t e r room′ w =
           let x : Cmd = its-turn .first .cmd in
           let xs : Seq = its-turn .rest .cmds in
@@ -177,7 +178,7 @@ module _ (s : Bytes) (depth : ℕ) (coercible : Bool) (target beyond : ℕ) wher
                 };
             same = l .same;
             done = l .done ++ f;
-            wrote = wrote-then (l .done) f pen room₀ now room now r room′ refl refl (l .wrote) (w .wrote);
+            wrote = wrote-then (l .done) f state room₀ now room now r room′ refl refl (l .wrote) (w .wrote);
             goes =
                 l .goes
                 ∙ ap (λ (a : Seq). l .done ++ flatSeq a coercible (now .index) (isTrue (now .coerce)) target beyond (now .n)) (its-turn .cmds)
@@ -187,18 +188,18 @@ module _ (s : Bytes) (depth : ℕ) (coercible : Bool) (target beyond : ℕ) wher
           }
 
 -- the records of a sequence, from its job
-module _ (s : Bytes) (depth : ℕ) (pen : WriteState) (room : Bytes) (j : SequenceJob s depth pen room) where
-  abbrev began : Start s (j .n) depth 0 (pen .next) (j .place)
-  began = start s (j .n) depth 0 (pen .next) (j .place)
+module _ (s : Bytes) (depth : ℕ) (state : WriteState) (room : Bytes) (j : SequenceJob s depth state room) where
+  abbrev began : Start s (j .n) depth 0 (state .next) (j .place)
+  began = start s (j .n) depth 0 (state .next) (j .place)
 
   pub sequence-deep : 0 < depth
   sequence-deep = began .deep
 
-  abbrev pub sequence-head : HeadAt s (pen .next)
-  sequence-head = item-headed s ARRAY 0 (limits .sequence + limits .sequence) (j .place .e) (pen .next) (began .head) (j .place .fits) (omega arith) (began .item)
+  abbrev pub sequence-head : HeadAt s (state .next)
+  sequence-head = item-headed s ARRAY 0 (limits .sequence + limits .sequence) (j .place .e) (state .next) (began .head) (j .place .fits) (omega arith) (began .item)
 
   abbrev pub commands-job : (v p : ℕ) → (v ≡ sequence-head .head .num) × (p ≡ sequence-head .head .next) →
-      CommandsJob s (depth - 1) (v / 2) (record { next = p; index = pen .index; coerce = 1; n = pen .n; to = pen .to }) room
+      CommandsJob s (depth - 1) (v / 2) (record { next = p; index = state .index; coerce = 1; n = state .n; to = state .to }) room
   commands-job v p q =
       record {
         n = j .n;
@@ -221,31 +222,31 @@ module _ (s : Bytes) (depth : ℕ) (pen : WriteState) (room : Bytes) (j : Sequen
       }
 
 -- the same place in the room
-pub wrote-at : (rs : List Rec) (pen pen′ : WriteState) (room : Bytes) (r r′ : WriteState) (room′ : Bytes) → pen .to ≡ pen′ .to → pen .n ≡ pen′ .n → r .to ≡ r′ .to → r .n ≡ r′ .n →
-    Wrote rs pen room r room′ → Wrote rs pen′ room r′ room′
-wrote-at rs pen pen′ room r r′ room′ a b d e w = record { filled = w .filled ∙ ap (λ (k : ℕ). put room k (written rs)) a; to = omega (arith, a, d, w .to); n = omega (arith, b, e, w .n) }
+pub wrote-at : (rs : List Rec) (state state′ : WriteState) (room : Bytes) (r r′ : WriteState) (room′ : Bytes) → state .to ≡ state′ .to → state .n ≡ state′ .n → r .to ≡ r′ .to → r .n ≡ r′ .n →
+    Wrote rs state room r room′ → Wrote rs state′ room r′ room′
+wrote-at rs state state′ room r r′ room′ a b d e w = record { filled = w .filled ∙ ap (λ (k : ℕ). put room k (written rs)) a; to = omega (arith, a, d, w .to); n = omega (arith, b, e, w .n) }
 
--- the pen where a sequence starts, and after a command that held sequences
+-- the state where a sequence starts, and after a command that held sequences
 abbrev pub entered : WriteState → ℕ → WriteState → WriteState
-entered pen at now = record { next = at; index = pen .index; coerce = pen .coerce; n = now .n; to = now .to }
+entered state at now = record { next = at; index = state .index; coerce = state .coerce; n = now .n; to = now .to }
 
 -- what a command that held sequences leaves
-holds-sequences : (cmd : Cmd) (to components target : ℕ) (pen : WriteState) (room : Bytes) (at : ℕ) (r : WriteState) (room′ : Bytes) →
-    Wrote (flatCmd cmd (pen .index) target (pen .n)) pen room r room′ → at ≡ to → pen .index < components →
+holds-sequences : (cmd : Cmd) (to components target : ℕ) (state : WriteState) (room : Bytes) (at : ℕ) (r : WriteState) (room′ : Bytes) →
+    Wrote (flatCmd cmd (state .index) target (state .n)) state room r room′ → at ≡ to → state .index < components →
     ((i : ℕ) → indexAfter cmd i ≡ i) → ((c : Bool) → coerceAfter cmd c ≡ c) →
-    CommandWrote cmd to components target pen room (entered pen at r) room′
-holds-sequences cmd to components target pen room at r room′ w e inside index coerce =
+    CommandWrote cmd to components target state room (entered state at r) room′
+holds-sequences cmd to components target state room at r room′ w e inside index coerce =
     record {
-      wrote = wrote-at (flatCmd cmd (pen .index) target (pen .n)) pen pen room r (entered pen at r) room′ refl refl refl refl w;
+      wrote = wrote-at (flatCmd cmd (state .index) target (state .n)) state state room r (entered state at r) room′ refl refl refl refl w;
       next = e;
-      index = sym (index (pen .index));
+      index = sym (index (state .index));
       inside = inside;
       coerce = sym (coerce _);
     }
 
-wrote-as : (cmd cmd′ : Cmd) (to to′ components components′ target : ℕ) (pen : WriteState) (room : Bytes) (r : WriteState) (room′ : Bytes) →
-    cmd ≡ cmd′ → to′ ≡ to → components′ ≡ components → CommandWrote cmd′ to′ components′ target pen room r room′ → CommandWrote cmd to components target pen room r room′
-wrote-as cmd cmd′ to to′ components components′ target pen room r room′ e e′ e″ w = rw (e, ← e′, ← e″) w
+wrote-as : (cmd cmd′ : Cmd) (to to′ components components′ target : ℕ) (state : WriteState) (room : Bytes) (r : WriteState) (room′ : Bytes) →
+    cmd ≡ cmd′ → to′ ≡ to → components′ ≡ components → CommandWrote cmd′ to′ components′ target state room r room′ → CommandWrote cmd to components target state room r room′
+wrote-as cmd cmd′ to to′ components components′ target state room r room′ e e′ e″ w = rw (e, ← e′, ← e″) w
 
 pub size-sub : (a : Seq) → sizeCmd (sub a) ≡ size a
 unfolding size
@@ -313,37 +314,37 @@ first-fits (last y) x xs e = let n : y ≡ x = cc in let (p, q) = size-last y in
 first-fits (or y b) x xs e = let n : y ≡ x = cc in let (p, q) = size-or y b in (omega (arith, p, ap size n), omega (arith, q, ap argSize n))
 
 -- the loop over alternatives: the records of the command are those written and those of the alternatives that are left
-pub record AltsLoop (s : Bytes) (depth components : ℕ) (cmd : Cmd) (to target : ℕ) (pen : WriteState) (room₀ : Bytes) (z : ℕ) (room : Bytes) (k p : ℕ) (now : WriteState) : Type 0 where
+pub record AltsLoop (s : Bytes) (depth components : ℕ) (cmd : Cmd) (to target : ℕ) (state : WriteState) (room₀ : Bytes) (z : ℕ) (room : Bytes) (k p : ℕ) (now : WriteState) : Type 0 where
   pub whole : Alts
   pub is : cmd ≡ try whole
-  pub inside : pen .index < components
-  pub eight : components ≤ 8
+  pub inside : state .index < components
+  pub bounded : components ≤ limits .components
   pub alts : Alts
   pub place : AltsAt s components depth 0 k p to
   pub listed : listOf alts ≡ place .seqs
   pub some-left : 0 < k
   pub done : List Rec
-  pub wrote : Wrote done pen room₀ now room
-  pub goes : flatCmd cmd (pen .index) target (pen .n) ≡ done ++ flatAlts alts (pen .index) target z (now .n)
-  pub enough : now .to + 10 * sizeAlts alts + argSizeAlts alts ≤ length room
-  pub few : now .n + sizeAlts alts ≤ 1024
+  pub wrote : Wrote done state room₀ now room
+  pub goes : flatCmd cmd (state .index) target (state .n) ≡ done ++ flatAlts alts (state .index) target z (now .n)
+  pub enough : now .to + recordSize * sizeAlts alts + argSizeAlts alts ≤ length room
+  pub few : now .n + sizeAlts alts ≤ limits .records
   pub small : length room ≤ most
 
-module _ (s : Bytes) (depth : ℕ) (pen : WriteState) (room : Bytes) (j : CommandJob s depth pen room) where
-  abbrev pub its-code : Coded s (j .n) depth 0 (pen .next) (j .place)
-  its-code = coded s (j .n) depth 0 (pen .next) (j .place)
+module _ (s : Bytes) (depth : ℕ) (state : WriteState) (room : Bytes) (j : CommandJob s depth state room) where
+  abbrev pub its-code : Coded s (j .n) depth 0 (state .next) (j .place)
+  its-code = coded s (j .n) depth 0 (state .next) (j .place)
 
-  abbrev pub command-head : HeadAt s (pen .next)
-  command-head = number-headed s (j .place .e) (pen .next) (its-code .code) (its-code .from) (j .place .fits) (its-code .reads)
+  abbrev pub command-head : HeadAt s (state .next)
+  command-head = number-headed s (j .place .e) (state .next) (its-code .code) (its-code .from) (j .place .fits) (its-code .reads)
 
-  abbrev pub command-here : CommandHere s depth (pen .next)
+  abbrev pub command-here : CommandHere s depth (state .next)
   command-here = record { n = j .n; place = j .place; small = omega (arith, j .enough, j .small) }
 
   module _ (v p : ℕ) (q : (v ≡ its-code .code) × (p ≡ its-code .from)) where
     -- 30
     module _ (z : v ≡ 30) where
-      abbrev pub sub-at : Sub s (j .n) depth 0 (pen .next) (j .place) p
-      sub-at = its-sequence s (j .n) depth 0 (pen .next) (j .place) its-code p (q .1) (sym (q .0) ∙ z)
+      abbrev pub sub-at : Sub s (j .n) depth 0 (state .next) (j .place) p
+      sub-at = its-sequence s (j .n) depth 0 (state .next) (j .place) its-code p (q .1) (sym (q .0) ∙ z)
 
       abbrev pub sub-head : HeadAt s p
       sub-head = item-headed s BYTES 0 (limits .largest) (j .place .e) p (sub-at .inside .head) (j .place .fits) (omega arith) (sub-at .inside .item)
@@ -357,7 +358,7 @@ module _ (s : Bytes) (depth : ℕ) (pen : WriteState) (room : Bytes) (j : Comman
       pub sub-weight : argSizeCmd (j .place .cmd) ≡ argSize (sub-at .seq)
       sub-weight = ap argSizeCmd (sub-at .is) ∙ arg-size-sub (sub-at .seq)
 
-      pub sub-few : (k : ℕ) → k ≡ size (sub-at .seq) → pen .n + k ≤ 1024
+      pub sub-few : (k : ℕ) → k ≡ size (sub-at .seq) → state .n + k ≤ limits .records
       sub-few k e = omega (arith, e, sub-size, j .few)
 
       module _ (w from : ℕ) (o : (w ≡ sub-at .inside .head .num) × (from ≡ sub-at .inside .head .next)) where
@@ -377,7 +378,7 @@ module _ (s : Bytes) (depth : ℕ) (pen : WriteState) (room : Bytes) (j : Comman
         abbrev pub sub-here : SequenceHere s depth from
         sub-here = record { n = j .n; place = sub-place; small = omega (arith, j .enough, j .small, sub-size, sub-weight) }
 
-        abbrev pub sub-job : SequenceJob s depth (entered pen from pen) room
+        abbrev pub sub-job : SequenceJob s depth (entered state from state) room
         sub-job =
             record {
               n = j .n;
@@ -390,62 +391,62 @@ module _ (s : Bytes) (depth : ℕ) (pen : WriteState) (room : Bytes) (j : Comman
             }
 
         pub sub-wrote : (target k : ℕ) → k ≡ size (sub-at .seq) → (r : WriteState) (room′ : Bytes) →
-            Wrote (flatSeq (sub-at .seq) true (pen .index) false target (pen .n + k) (pen .n)) (entered pen from pen) room r room′ →
-            CommandWrote (j .place .cmd) (j .place .to) (j .n) target pen room (entered pen (from + w) r) room′
+            Wrote (flatSeq (sub-at .seq) true (state .index) false target (state .n + k) (state .n)) (entered state from state) room r room′ →
+            CommandWrote (j .place .cmd) (j .place .to) (j .n) target state room (entered state (from + w) r) room′
         sub-wrote target k e r room′ wrote =
-            let f : flatSeq (sub-at .seq) true (pen .index) false target (pen .n + k) (pen .n) ≡ flatCmd (j .place .cmd) (pen .index) target (pen .n) =
-            ap (λ (m : ℕ). flatSeq (sub-at .seq) true (pen .index) false target (pen .n + m) (pen .n)) e
-            ∙ sym (flat-sub (sub-at .seq) (pen .index) target (pen .n))
-            ∙ ap (λ (c : Cmd). flatCmd c (pen .index) target (pen .n)) (sym (sub-at .is)) in
-            holds-sequences (j .place .cmd) (j .place .to) (j .n) target pen room (from + w) r room′
-            (wrote-at _ (entered pen from pen) pen room r r room′ refl refl refl refl (rw f at wrote))
+            let f : flatSeq (sub-at .seq) true (state .index) false target (state .n + k) (state .n) ≡ flatCmd (j .place .cmd) (state .index) target (state .n) =
+            ap (λ (m : ℕ). flatSeq (sub-at .seq) true (state .index) false target (state .n + m) (state .n)) e
+            ∙ sym (flat-sub (sub-at .seq) (state .index) target (state .n))
+            ∙ ap (λ (c : Cmd). flatCmd c (state .index) target (state .n)) (sym (sub-at .is)) in
+            holds-sequences (j .place .cmd) (j .place .to) (j .n) target state room (from + w) r room′
+            (wrote-at _ (entered state from state) state room r r room′ refl refl refl refl (rw f at wrote))
             (omega (arith, o .0, o .1, sub-at .to)) (j .inside) (λ i. rw (sub-at .is)) (λ c. rw (sub-at .is))
 
     -- any other but 15
     module _ (z : v ≡ 30 → ⊥) (z′ : v ≡ 15 → ⊥) where
       abbrev pub OneAt : Type 0
       OneAt =
-          (x : ArgumentAt s v p) × (x .n ≡ j .n) × (j .place .cmd ≡ one (pen .next) (x .op) (x .coerce)) × (x .to ≡ j .place .to)
+          (x : ArgumentAt s v p) × (x .n ≡ j .n) × (j .place .cmd ≡ one (state .next) (x .op) (x .coerce)) × (x .to ≡ j .place .to)
           × (j .place .m < limits .commands)
 
       pub one-at : OneAt
-      one-at = command-one s (j .n) (j .place .section) depth (j .place .m) (j .place .e) (pen .next) (j .place .cmd) (j .place .to) (j .place .fits) (j .place .reads) v p (rw (q .0, q .1) (its-code .reads)) z z′
+      one-at = command-one s (j .n) (j .place .section) depth (j .place .m) (j .place .e) (state .next) (j .place .cmd) (j .place .to) (j .place .fits) (j .place .reads) v p (rw (q .0, q .1) (its-code .reads)) z z′
 
-      abbrev pub leaf-job : LeafJob s v p pen room
+      abbrev pub leaf-job : LeafJob s v p state room
       leaf-job =
           record {
             argument = one-at .0;
             inside = omega (arith, j .inside, one-at .1);
             components = omega (arith, j .components, one-at .1);
-            enough = omega (arith, j .enough, ap sizeCmd (one-at .2), ap argSizeCmd (one-at .2), size-one (pen .next) (one-at .0 .op) (one-at .0 .coerce), arg-size-one (pen .next) (one-at .0 .op) (one-at .0 .coerce));
-            count = omega (arith, j .few, ap sizeCmd (one-at .2), size-one (pen .next) (one-at .0 .op) (one-at .0 .coerce));
+            enough = omega (arith, j .enough, ap sizeCmd (one-at .2), ap argSizeCmd (one-at .2), size-one (state .next) (one-at .0 .op) (one-at .0 .coerce), arg-size-one (state .next) (one-at .0 .op) (one-at .0 .coerce));
+            count = omega (arith, j .few, ap sizeCmd (one-at .2), size-one (state .next) (one-at .0 .op) (one-at .0 .coerce));
           }
 
       pub leaf-wrote : (target : ℕ) (r : WriteState) (room′ : Bytes) →
-          CommandWrote (one (pen .next) (one-at .0 .op) (one-at .0 .coerce)) (one-at .0 .to) (one-at .0 .n) target pen room r room′ →
-          CommandWrote (j .place .cmd) (j .place .to) (j .n) target pen room r room′
-      leaf-wrote target r room′ w = wrote-as _ _ _ _ _ _ target pen room r room′ (one-at .2) (one-at .3) (one-at .1) w
+          CommandWrote (one (state .next) (one-at .0 .op) (one-at .0 .coerce)) (one-at .0 .to) (one-at .0 .n) target state room r room′ →
+          CommandWrote (j .place .cmd) (j .place .to) (j .n) target state room r room′
+      leaf-wrote target r room′ w = wrote-as _ _ _ _ _ _ target state room r room′ (one-at .2) (one-at .3) (one-at .1) w
 
     -- 15
     module _ (y : v ≡ 15) where
-      abbrev pub tries-at : Tries s (j .n) depth 0 (pen .next) (j .place) p
-      tries-at = its-alternatives s (j .n) depth 0 (pen .next) (j .place) its-code p (q .1) (sym (q .0) ∙ y)
+      abbrev pub tries-at : Tries s (j .n) depth 0 (state .next) (j .place) p
+      tries-at = its-alternatives s (j .n) depth 0 (state .next) (j .place) its-code p (q .1) (sym (q .0) ∙ y)
 
       abbrev pub tries-head : HeadAt s p
       tries-head = item-headed s ARRAY 1 (limits .alternatives) (j .place .e) p (tries-at .head) (j .place .fits) (omega arith) (tries-at .item)
 
-      pub tries-start : (target w from z : ℕ) → (w ≡ tries-at .head .num) × (from ≡ tries-at .head .next) → (k : ℕ) → k ≡ sizeCmd (j .place .cmd) → z ≡ pen .n + k →
-          AltsLoop s depth (j .n) (j .place .cmd) (j .place .to) target pen room z room w from pen
+      pub tries-start : (target w from z : ℕ) → (w ≡ tries-at .head .num) × (from ≡ tries-at .head .next) → (k : ℕ) → k ≡ sizeCmd (j .place .cmd) → z ≡ state .n + k →
+          AltsLoop s depth (j .n) (j .place .cmd) (j .place .to) target state room z room w from state
       tries-start target w from z o k e e′ =
           let (l, size) = alternatives-law s (sequenceAt s (j .n) (j .place .section) depth) (tries-at .head .num - 1) (j .place .m + 1) (j .place .e) (tries-at .head .next) (tries-at .alts) (j .place .to) (tries-at .reads) in
           let sz : sizeCmd (j .place .cmd) ≡ sizeAlts (tries-at .alts) = ap sizeCmd (tries-at .is) ∙ size-try (tries-at .alts) in
           let wt : argSizeCmd (j .place .cmd) ≡ argSizeAlts (tries-at .alts) = ap argSizeCmd (tries-at .is) ∙ arg-size-try (tries-at .alts) in
-          let zz : pen .n + sizeAlts (tries-at .alts) ≡ z = omega (arith, e, e′, sz) in
+          let zz : state .n + sizeAlts (tries-at .alts) ≡ z = omega (arith, e, e′, sz) in
           record {
             whole = tries-at .alts;
             is = tries-at .is;
             inside = j .inside;
-            eight = j .components;
+            bounded = j .components;
             alts = tries-at .alts;
             place =
                 record {
@@ -461,18 +462,18 @@ module _ (s : Bytes) (depth : ℕ) (pen : WriteState) (room : Bytes) (j : Comman
             listed = refl;
             some-left = omega (arith, o .0, tries-at .some-of);
             done = [];
-            wrote = wrote-none pen pen room refl refl;
+            wrote = wrote-none state state room refl refl;
             goes =
-                ap (λ (c : Cmd). flatCmd c (pen .index) target (pen .n)) (tries-at .is)
-                ∙ flat-try (tries-at .alts) (pen .index) target (pen .n)
-                ∙ ap (λ (m : ℕ). flatAlts (tries-at .alts) (pen .index) target m (pen .n)) zz;
+                ap (λ (c : Cmd). flatCmd c (state .index) target (state .n)) (tries-at .is)
+                ∙ flat-try (tries-at .alts) (state .index) target (state .n)
+                ∙ ap (λ (m : ℕ). flatAlts (tries-at .alts) (state .index) target m (state .n)) zz;
             enough = omega (arith, j .enough, sz, wt);
             few = omega (arith, j .few, sz);
             small = j .small;
           }
 
-module _ (s : Bytes) (depth components : ℕ) (cmd : Cmd) (to target : ℕ) (pen : WriteState) (room₀ : Bytes) (z : ℕ) (room : Bytes) (k p : ℕ) (now : WriteState)
-    (l : AltsLoop s depth components cmd to target pen room₀ z room k p now) where
+module _ (s : Bytes) (depth components : ℕ) (cmd : Cmd) (to target : ℕ) (state : WriteState) (room₀ : Bytes) (z : ℕ) (room : Bytes) (k p : ℕ) (now : WriteState)
+    (l : AltsLoop s depth components cmd to target state room₀ z room k p now) where
   abbrev pub its-choice : Choice s components depth 0 k p to (l .place)
   its-choice = choice s components depth 0 k p to (l .place) (l .some-left)
 
@@ -492,7 +493,7 @@ module _ (s : Bytes) (depth components : ℕ) (cmd : Cmd) (to target : ℕ) (pen
   more h = more-alts (l .alts) (its-choice .first) (its-choice .rest .seqs) (l .listed ∙ its-choice .seqs) (omega (arith, its-choice .rest .size))
 
   -- the record after an alternative but the last, and its jump
-  pub choice-few : 1 < k → (w : ℕ) → w ≡ size (its-choice .first) → now .n + w + 1 ≤ 1024
+  pub choice-few : 1 < k → (w : ℕ) → w ≡ size (its-choice .first) → now .n + w + 1 ≤ limits .records
   choice-few h w e = let (b, a, _) = more h in omega (arith, e, l .few, ap sizeAlts a, size-or (its-choice .first) b .0)
 
   module _ (w from : ℕ) (o : (w ≡ its-choice .inside .head .num) × (from ≡ its-choice .inside .head .next)) where
@@ -512,13 +513,13 @@ module _ (s : Bytes) (depth components : ℕ) (cmd : Cmd) (to target : ℕ) (pen
     abbrev pub choice-here : SequenceHere s depth from
     choice-here = record { n = components; place = choice-place; small = omega (arith, l .enough, l .small, choice-size .0, choice-size .1) }
 
-    abbrev pub choice-job : SequenceJob s depth (entered pen from now) room
+    abbrev pub choice-job : SequenceJob s depth (entered state from now) room
     choice-job =
         record {
           n = components;
           place = choice-place;
           inside = l .inside;
-          components = l .eight;
+          components = l .bounded;
           enough = omega (arith, l .enough, choice-size .0, choice-size .1);
           few = omega (arith, l .few, choice-size .0);
           small = l .small;
@@ -526,40 +527,40 @@ module _ (s : Bytes) (depth components : ℕ) (cmd : Cmd) (to target : ℕ) (pen
 
     -- an alternative but the last
     module _ (h : 1 < k) (t : ℕ) (r : WriteState) (room′ : Bytes)
-        (wrote : Wrote (flatSeq (its-choice .first) false (pen .index) false t z (now .n)) (entered pen from now) room r room′) where
-      pub jump-room : r .to + 10 ≤ length room′
+        (wrote : Wrote (flatSeq (its-choice .first) false (state .index) false t z (now .n)) (entered state from now) room r room′) where
+      pub jump-room : r .to + recordSize ≤ length room′
       jump-room =
           let (b, a, _) = more h in
-          let f : List Rec = flatSeq (its-choice .first) false (pen .index) false t z (now .n) in
+          let f : List Rec = flatSeq (its-choice .first) false (state .index) false t z (now .n) in
           let (p₁, p₂) = size-or (its-choice .first) b in
-          omega (arith, l .enough, ap sizeAlts a, ap argSizeAlts a, p₁, p₂, wrote .to, bytes-seq (its-choice .first) false (pen .index) false t z (now .n), same-room f (entered pen from now) room r room′ wrote)
+          omega (arith, l .enough, ap sizeAlts a, ap argSizeAlts a, p₁, p₂, wrote .to, bytes-seq (its-choice .first) false (state .index) false t z (now .n), same-room f (entered state from now) room r room′ wrote)
 
-      pub jump-few : r .n < 1024
+      pub jump-few : r .n < limits .records
       jump-few =
           let (b, a, _) = more h in
-          omega (arith, l .few, ap sizeAlts a, size-or (its-choice .first) b .0, wrote .n, length-seq (its-choice .first) false (pen .index) false t z (now .n))
+          omega (arith, l .few, ap sizeAlts a, size-or (its-choice .first) b .0, wrote .n, length-seq (its-choice .first) false (state .index) false t z (now .n))
 
       pub tries-on : t ≡ now .n + size (its-choice .first) + 1 → (r′ : WriteState) (room″ : Bytes) → JumpWrote z r room′ r′ room″ →
-          AltsLoop s depth components cmd to target pen room₀ z room″ (k - 1) (from + w) r′
+          AltsLoop s depth components cmd to target state room₀ z room″ (k - 1) (from + w) r′
       tries-on e r′ room″ jumped =
           let (b, a, rest) = more h in
           let x : Seq = its-choice .first in
-          let f : List Rec = flatSeq x false (pen .index) false t z (now .n) in
+          let f : List Rec = flatSeq x false (state .index) false t z (now .n) in
           let (p₁, p₂) = size-or x b in
           let e₁ = ap sizeAlts a in
           let e₂ = ap argSizeAlts a in
-          let n₁ = length-seq x false (pen .index) false t z (now .n) in
-          let b₁ = bytes-seq x false (pen .index) false t z (now .n) in
-          let g : Wrote (l .done ++ f) pen room₀ r room′ = wrote-then (l .done) f pen room₀ now room (entered pen from now) r room′ refl refl (l .wrote) wrote in
+          let n₁ = length-seq x false (state .index) false t z (now .n) in
+          let b₁ = bytes-seq x false (state .index) false t z (now .n) in
+          let g : Wrote (l .done ++ f) state room₀ r room′ = wrote-then (l .done) f state room₀ now room (entered state from now) r room′ refl refl (l .wrote) wrote in
           let nn : r′ .n ≡ now .n + size x + 1 = omega (arith, wrote .n, jumped .wrote .n, n₁) in
-          let tt′ : r′ .to ≡ now .to + (10 * size x + argSize x) + 10 = omega (arith, wrote .to, jumped .wrote .to, b₁, bytes-jump z) in
+          let tt′ : r′ .to ≡ now .to + (recordSize * size x + argSize x) + recordSize = omega (arith, wrote .to, jumped .wrote .to, b₁, bytes-jump z) in
           let ll : length room″ ≡ length room =
-          same-room (jump z ∷ []) r room′ r′ room″ (jumped .wrote) ∙ same-room f (entered pen from now) room r room′ wrote in
+          same-room (jump z ∷ []) r room′ r′ room″ (jumped .wrote) ∙ same-room f (entered state from now) room r room′ wrote in
           record {
             whole = l .whole;
             is = l .is;
             inside = l .inside;
-            eight = l .eight;
+            bounded = l .bounded;
             alts = b;
             place =
                 record {
@@ -575,33 +576,33 @@ module _ (s : Bytes) (depth components : ℕ) (cmd : Cmd) (to target : ℕ) (pen
             listed = sym rest;
             some-left = omega (arith, h);
             done = l .done ++ f ++ (jump z ∷ []);
-            wrote = wrote-then (l .done ++ f) (jump z ∷ []) pen room₀ r room′ r r′ room″ refl refl g (jumped .wrote);
+            wrote = wrote-then (l .done ++ f) (jump z ∷ []) state room₀ r room′ r r′ room″ refl refl g (jumped .wrote);
             goes =
                 l .goes
-                ∙ ap (λ (v : Alts). l .done ++ flatAlts v (pen .index) target z (now .n)) a
-                ∙ ap (λ (v : List Rec). l .done ++ v) (flat-or x b (pen .index) target z (now .n))
-                ∙ rw (e, nn) (sym (append-assoc (l .done) (flatSeq x false (pen .index) false (now .n + size x + 1) z (now .n)) (jump z ∷ flatAlts b (pen .index) target z (now .n + size x + 1)))
-                ∙ sym (append-assoc (l .done ++ flatSeq x false (pen .index) false (now .n + size x + 1) z (now .n)) (jump z ∷ []) (flatAlts b (pen .index) target z (now .n + size x + 1))));
+                ∙ ap (λ (v : Alts). l .done ++ flatAlts v (state .index) target z (now .n)) a
+                ∙ ap (λ (v : List Rec). l .done ++ v) (flat-or x b (state .index) target z (now .n))
+                ∙ rw (e, nn) (sym (append-assoc (l .done) (flatSeq x false (state .index) false (now .n + size x + 1) z (now .n)) (jump z ∷ flatAlts b (state .index) target z (now .n + size x + 1)))
+                ∙ sym (append-assoc (l .done ++ flatSeq x false (state .index) false (now .n + size x + 1) z (now .n)) (jump z ∷ []) (flatAlts b (state .index) target z (now .n + size x + 1))));
             enough = omega (arith, l .enough, e₁, e₂, p₁, p₂, tt′, ll);
             few = omega (arith, l .few, e₁, p₁, nn);
             small = omega (arith, l .small, ll);
           }
 
     -- the last
-    pub tries-last : k ≡ 1 → (r : WriteState) (room′ : Bytes) → Wrote (flatSeq (its-choice .first) false (pen .index) false target z (now .n)) (entered pen from now) room r room′ →
-        CommandWrote cmd to components target pen room₀ (entered pen (from + w) r) room′
+    pub tries-last : k ≡ 1 → (r : WriteState) (room′ : Bytes) → Wrote (flatSeq (its-choice .first) false (state .index) false target z (now .n)) (entered state from now) room r room′ →
+        CommandWrote cmd to components target state room₀ (entered state (from + w) r) room′
     tries-last h r room′ wrote =
         let x : Seq = its-choice .first in
-        let f : List Rec = flatSeq x false (pen .index) false target z (now .n) in
+        let f : List Rec = flatSeq x false (state .index) false target z (now .n) in
         let (a, none) = last-alts (l .alts) x (its-choice .rest .seqs) (l .listed ∙ its-choice .seqs) (omega (arith, h, its-choice .rest .size)) in
         let ends : its-choice .inside .head .next + its-choice .inside .head .num ≡ to =
         no-others (its-choice .rest .seqs) none (its-choice .rest .reads) in
-        let g : flatCmd cmd (pen .index) target (pen .n) ≡ l .done ++ f =
+        let g : flatCmd cmd (state .index) target (state .n) ≡ l .done ++ f =
         l .goes
-        ∙ ap (λ (v : Alts). l .done ++ flatAlts v (pen .index) target z (now .n)) a
-        ∙ ap (λ (v : List Rec). l .done ++ v) (flat-last x (pen .index) target z (now .n)) in
-        holds-sequences cmd to components target pen room₀ (from + w) r room′
-        (rw g (wrote-then (l .done) f pen room₀ now room (entered pen from now) r room′ refl refl (l .wrote) wrote))
+        ∙ ap (λ (v : Alts). l .done ++ flatAlts v (state .index) target z (now .n)) a
+        ∙ ap (λ (v : List Rec). l .done ++ v) (flat-last x (state .index) target z (now .n)) in
+        holds-sequences cmd to components target state room₀ (from + w) r room′
+        (rw g (wrote-then (l .done) f state room₀ now room (entered state from now) r room′ refl refl (l .wrote) wrote))
         (omega (arith, o .0, o .1, ends)) (l .inside) (λ i. rw (l .is)) (λ c. rw (l .is))
       where
         no-others : (list : List Seq) → list ≡ [] → Alternatives s (sequenceAt s components (its-choice .rest .section) depth) (its-choice .rest .e) list (its-choice .rest .m) (its-choice .inside .head .next + its-choice .inside .head .num) to →

@@ -1,19 +1,22 @@
 // The records of sequences and commands, written to lent room.
 ghost use mathlib.Core.Path.{_≡_};
 ghost use Prim.Native.Nat.{_+_, _≤_};
+ghost use Rattle.rules.specs.Limits.{limits};
 ghost use Rattle.rules.specs.Program.{flatSeq};
 ghost use mathlib.Core.Bool.{false, _&&_, cond};
 ghost use Rattle.manifest_accessors.specs.Arguments.{isTrue};
 ghost use Rattle.translate_record.specs.Record.{Wrote, CommandWrote};
 ghost use Rattle.translate_sequence.specs.Write.{SequenceJob, CommandJob};
 use manifest_accessors::heads::open;
+use rules::codes::RUN_SEQUENCE;
+use rules::codes::TRY_EACH;
 use translate_record::record::WriteState;
 use translate_record::record::put_command;
 use translate_record::record::put_jump;
 use translate_size::sizes::size_command;
 use translate_size::sizes::size_sequence;
 
-// The target of a failed condition: `beyond` in a sequence that code 30 runs, where coerce is true.
+// The target of a failed condition: `beyond` in a sequence that a run sequence holds, where coerce is true.
 fn caught(coercible: bool, coerce: usize, beyond: usize, target: usize) -> usize
     ensures { λ r. ⌜ r ≡ cond (coercible && isTrue coerce) beyond target ⌝ }
 {
@@ -27,45 +30,45 @@ fn caught(coercible: bool, coerce: usize, beyond: usize, target: usize) -> usize
 
 // The record after a sequence of that many, the first of which has number n: there a failure under the sequence's coerce goes on.
 fn record_after(n: usize, records: usize) -> usize
-    requires { ⌜ n + records ≤ 1024 ⌝ }
+    requires { ⌜ n + records ≤ limits .records ⌝ }
     ensures { λ r. ⌜ r ≡ n + records ⌝ }
 {
     n + records
 }
 
-// The pen at the start of the sequence at `at`, where `now` writes.
-fn enter(pen: WriteState, at: usize, now: WriteState) -> WriteState
-    ensures { λ r. ⌜ r ≡ record { next = at; index = pen .index; coerce = pen .coerce; n = now .n; to = now .to } ⌝ }
+// The state at the start of the sequence at `at`: its records follow those of `now`.
+fn enter(state: WriteState, at: usize, now: WriteState) -> WriteState
+    ensures { λ r. ⌜ r ≡ record { next = at; index = state .index; coerce = state .coerce; n = now .n; to = now .to } ⌝ }
 {
     WriteState {
         next: at,
-        index: pen.index,
-        coerce: pen.coerce,
+        index: state.index,
+        coerce: state.coerce,
         n: now.n,
         to: now.to,
     }
 }
 
-// The sequence at pen.next: a failed condition goes on at `target`, or at `beyond` where `coercible` holds and coerce is true.
+// The sequence at state.next: a failed condition goes on at `target`, or at `beyond` where `coercible` holds and coerce is true.
 pub fn write_sequence(
     s: &[u8],
     depth: usize,
     coercible: bool,
     target: usize,
     beyond: usize,
-    pen: WriteState,
+    state: WriteState,
     room: &mut [u8],
 ) -> WriteState
-    requires { ⌜ SequenceJob (now s) depth pen (now room) ⌝ }
-    ensures { λ r. ⌜ ((j : SequenceJob (now (s .entry)) depth pen (now (room .entry))) → Wrote (flatSeq (j .place .seq) coercible (pen .index) false target beyond (pen .n)) pen (now (room .entry)) r (now (room .exit))) ⌝ }
+    requires { ⌜ SequenceJob (now s) depth state (now room) ⌝ }
+    ensures { λ r. ⌜ ((j : SequenceJob (now (s .entry)) depth state (now (room .entry))) → Wrote (flatSeq (j .place .seq) coercible (state .index) false target beyond (state .n)) state (now (room .entry)) r (now (room .exit))) ⌝ }
 {
-    let h = open(s, pen.next);
+    let h = open(s, state.next);
     let mut now = WriteState {
         next: h.next,
-        index: pen.index,
+        index: state.index,
         coerce: 1,
-        n: pen.n,
-        to: pen.to,
+        n: state.n,
+        to: state.to,
     };
     let mut left = h.value / 2;
     while 0 < left {
@@ -76,20 +79,20 @@ pub fn write_sequence(
     now
 }
 
-// The command at pen.next: a failed condition goes on at `target`.
+// The command at state.next: a failed condition goes on at `target`.
 pub fn write_command(
     s: &[u8],
     depth: usize,
     target: usize,
-    pen: WriteState,
+    state: WriteState,
     room: &mut [u8],
 ) -> WriteState
-    requires { ⌜ CommandJob (now s) depth pen (now room) ⌝ }
-    ensures { λ r. ⌜ ((j : CommandJob (now (s .entry)) depth pen (now (room .entry))) → CommandWrote (j .place .cmd) (j .place .to) (j .n) target pen (now (room .entry)) r (now (room .exit))) ⌝ }
+    requires { ⌜ CommandJob (now s) depth state (now room) ⌝ }
+    ensures { λ r. ⌜ ((j : CommandJob (now (s .entry)) depth state (now (room .entry))) → CommandWrote (j .place .cmd) (j .place .to) (j .n) target state (now (room .entry)) r (now (room .exit))) ⌝ }
 {
-    let c = open(s, pen.next);
+    let c = open(s, state.next);
     let code = c.value;
-    if code == 30 {
+    if code == RUN_SEQUENCE {
         let b = open(s, c.next);
         let inner = size_sequence(s, depth, b.next);
         let r = write_sequence(
@@ -97,19 +100,19 @@ pub fn write_command(
             depth,
             true,
             target,
-            record_after(pen.n, inner.records),
-            enter(pen, b.next, pen),
+            record_after(state.n, inner.records),
+            enter(state, b.next, state),
             room,
         );
-        return enter(pen, b.next + b.value, r);
+        return enter(state, b.next + b.value, r);
     }
-    if code == 15 {
-        let whole = size_command(s, depth, pen.next);
-        let z = pen.n + whole.records;
+    if code == TRY_EACH {
+        let whole = size_command(s, depth, state.next);
+        let z = state.n + whole.records;
         let h = open(s, c.next);
         let mut left = h.value;
         let mut p = h.next;
-        let mut now = pen;
+        let mut now = state;
         while 1 < left {
             let b = open(s, p);
             let alternative = size_sequence(s, depth, b.next);
@@ -119,7 +122,7 @@ pub fn write_command(
                 false,
                 now.n + alternative.records + 1,
                 z,
-                enter(pen, b.next, now),
+                enter(state, b.next, now),
                 room,
             );
             now = put_jump(z, now, room);
@@ -127,8 +130,8 @@ pub fn write_command(
             left -= 1;
         }
         let b = open(s, p);
-        let r = write_sequence(s, depth, false, target, z, enter(pen, b.next, now), room);
-        return enter(pen, b.next + b.value, r);
+        let r = write_sequence(s, depth, false, target, z, enter(state, b.next, now), room);
+        return enter(state, b.next + b.value, r);
     }
-    put_command(s, code, c.next, target, pen, room)
+    put_command(s, code, c.next, target, state, room)
 }

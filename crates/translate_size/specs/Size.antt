@@ -4,6 +4,8 @@ use mathlib.Core.Path.{_≡_}
 use mathlib.Core.Bool.{cond}
 use lib.Dec.{eqb}
 use Rattle.rules.specs.Bytes.{Bytes}
+use Rattle.rules.specs.Limits.{limits}
+use Rattle.rules.specs.ProgramFormat.{entrySize, sourceBytes, sizeBytes}
 use Rattle.rules.specs.Manifest.{Seq, Cmd}
 use Rattle.rules.specs.Program.{size, sizeCmd}
 use Rattle.rules.specs.ProgramSize.{argSize, argSizeCmd}
@@ -14,11 +16,11 @@ use Rattle.translate_size.specs.declared.sizes.Size.{Size}
 -- the bytes of the parameters that are set: key, length and value
 abbrev pub parametersSize : Args → ℕ
 parametersSize a =
-    cond (eqb (a .params .uri) 0) 0 (a .params .length) + cond (eqb (a .params .uri) 0) 0 2 + cond (eqb (a .params .source) 0) 0 3 + cond (eqb (a .params .digest) 0) 0 34 + cond (eqb (a .params .size) 0) 0 6
+    cond (eqb (a .params .uri) 0) 0 (a .params .length) + cond (eqb (a .params .uri) 0) 0 entrySize + cond (eqb (a .params .source) 0) 0 (entrySize + sourceBytes) + cond (eqb (a .params .digest) 0) 0 (entrySize + limits .digest) + cond (eqb (a .params .size) 0) 0 (entrySize + sizeBytes)
 
 -- the bytes of the argument of the command of that code
 abbrev pub argumentSize : ℕ → Args → ℕ
-argumentSize c a = cond (eqb c 1) 16 (cond (eqb c 2) 16 (cond (eqb c 19) (parametersSize a) (cond (eqb c 20) (parametersSize a) 0)))
+argumentSize c a = cond (eqb c 1) (limits .class) (cond (eqb c 2) (limits .class) (cond (eqb c 19) (parametersSize a) (cond (eqb c 20) (parametersSize a) 0)))
 
 -- the largest number
 abbrev pub most : ℕ

@@ -5,9 +5,22 @@ ghost use Rattle.translate_size.specs.Size.{parametersSize, argumentSize
 use manifest_accessors::arguments::Args;
 use manifest_accessors::arguments::read_one;
 use manifest_accessors::heads::open;
+use rules::codes::RUN_SEQUENCE;
+use rules::codes::TRY_EACH;
+use rules::controller::Controller;
+use rules::program_format::ENTRY_BYTES;
+use rules::program_format::SIZE_BYTES;
+use rules::program_format::SOURCE_BYTES;
 use rules::tables::Argument;
 use rules_tables::argument_of;
 use run_slots::params::either;
+
+// The bytes of a source, a digest and a size, each with its key and length.
+const SOURCE_ENTRY: usize = ENTRY_BYTES + SOURCE_BYTES;
+
+const DIGEST_ENTRY: usize = ENTRY_BYTES + Controller::DIGEST_BYTES;
+
+const SIZE_ENTRY: usize = ENTRY_BYTES + SIZE_BYTES;
 
 // Records, the bytes of their arguments, and the place after what was read.
 pub struct Size {
@@ -23,10 +36,10 @@ fn parameters_size(a: Args) -> usize
 {
     let p = a.params;
     let text = either(p.uri, p.length, 0);
-    let uri = either(p.uri, 2, 0);
-    let source = either(p.source, 3, 0);
-    let digest = either(p.digest, 34, 0);
-    let size = either(p.size, 6, 0);
+    let uri = either(p.uri, ENTRY_BYTES, 0);
+    let source = either(p.source, SOURCE_ENTRY, 0);
+    let digest = either(p.digest, DIGEST_ENTRY, 0);
+    let size = either(p.size, SIZE_ENTRY, 0);
     text + uri + source + digest + size
 }
 
@@ -36,7 +49,7 @@ pub fn argument_size(code: usize, a: Args) -> usize
     ensures { λ r. ⌜ r ≡ argumentSize code a ⌝ }
 {
     match argument_of(code) {
-        Argument::Sixteen => 16,
+        Argument::Sixteen => Controller::CLASS_BYTES,
         Argument::Parameters => parameters_size(a),
         Argument::Nil => 0,
         Argument::Index => 0,
@@ -76,7 +89,7 @@ pub fn size_command(s: &[u8], depth: usize, at: usize) -> Size
 {
     let c = open(s, at);
     let code = c.value;
-    if code == 30 {
+    if code == RUN_SEQUENCE {
         let b = open(s, c.next);
         let r = size_sequence(s, depth, b.next);
         return Size {
@@ -85,7 +98,7 @@ pub fn size_command(s: &[u8], depth: usize, at: usize) -> Size
             arguments: r.arguments,
         };
     }
-    if code == 15 {
+    if code == TRY_EACH {
         let h = open(s, c.next);
         let mut left = h.value;
         // each alternative but the last has a jump after it

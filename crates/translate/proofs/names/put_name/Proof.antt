@@ -1,25 +1,26 @@
-use Prim.Native.Nat.{suc, _+_}
 use mathlib.Core.Path.{_≡_, _∙_}
+use mathlib.Core.List.{[], _∷_, append-nil}
 use native.Mathlib.Omega.{arith}
 use lib.ListN.{length, length-set}
 use lib.Seq.{length-sets}
 use borrow.Author.Needs.{needs}
 use Rattle.rules.specs.Bytes.{part}
+use Rattle.rules.specs.ProgramFormat.{NAME}
 use Rattle.rules.proofs.BytesLaws.{length-part}
+use Rattle.byte_buffer.proofs.PutLaws.{in-a-row}
 use Rattle.translate.proofs.names.put_name.Statement.{statement}
 use Rattle.translate.proofs.names.put_name.Tie as tie
 
 returns : tie.Need-returns
 returns c =
     let a = c .before .before .before .before .before .before .args in
-    let to = a .to in
-    let e1 : to + 1 ≡ suc to = omega arith in
-    let e2 : to + 2 ≡ suc (suc to) = omega arith in
-    let e3 : to + 3 ≡ suc (suc (suc to)) = omega arith in
-    let e4 : to + 4 ≡ suc (suc (suc (suc to))) = omega arith in
-    let l : length (part (a .s .now) (a .from) (a .n)) ≡ a .n = length-part (a .s .now) (a .from) (a .n) (omega arith) in
+    let id = part (a .s .now) (a .from) (a .n) in
+    let l : length id ≡ a .n = length-part (a .s .now) (a .from) (a .n) (omega arith) in
     record {
-      filled = c .before .before .copy .ensures ∙ (rw (l, e1, e2, e3, e4));
+      filled =
+          c .before .before .copy .ensures
+          ∙ in-a-row (a .room .now) (a .to) (0x53 ∷ []) ((0x50 ∷ []) ∷ (NAME ∷ []) ∷ (a .n ∷ []) ∷ id ∷ [])
+          ∙ rw (append-nil id, l);
       next = omega (arith, l);
     }
 
@@ -30,6 +31,7 @@ put-name-spec =
     (λ c. search needs)
     (λ c. search needs)
     (λ c. simp length-set (omega arith))
+    (λ c. search needs)
     (λ c. search needs)
     (λ c. simp length-set (omega arith))
     (λ c. search needs)

@@ -3,6 +3,8 @@ use mathlib.Core.Path.{_≡_, ap}
 use native.Mathlib.Omega.{arith}
 use lib.ListN.{length}
 use borrow.Author.Needs.{needs}
+use Rattle.rules.specs.Limits.{limits}
+use Rattle.rules.specs.ProgramFormat.{nameSize}
 use Rattle.rules.specs.Bytes.{Bytes}
 use Rattle.component_ids.specs.Identifiers.{InBytes}
 use Rattle.translate.proofs.NameLaws.{named, namesLeft, names-all, names-none, left-size}
@@ -11,7 +13,7 @@ use Rattle.translate.proofs.names.size_names.Tie as tie
 
 abbrev Inv-loop : tie.InvT-loop
 Inv-loop ids n sum₀ k₀ sum k =
-    (k ≤ n) × (sum ≤ 65540 * k) × ((s : Bytes) → InBytes ids n (length s) → sum + length (namesLeft s ids n k) ≡ length (named s ids n))
+    (k ≤ n) × (sum ≤ (nameSize + limits .envelope) * k) × ((s : Bytes) → InBytes ids n (length s) → sum + length (namesLeft s ids n k) ≡ length (named s ids n))
 
 abbrev μ-loop : tie.MeasureT-loop
 μ-loop ids n sum₀ k₀ sum k = n - k

@@ -1,6 +1,7 @@
 use Prim.Native.Nat.{_-_}
 use native.Mathlib.Omega.{arith}
 use borrow.Author.Needs.{needs}
+use Rattle.rules.specs.Limits.{sectionCount}
 use Rattle.translate.specs.Sections.{SectionsHere}
 use Rattle.translate.proofs.SectionLaws.{Sizing, sizing-starts, sizing-done, sizing-job, sizing-on, sizing-adds}
 use Rattle.translate.proofs.sections.size_sections.Statement.{statement}
@@ -10,7 +11,7 @@ abbrev Inv-loop : tie.InvT-loop
 Inv-loop s group sections now₀ k₀ now k = (j : SectionsHere s sections) → Sizing s group sections j k now
 
 abbrev μ-loop : tie.MeasureT-loop
-μ-loop s group sections now₀ k₀ now k = 6 - k
+μ-loop s group sections now₀ k₀ now k = sectionCount - k
 
 start : tie.Need-loop-holds Inv-loop μ-loop
 start c j = sizing-starts _ _ _ j

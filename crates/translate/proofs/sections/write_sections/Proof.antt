@@ -3,6 +3,7 @@ use mathlib.Core.Path.{_≡_, refl}
 use native.Mathlib.Omega.{arith}
 use lib.ListN.{length}
 use borrow.Author.Needs.{needs}
+use Rattle.rules.specs.Limits.{sectionCount}
 use Rattle.translate.specs.Sections.{SectionsJob}
 use Rattle.translate.proofs.SectionLaws.{Writing, writing-starts, writing-done, writing-job, writing-on}
 use Rattle.translate.proofs.sections.write_sections.Statement.{statement}
@@ -14,7 +15,7 @@ Inv-loop s group sections to room₀ now₀ k₀ room now k =
     × ((j : SectionsJob s group sections to room₀) → Writing s group sections (j .here) (record { next = 0; index = 0; coerce = 1; n = 0; to = to }) room₀ room k now)
 
 abbrev μ-loop : tie.MeasureT-loop
-μ-loop s group sections to room₀ now₀ k₀ room now k = 6 - k
+μ-loop s group sections to room₀ now₀ k₀ room now k = sectionCount - k
 
 start : tie.Need-loop-holds Inv-loop μ-loop
 start c = (refl, λ j. writing-starts _ _ _ (j .here) _ _ refl (j .enough) (j .small))

@@ -49,8 +49,10 @@ pub put-parameters-spec : {M : Type 1} → statement M
 put-parameters-spec =
     tie.close
     (tie.spec
+    (λ c. search needs)
     uri
     source
+    (λ c. search needs)
     digest
     size
     (λ c. search needs)

@@ -1,16 +1,19 @@
-use Prim.Native.Nat.{suc, _+_, _≤_}
+use Prim.Native.Nat.{_+_, _≤_}
 use mathlib.Core.Path.{_≡_, _∙_}
+use mathlib.Core.List.{[], _∷_, append-nil}
 use native.Mathlib.Omega.{arith}
 use lib.ListN.{length, length-set}
 use borrow.Author.Needs.{needs}
 use Rattle.rules.specs.Bytes.{part}
+use Rattle.rules.specs.ProgramFormat.{entrySize}
 use Rattle.rules.proofs.BytesLaws.{length-part}
+use Rattle.byte_buffer.proofs.PutLaws.{in-a-row}
 use Rattle.translate_record.proofs.FillLaws.{unset-filled, set-fits, set-filled, length-kept}
 use Rattle.translate_record.proofs.argument.put_string.Statement.{statement}
 use Rattle.translate_record.proofs.argument.put_string.Tie as tie
 use Rattle.translate_record.proofs.argument.put_string.Reads as reads
 use Rattle.translate_record.proofs.argument.put_string.Lts as lts
-use Rattle.translate_record.proofs.bytes.copy.Reads as copy-reads
+use Rattle.byte_buffer.proofs.copy.Reads as copy-reads
 
 unset : tie.Need-returns
 unset c = unset-filled _ (λ b. b) _ _ _ _ (c .if1 .taken)
@@ -24,7 +27,7 @@ whole c =
 
 fits : (c : lts.Else1 (copy-reads.Asked, copy-reads.Learnt) reads.Pre reads.Post) →
     let a = c .before .before .before .args in
-    a .to + 2 + a .n ≤ length (a .room .now)
+    a .to + entrySize + a .n ≤ length (a .room .now)
 fits c = omega (arith, whole c, set-fits _ (λ b. b) _ _ _ _ (c .if1 .left) (c .before .before .before .pre .2))
 
 copies : tie.Need-copy-requires
@@ -35,16 +38,16 @@ copies c κs =
 same : tie.Need-same-length
 same c =
     let a = c .before .before .before .before .before .before .before .args in
-    length-kept (a .room .now) (a .to) (a .key) (a .to + 1) (a .n) (a .to + 2) (part (a .s .now) (a .from) (a .n)) _ (c .before .before .copy .ensures)
+    length-kept (a .room .now) (a .to) (a .key) (a .to + 1) (a .n) (a .to + entrySize) (part (a .s .now) (a .from) (a .n)) _ (c .before .before .copy .ensures)
 
 set : tie.Need-returns-2
 set c =
     let d = c .before .before .before .before in
     let a = d .before .before .before .args in
-    let to = a .to in
-    let e1 : to + 1 ≡ suc to = omega arith in
-    let e2 : to + 2 ≡ suc (suc to) = omega arith in
-    set-filled _ (λ b. b) _ _ _ _ (d .if1 .left) _ (omega (arith, whole d)) _ (c .before .before .copy .ensures ∙ (rw (whole d, e1, e2)))
+    set-filled _ (λ b. b) _ _ _ _ (d .if1 .left) _ (omega (arith, whole d)) _
+    (c .before .before .copy .ensures
+    ∙ in-a-row (a .room .now) (a .to) (a .key ∷ []) ((a .n ∷ []) ∷ part (a .s .now) (a .from) (a .n) ∷ [])
+    ∙ rw (append-nil (part (a .s .now) (a .from) (a .n)), whole d))
 
 pub put-string-spec : {M : Type 1} → statement M
 put-string-spec =

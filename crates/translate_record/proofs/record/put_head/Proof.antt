@@ -1,26 +1,60 @@
-use Prim.Native.Nat.{suc, _+_}
-use mathlib.Core.Path.{_≡_}
+use Prim.Native.Nat.{ℕ, _+_}
+use mathlib.Core.Path.{_≡_, _∙_}
+use mathlib.Core.List.{[], _∷_, _++_}
 use native.Mathlib.Omega.{arith}
-use lib.ListN.{length-set}
+use lib.ListN.{length, set, length-set}
 use borrow.Author.Needs.{needs}
+use Rattle.rules.specs.Bytes.{Bytes, put, be2}
+use Rattle.rules.specs.ProgramFormat.{mark, codeFrom, componentFrom, placeFrom, targetFrom, argumentFrom}
+use Rattle.byte_buffer.proofs.PutLaws.{in-a-row}
 use Rattle.translate_record.specs.Record.{headBytes}
+use Rattle.translate_record.proofs.FillLaws.{put-then, put-length}
 use Rattle.translate_record.proofs.record.put_head.Statement.{statement}
 use Rattle.translate_record.proofs.record.put_head.Tie as tie
 
+-- the room after each number that is put
+module _ (room : Bytes) (to code component place target size : ℕ) (room₁ : Bytes)
+    (e : room₁ ≡ put (set (set (set (set room to 0x53) (to + 1) 0x50) (to + codeFrom) code) (to + componentFrom) component) (to + placeFrom) (be2 place)) where
+  placed : room₁ ≡ put room to (mark ++ (code ∷ component ∷ be2 place))
+  placed = e ∙ in-a-row room to (0x53 ∷ []) ((0x50 ∷ []) ∷ (code ∷ []) ∷ (component ∷ []) ∷ be2 place ∷ [])
+
+  placed-length : length room₁ ≡ length room
+  placed-length = put-length room to (mark ++ (code ∷ component ∷ be2 place)) room₁ placed
+
+  module _ (room₂ : Bytes) (f : room₂ ≡ put room₁ (to + targetFrom) (be2 target)) where
+    aimed : room₂ ≡ put room to (mark ++ (code ∷ component ∷ be2 place) ++ be2 target)
+    aimed = put-then room to (mark ++ (code ∷ component ∷ be2 place)) (be2 target) room₁ room₂ placed f
+
+    aimed-length : length room₂ ≡ length room
+    aimed-length = put-length room to (mark ++ (code ∷ component ∷ be2 place) ++ be2 target) room₂ aimed
+
+    module _ (room₃ : Bytes) (g : room₃ ≡ put room₂ (to + argumentFrom) (be2 size)) where
+      whole : room₃ ≡ put room to (headBytes code component place target size)
+      unfolding headBytes
+      whole = put-then room to (mark ++ (code ∷ component ∷ be2 place) ++ be2 target) (be2 size) room₂ room₃ aimed g
+
+      whole-length : length room₃ ≡ length room
+      whole-length = put-length room to (headBytes code component place target size) room₃ whole
+
+targets : tie.Need-put-u16-requires-2
+targets c κs =
+    let a = c .before .before .before .before .before .before .args in
+    omega (arith, placed-length (a .room .now) (a .to) (a .code) (a .component) (a .place) 0 0 _ (c .before .before .before .put-u16 .ensures))
+
+sizes : tie.Need-put-u16-requires-3
+sizes c κs =
+    let a = c .before .before .before .before .before .before .before .before .before .before .args in
+    omega (arith, aimed-length (a .room .now) (a .to) (a .code) (a .component) (a .place) (a .target) 0 _ (c .before .before .before .before .before .before .before .put-u16 .ensures) _ (c .before .before .before .put-u162 .ensures))
+
+same : tie.Need-same-length
+same c =
+    let a = c .before .before .before .before .before .before .before .before .before .before .before .before .before .args in
+    whole-length (a .room .now) (a .to) (a .code) (a .component) (a .place) (a .target) (a .size) _ (c .before .before .before .before .before .before .before .before .before .before .put-u16 .ensures) _ (c .before .before .before .before .before .before .put-u162 .ensures) _ (c .before .before .put-u163 .ensures)
+
 returns : tie.Need-returns
-unfolding headBytes
 returns c =
-    let to = c .args .to in
-    let e1 : to + 1 ≡ suc (to) = omega arith in
-    let e2 : to + 2 ≡ suc (suc (to)) = omega arith in
-    let e3 : to + 3 ≡ suc (suc (suc (to))) = omega arith in
-    let e4 : to + 4 ≡ suc (suc (suc (suc (to)))) = omega arith in
-    let e5 : to + 5 ≡ suc (suc (suc (suc (suc (to))))) = omega arith in
-    let e6 : to + 6 ≡ suc (suc (suc (suc (suc (suc (to)))))) = omega arith in
-    let e7 : to + 7 ≡ suc (suc (suc (suc (suc (suc (suc (to))))))) = omega arith in
-    let e8 : to + 8 ≡ suc (suc (suc (suc (suc (suc (suc (suc (to)))))))) = omega arith in
-    let e9 : to + 9 ≡ suc (suc (suc (suc (suc (suc (suc (suc (suc (to))))))))) = omega arith in
-    rw (e1, e2, e3, e4, e5, e6, e7, e8, e9)
+    let a = c .before .before .before .before .before .before .before .before .before .before .before .before .before .args in
+    whole (a .room .now) (a .to) (a .code) (a .component) (a .place) (a .target) (a .size) _ (c .before .before .before .before .before .before .before .before .before .before .put-u16 .ensures) _ (c .before .before .before .before .before .before .put-u162 .ensures) _ (c .before .before .put-u163 .ensures)
 
 pub put-head-spec : {M : Type 1} → statement M
 put-head-spec =
@@ -36,22 +70,10 @@ put-head-spec =
     (λ c. search needs)
     (λ c. simp length-set (omega arith))
     (λ c. search needs)
+    (λ c κs. simp length-set (omega arith))
     (λ c. search needs)
-    (λ c. simp length-set (omega arith))
+    targets
     (λ c. search needs)
-    (λ c. search needs)
-    (λ c. simp length-set (omega arith))
-    (λ c. search needs)
-    (λ c. search needs)
-    (λ c. simp length-set (omega arith))
-    (λ c. search needs)
-    (λ c. search needs)
-    (λ c. simp length-set (omega arith))
-    (λ c. search needs)
-    (λ c. search needs)
-    (λ c. simp length-set (omega arith))
-    (λ c. search needs)
-    (λ c. search needs)
-    (λ c. simp length-set (omega arith))
-    (λ c. simp length-set)
+    sizes
+    same
     returns)

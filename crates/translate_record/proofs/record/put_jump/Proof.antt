@@ -6,7 +6,7 @@ use Rattle.translate_record.proofs.record.put_jump.Tie as tie
 returns : tie.Need-returns
 returns c =
     let d = c .before .before .before .before in
-    jump-wrote _ (d .before .before .before .args .pen) _ _ (d .put-head .ensures)
+    jump-wrote _ (d .before .before .before .args .state) _ _ (d .put-head .ensures)
 
 pub put-jump-spec : {M : Type 1} → statement M
 put-jump-spec =

@@ -69,11 +69,11 @@ abbrev write-sequence-callees : ℕ → write-sequence-lts.Claims
 write-sequence-callees t = (open-reads.Asked, open-reads.Learnt, caught-reads.Asked, caught-reads.Learnt, write-command-below t, write-command.Post)
 
 abbrev write-command-Inv-loop : write-command-lts.InvT-loop
-write-command-Inv-loop s depth target pen room₀ code z left₀ p₀ now₀ room left p now =
-    (length room ≡ length room₀) × ((j : CommandJob s depth pen room₀) → AltsLoop s depth (j .n) (j .place .cmd) (j .place .to) target pen room₀ z room left p now)
+write-command-Inv-loop s depth target state room₀ code z left₀ p₀ now₀ room left p now =
+    (length room ≡ length room₀) × ((j : CommandJob s depth state room₀) → AltsLoop s depth (j .n) (j .place .cmd) (j .place .to) target state room₀ z room left p now)
 
 abbrev write-command-μ-loop : write-command-lts.MeasureT-loop
-write-command-μ-loop s depth target pen room₀ code z left₀ p₀ now₀ room left p now = left
+write-command-μ-loop s depth target state room₀ code z left₀ p₀ now₀ room left p now = left
 
 write-command-open-requires : (t : ℕ) → write-command-lts.Need-open-requires (write-command-callees t) (write-command-at t) write-command.Post write-command-Inv-loop write-command-μ-loop
 write-command-open-requires t c κs = command-head _ _ _ _ (c .before .before .pre .1)
