@@ -23,10 +23,10 @@ use Rattle.rules.specs.Commands.{Op, vendor, class, imageMatch, setIndex, abort
 use Rattle.rules.specs.Manifest.{Seq, end, then, Cmd, one, sub, try, Alts, last, or, count, countCmd, countAlts, Manifest, names}
 use Rattle.rules.specs.Check.{check}
 use Rattle.rules.specs.Slots.{slotBytes, imageFrom, answerBytes, imageAt, slotOf}
-use Rattle.rules.specs.Step.{Env, State, Out, out, withUsed, eventBytes, unless, given, passes, slotNo, image, filled, paramsOf, matches, fetches, copies, swaps, acts, step}
+use Rattle.rules.specs.Step.{Env, State, Out, out, withUsed, eventBytes, unless, given, passes, slotNo, image, filled, paramsOf, matches, fetches, copies, swaps, acts, step, event}
 use Rattle.rules.specs.Run.{on, next, indexAfter, coerceAfter, runSeq, runCmd, runAlts, runAll, planOf, Input, Ran, admit, report, startState, envOf, runOf, runEnvelope}
 use Rattle.rules.specs.Program.{Rec, does, jump, Program}
-use Rattle.rules.specs.ProgramFormat.{NONE}
+use Rattle.rules.specs.ProgramFormat.{NONE, START, groupFrom, componentsFrom, recordsFrom, startSize}
 use Rattle.rules.specs.ProgramTest.{marked, groupIn, idsIn, recordsIn, nonJumps, programIn}
 use Rattle.rules.specs.ProgramRun.{exec, runProgram}
 use Rattle.rules.proofs.GotLaws.{passed, split, split₂, or-false}
@@ -217,7 +217,7 @@ module _ (env : Env) where
   unfolding step
   step-law op i place st =
       let a : Acted st (acts env op i st .state) (named env op i st) = acts-law op i st in
-      let e : Bytes = 0x53 ∷ 0x54 ∷ code op ∷ i ∷ be2 place ++ (resultNumber (acts env op i st .end) ∷ 0 ∷ []) in
+      let e : Bytes = event (code op) i place (resultNumber (acts env op i st .end)) in
       let st′ : State = acts env op i st .state in
       record {
         events = omega (arith, a .events);
@@ -369,12 +369,12 @@ envelope-effects s g m x r e q₀ =
 few-commands : (b : Bytes) (p : Program) → programIn b ≡ got p → nonJumps (p .records) ≤ limits .commands
 unfolding programIn
 few-commands b p q₀ =
-    let (_, q₁) = passed (leb (length b) (limits .program) && leb 11 (length b) && marked 0xfe b) BadProgram 0 _ p q₀ in
-    split _ (found (groupIn (getD b 3 0)) BadProgram 0) _ p q₁ λ g _ q₂.
-    let (_, q₃) = passed (leb 1 (getD b 8 0) && leb (getD b 8 0) (limits .components) && leb (num (part b 9 2)) (limits .records)) BadProgram 0 _ p q₂ in
-    split₂ _ (idsIn (getD b 8 0) (drop 11 b)) _ p q₃ λ ids p₁ _ q₄.
+    let (_, q₁) = passed (leb (length b) (limits .program) && leb startSize (length b) && marked START b) BadProgram 0 _ p q₀ in
+    split _ (found (groupIn (getD b groupFrom 0)) BadProgram 0) _ p q₁ λ g _ q₂.
+    let (_, q₃) = passed (leb 1 (getD b componentsFrom 0) && leb (getD b componentsFrom 0) (limits .components) && leb (num (part b recordsFrom 2)) (limits .records)) BadProgram 0 _ p q₂ in
+    split₂ _ (idsIn (getD b componentsFrom 0) (drop startSize b)) _ p q₃ λ ids p₁ _ q₄.
     let (_, q₅) = passed (not (repeats ids)) BadProgram 0 _ p q₄ in
-    split₂ _ (recordsIn g (getD b 8 0) (num (part b 9 2)) (num (part b 9 2)) 0 p₁) _ p q₅ λ rs p₂ _ q₆.
+    split₂ _ (recordsIn g (getD b componentsFrom 0) (num (part b recordsFrom 2)) (num (part b recordsFrom 2)) 0 p₁) _ p q₅ λ rs p₂ _ q₆.
     let (few, q₇) = passed (leb (nonJumps rs) (limits .commands)) BadProgram 0 _ p q₆ in
     let (_, q₈) = passed (same p₂ []) BadProgram 0 _ p q₇ in
     let e : rs ≡ p .records = cc in

@@ -14,7 +14,7 @@ use Rattle.rules.specs.Commands.{Op, component, isCondition, among, Allowed, an
 use Rattle.rules.specs.Manifest.{Seq, end, then, Cmd, one, sub, try, Alts, last, or, count, countCmd, countAlts, Section, countAll, Manifest, names}
 use Rattle.rules.specs.Run.{indexAfter, coerceAfter, sectionsOf, chosen, planOf}
 use Rattle.rules.specs.Program.{Rec, does, jump, targetOf, size, sizeCmd, sizeAlts, flatSeq, flatCmd, flatAlts, flatAll, programOf, argBytes, recBytes, idBytes, programBytes}
-use Rattle.rules.specs.ProgramFormat.{NONE}
+use Rattle.rules.specs.ProgramFormat.{NONE, recordSize, startSize}
 use Rattle.rules.specs.ProgramSize.{argSize, argSizeCmd, argSizeAlts, sizeAll, argSizeAll}
 use Rattle.rules.specs.ProgramTest.{groupAllows, anyOf, nonJumps}
 use Rattle.rules_theorems.proofs.OpLaws.{rowFor, component-below}
@@ -27,16 +27,16 @@ use Rattle.rules_theorems.proofs.RunLaws.{length-seq, length-cmd}
 mutual
   unfolding GoodSeq size count
 
-  size-seq : (a : Seq) (n sec : ℕ) → GoodSeq a n sec → size a ≤ 4 * count a
+  size-seq : (a : Seq) (n sec : ℕ) → GoodSeq a n sec → size a ≤ limits .alternatives * count a
   size-seq end n sec g = omega arith
   size-seq (then c s) n sec g = omega (arith, size-cmd c n sec (g .0), size-seq s n sec (g .1))
 
-  size-cmd : (c : Cmd) (n sec : ℕ) → GoodCmd c n sec → sizeCmd c ≤ 4 * countCmd c
+  size-cmd : (c : Cmd) (n sec : ℕ) → GoodCmd c n sec → sizeCmd c ≤ limits .alternatives * countCmd c
   size-cmd (one p op b) n sec g = omega arith
   size-cmd (sub s) n sec g = omega (arith, size-seq s n sec g)
   size-cmd (try a) n sec g = omega (arith, size-alts a n sec (g .0), g .1)
 
-  size-alts : (a : Alts) (n sec : ℕ) → GoodAlts a n sec → sizeAlts a ≤ 4 * countAlts a + jumps a
+  size-alts : (a : Alts) (n sec : ℕ) → GoodAlts a n sec → sizeAlts a ≤ limits .alternatives * countAlts a + jumps a
   size-alts (last s) n sec g = omega (arith, size-seq s n sec g)
   size-alts (or s a) n sec g = omega (arith, size-seq s n sec (g .0), size-alts a n sec (g .1))
 
@@ -55,11 +55,11 @@ bytes-append [] ys = omega arith
 bytes-append (x ∷ xs) ys =
     omega (arith, bytes-append xs ys, length-append (recBytes x) (flat (map recBytes (xs ++ ys))), length-append (recBytes x) (flat (map recBytes xs)))
 
-bytes-does : (op : Op) (i p t : ℕ) → bytes (does op i p t ∷ []) ≡ 10 + length (argBytes op)
+bytes-does : (op : Op) (i p t : ℕ) → bytes (does op i p t ∷ []) ≡ recordSize + length (argBytes op)
 unfolding bytes recBytes
 bytes-does op i p t = omega (arith, length-append (argBytes op) [])
 
-bytes-jump : (t : ℕ) (rs : List Rec) → bytes (jump t ∷ rs) ≡ 10 + bytes rs
+bytes-jump : (t : ℕ) (rs : List Rec) → bytes (jump t ∷ rs) ≡ recordSize + bytes rs
 unfolding bytes recBytes
 bytes-jump t rs = omega arith
 
@@ -71,7 +71,7 @@ mutual
   unfolding flatSeq size count argSize
 
   pub sum-seq : (a : Seq) (coercible : Bool) (i : ℕ) (c : Bool) (t z k : ℕ) →
-      (nonJumps (flatSeq a coercible i c t z k) ≤ count a) × (bytes (flatSeq a coercible i c t z k) ≡ 10 * size a + argSize a)
+      (nonJumps (flatSeq a coercible i c t z k) ≤ count a) × (bytes (flatSeq a coercible i c t z k) ≡ recordSize * size a + argSize a)
   sum-seq end coercible i c t z k = (omega arith, bytes-none)
   sum-seq (then x xs) coercible i c t z k =
       let f : List Rec = flatCmd x i (cond (coercible && c) z t) k in
@@ -80,12 +80,12 @@ mutual
       let r′ = sum-seq xs coercible (indexAfter x i) (coerceAfter x c) t z (k + sizeCmd x) in
       (omega (arith, r .0, r′ .0, nonJumps-append f f′), omega (arith, r .1, r′ .1, bytes-append f f′))
 
-  pub sum-cmd : (x : Cmd) (i t k : ℕ) → (nonJumps (flatCmd x i t k) ≤ countCmd x) × (bytes (flatCmd x i t k) ≡ 10 * sizeCmd x + argSizeCmd x)
+  pub sum-cmd : (x : Cmd) (i t k : ℕ) → (nonJumps (flatCmd x i t k) ≤ countCmd x) × (bytes (flatCmd x i t k) ≡ recordSize * sizeCmd x + argSizeCmd x)
   sum-cmd (one p op b) i t k = (omega arith, omega (arith, bytes-does op (component op i) p (targetOf op t)))
   sum-cmd (sub s) i t k = let r = sum-seq s true i false t (k + size s) k in (omega (arith, r .0), r .1)
   sum-cmd (try a) i t k = let r = sum-alts a i t (k + sizeAlts a) k in (omega (arith, r .0), r .1)
 
-  sum-alts : (a : Alts) (i t z k : ℕ) → (nonJumps (flatAlts a i t z k) ≤ countAlts a) × (bytes (flatAlts a i t z k) ≡ 10 * sizeAlts a + argSizeAlts a)
+  sum-alts : (a : Alts) (i t z k : ℕ) → (nonJumps (flatAlts a i t z k) ≤ countAlts a) × (bytes (flatAlts a i t z k) ≡ recordSize * sizeAlts a + argSizeAlts a)
   sum-alts (last s) i t z k = sum-seq s false i false _ z k
   sum-alts (or s a) i t z k =
       let f : List Rec = flatSeq s false i false (k + size s + 1) z k in
@@ -213,7 +213,7 @@ length-all (a ∷ xs) k =
     (arith, length-append (flatSeq a false 0 false NONE 0 k) (flatAll xs (k + size a)), length-seq a false 0 false NONE 0 k, length-all xs (k + size a))
 
 sums-all : (g : Group) (n : ℕ) (xs : List Seq) (k : ℕ) → Plan g n xs →
-    (sizeAll xs ≤ 4 * counts xs) × (nonJumps (flatAll xs k) ≤ counts xs) × (bytes (flatAll xs k) ≡ 10 * sizeAll xs + argSizeAll xs)
+    (sizeAll xs ≤ limits .alternatives * counts xs) × (nonJumps (flatAll xs k) ≤ counts xs) × (bytes (flatAll xs k) ≡ recordSize * sizeAll xs + argSizeAll xs)
 unfolding flatAll sizeAll argSizeAll
 sums-all g n [] k p = (omega arith, omega arith, bytes-none)
 sums-all g n (a ∷ xs) k p =
@@ -276,9 +276,9 @@ well-formed s g m h =
           );
     }
 
--- how long the program is: its start, the identifiers, ten bytes a record, and the arguments
+-- how long the program is: its start, the identifiers, the records, and the arguments
 pub program-size : (s : Bytes) (g : Group) (m : Manifest) → Sound s m →
-    length (programBytes (programOf s g m)) ≡ 11 + length (flat (map idBytes (names s m))) + 10 * sizeAll (planOf g m) + argSizeAll (planOf g m)
+    length (programBytes (programOf s g m)) ≡ startSize + length (flat (map idBytes (names s m))) + recordSize * sizeAll (planOf g m) + argSizeAll (planOf g m)
 unfolding programOf programBytes bytes
 program-size s g m h =
     let (plan, _, _) = chosen-law g (length (names s m)) (m .sections) (h .sections) in

@@ -15,8 +15,10 @@ use Rattle.rules.specs.Cbor.{NUMBER, ARRAY, MAP, item}
 use Rattle.rules.specs.Manifest.{count, Section, countAll, Manifest, names}
 use Rattle.rules.specs.Check.{number, key, inBytes, strings, identifier, identifiers, components, sequenceAt, sectionAt, commonSeq, commonAt, sectionsAt, manifestAt, unread, check}
 use Rattle.rules.specs.ProgramSize.{argSize}
+use Rattle.rules.specs.Commands.{PAYLOAD_FETCH, RUN}
 use Rattle.rules.proofs.GotLaws.{passed, both, split, split₂, or-false}
 use Rattle.rules.proofs.CheckLaws.{Item, item-law, number-law, key-law, inBytes-law, strings-law}
+use Rattle.rules_theorems.proofs.OpLaws.{argumentGrowth}
 use Rattle.rules_theorems.proofs.RoundTrip.{GoodIds}
 use Rattle.rules.proofs.BytesLaws.{length-part}
 use Rattle.rules.proofs.SameLaws.{same-sym}
@@ -112,7 +114,7 @@ pub record Sound (s : Bytes) (m : Manifest) : Type 0 where
   pub some-ids : (1 ≤ length (names s m)) × (length (names s m) ≤ limits .components)
   pub sections : GoodSections (length (names s m)) (m .sections)
   pub few : countAll (m .sections) ≤ limits .commands
-  pub light : argSizeIn (m .sections) ≤ 4096 + 25 * countAll (m .sections)
+  pub light : argSizeIn (m .sections) ≤ limits .envelope + argumentGrowth * countAll (m .sections)
 
 count-append : (xs ys : List Section) → (countAll (xs ++ ys) ≡ countAll xs + countAll ys) × (argSizeIn (xs ++ ys) ≡ argSizeIn xs + argSizeIn ys)
 count-append [] ys = (omega arith, omega arith)
@@ -143,10 +145,10 @@ module _ (s : Bytes) (small : length s < 65536) where
       let (ex, eq) = both q₀ in
       rw (← ex, ← eq) (record { up = omega arith; fits = u; few = λ h. omega arith; light = omega arith; good = tt })
   sections-law n (suc k) low m e at xs q l u q₀ =
-      split _ (item NUMBER low 12 s e at) _ (xs, q) q₀ λ h qh q₁.
+      split _ (item NUMBER low RUN s e at) _ (xs, q) q₀ λ h qh q₁.
       split₂ _ (sectionAt s n (h .num) m e (h .next)) _ (xs, q) q₁ λ x p qa q₂.
       split₂ _ (sectionsAt s n k (h .num + 1) (m + count (x .seq)) e p) _ (xs, q) q₂ λ rest p′ qs q₃.
-      let i : Item s NUMBER low 12 e at h = item-law s NUMBER low 12 e at h qh in
+      let i : Item s NUMBER low RUN e at h = item-law s NUMBER low RUN e at h qh in
       let t = section-law n (h .num) m e (h .next) x p l qa in
       let t′ = sections-law n k (h .num + 1) (m + count (x .seq)) e p rest p′ l (t .fits) qs in
       let (ex, eq) = both q₃ in
@@ -207,11 +209,11 @@ module _ (s : Bytes) (small : length s < 65536) where
       split₂ _ (number s e p₂) _ (m, q) q₅ λ n p₃ qn q₆.
       split _ (key s 3 e p₃) _ (m, q) q₆ λ p₄ qk₃ q₇.
       split₂ _ (inBytes s (commonAt s) e p₄) _ (m, q) q₇ λ c w qc q₈.
-      split₂ _ (sectionsAt s (length (c .0)) (h .num - 3) 8 (countAll (c .1)) e (w .to)) _ (m, q) q₈ λ ys p₆ qs q₉.
+      split₂ _ (sectionsAt s (length (c .0)) (h .num - 3) PAYLOAD_FETCH (countAll (c .1)) e (w .to)) _ (m, q) q₈ λ ys p₆ qs q₉.
       let (_, _, big-n) = number-law s e p₂ n p₃ qn in
       let j = inBytes-law s (commonAt s) e p₄ c w qc in
       let (t, d, n₁, n₂) = common-law (w .to) (w .from) c (w .to) (omega (arith, j .fits)) (j .reads) in
-      let t′ = sections-law (length (c .0)) (h .num - 3) 8 (countAll (c .1)) e (w .to) ys p₆ l (j .fits) qs in
+      let t′ = sections-law (length (c .0)) (h .num - 3) PAYLOAD_FETCH (countAll (c .1)) e (w .to) ys p₆ l (j .fits) qs in
       let (em, _) = both q₉ in
       let x : 0 + countAll (c .1) ≤ limits .commands = t .few (omega arith) in
       let y : countAll (c .1) + countAll ys ≤ limits .commands = t′ .few (omega arith) in

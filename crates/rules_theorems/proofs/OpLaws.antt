@@ -1,5 +1,5 @@
 -- The commands and the rows of the table that make them: what a row promises of its commands, and the row of each command.
-use Prim.Native.Nat.{ℕ, _+_, _≤_, _<_}
+use Prim.Native.Nat.{ℕ, _+_, _-_, _*_, _≤_, _<_}
 use mathlib.Core.Path.{_≡_, refl, subst}
 use mathlib.Core.List.{List, [], _∷_}
 use mathlib.Core.Bool.{Bool, true, false}
@@ -11,13 +11,14 @@ use Rattle.rules.specs.Limits.{limits}
 use Rattle.rules.specs.Bytes.{Bytes, be4}
 use Rattle.rules.specs.Commands.{Params, unset, orElse, over, Op, vendor, class, imageMatch, setIndex, abort, setParams, overrideParams, fetch, copy, run, swap, code, component, Form, sixteen, nil, below, alternatives, parameters, sequence, Allowed, anywhere, only, Row, commands, rowOf}
 use Rattle.rules.specs.Program.{entry, paramBytes, argBytes}
+use Rattle.rules.specs.ProgramFormat.{JUMP, entrySize, sizeBytes}
 use Rattle.rules.proofs.TableLaws.{_&_}
 
 -- parameters within their ranges, for n components
 pub record Fit (n : ℕ) (p : Params) : Type 0 where
   pub uri : (b : Bytes) → p .uri ≡ some b → (1 ≤ length b) × (length b ≤ limits .uri)
   pub source : (k : ℕ) → p .source ≡ some k → k < n
-  pub digest : (b : Bytes) → p .digest ≡ some b → length b ≡ 32
+  pub digest : (b : Bytes) → p .digest ≡ some b → length b ≡ limits .digest
   pub size : (k : ℕ) → p .size ≡ some k → k ≤ limits .largest
 
 pub no-some : {A : Type 0} (P : Type 0) (x : A) → _≡_ {A = Option A} none (some x) → P
@@ -39,9 +40,16 @@ fit-over n a b f g =
     record {
       uri = λ x e. either (a .uri) (b .uri) x (λ y. (1 ≤ length y) × (length y ≤ limits .uri)) (f .uri) (g .uri) e;
       source = λ x e. either (a .source) (b .source) x (λ y. y < n) (f .source) (g .source) e;
-      digest = λ x e. either (a .digest) (b .digest) x (λ y. length y ≡ 32) (f .digest) (g .digest) e;
+      digest = λ x e. either (a .digest) (b .digest) x (λ y. length y ≡ limits .digest) (f .digest) (g .digest) e;
       size = λ x e. either (a .size) (b .size) x (λ y. y ≤ limits .largest) (f .size) (g .size) e;
     }
+
+-- by how many bytes, at most, a parameter takes more in a record than in an envelope, where a size may have 1; and so an argument
+abbrev pub growth : ℕ
+growth = entrySize + sizeBytes - 1
+
+abbrev pub argumentGrowth : ℕ
+argumentGrowth = growth * limits .parameters
 
 -- the bytes that parameters take in a record
 abbrev pub weight : Params → ℕ
@@ -70,8 +78,8 @@ weight-over a b =
 
 -- a command whose argument is within its ranges, for n components
 abbrev pub GoodOp : ℕ → Op → Type 0
-GoodOp n (vendor b) = length b ≡ 16
-GoodOp n (class b) = length b ≡ 16
+GoodOp n (vendor b) = length b ≡ limits .class
+GoodOp n (class b) = length b ≡ limits .class
 GoodOp n imageMatch = Unit {0}
 GoodOp n (setIndex k) = k < n
 GoodOp n abort = Unit {0}
@@ -100,7 +108,7 @@ abbrev pub rowFor : Op → Row
 rowFor op = Option·getD (rowOf (code op) commands) (record { number = 0; condition = false; form = sequence; allowed = anywhere })
 
 -- it is in the table, and is no jump
-pub row-law : (op : Op) → (rowOf (code op) commands ≡ some (rowFor op)) × (eqb (code op) 0xff ≡ false)
+pub row-law : (op : Op) → (rowOf (code op) commands ≡ some (rowFor op)) × (eqb (code op) JUMP ≡ false)
 row-law (vendor b) = (refl, refl)
 row-law (class b) = (refl, refl)
 row-law imageMatch = (refl, refl)
@@ -118,7 +126,7 @@ abbrev Makes : Allowed → ℕ → Op → ℕ → Type 0
 Makes a n op w = GoodOp n op × (rowFor op .allowed ≡ a) × (length (argBytes op) ≡ w)
 
 abbrev pub RowOk : Form → Allowed → Type 0
-RowOk (sixteen op) a = (n : ℕ) (b : Bytes) → length b ≡ 16 → Makes a n (op b) 16
+RowOk (sixteen op) a = (n : ℕ) (b : Bytes) → length b ≡ limits .class → Makes a n (op b) (limits .class)
 RowOk (nil op) a = (n : ℕ) → Makes a n op 0
 RowOk (below op) a = (n k : ℕ) → k < n → Makes a n (op k) 0
 RowOk alternatives a = Unit {0}

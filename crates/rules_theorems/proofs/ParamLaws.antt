@@ -18,14 +18,14 @@ use Rattle.rules.specs.Check.{Given, give, number, parameter, entries}
 use Rattle.rules.proofs.GotLaws.{bound, passed, both}
 use Rattle.rules.proofs.BytesLaws.{length-part}
 use Rattle.rules.proofs.CheckLaws.{text-after, bytes-after, one-of-law, Item, item-law, number-law}
-use Rattle.rules_theorems.proofs.OpLaws.{Fit, no-some, some-is, fit-unset, fit-over, weight, weight-is, weight-over}
+use Rattle.rules_theorems.proofs.OpLaws.{growth, Fit, no-some, some-is, fit-unset, fit-over, weight, weight-is, weight-over}
 
 module _ (s : Bytes) where
   pub record Param (n e at : ℕ) (v : Given) (q : ℕ) : Type 0 where
     pub up : at < q
     pub fits : q ≤ e
     pub fit : Fit n (v .params)
-    pub light : weight (v .params) + at ≤ q + 5
+    pub light : weight (v .params) + at ≤ q + growth
 
   parameter-law : (n : ℕ) (k : Parameter) (e at : ℕ) (v : Given) (q : ℕ) → e ≤ length s → parameter s n k e at ≡ got (v, q) → Param n e at v q
   unfolding parameter
@@ -70,12 +70,12 @@ module _ (s : Bytes) where
             record { uri = λ x e′. no-some _ x e′; source = λ x e′. some-is (λ y. y < n) b e′; digest = λ x e′. no-some _ x e′; size = λ x e′. no-some _ x e′ };
       })
   parameter-law n Digest e at v q l q₀ =
-      let (h, qh, q₁) = bound (item BYTES 32 32 s e at) _ (v, q) q₀ in
-      let i : Item s BYTES 32 32 e at h = item-law s BYTES 32 32 e at h qh in
+      let (h, qh, q₁) = bound (item BYTES (limits .digest) (limits .digest) s e at) _ (v, q) q₀ in
+      let i : Item s BYTES (limits .digest) (limits .digest) e at h = item-law s BYTES (limits .digest) (limits .digest) e at h qh in
       let (ev, eq) = both q₁ in
       let m : after h ≡ h .next + h .num = bytes-after h (i .is) in
-      let x : Bytes = part s (h .next) 32 in
-      let j : length x ≡ 32 = length-part s (h .next) 32 (omega arith) in
+      let x : Bytes = part s (h .next) (limits .digest) in
+      let j : length x ≡ limits .digest = length-part s (h .next) (limits .digest) (omega arith) in
       let w = weight-is (give none none none (some x) none .params) in
       rw (← ev)
       (record {
@@ -86,7 +86,7 @@ module _ (s : Bytes) where
             record {
               uri = λ y e′. no-some _ y e′;
               source = λ y e′. no-some _ y e′;
-              digest = λ y e′. some-is (λ y. length y ≡ 32) j e′;
+              digest = λ y e′. some-is (λ y. length y ≡ limits .digest) j e′;
               size = λ y e′. no-some _ y e′;
             };
       })
@@ -107,7 +107,7 @@ module _ (s : Bytes) where
     pub up : at ≤ q
     pub fits : q ≤ e
     pub fit : Fit n (v .params)
-    pub light : weight (v .params) + at ≤ q + 5 * k + weight (g .params)
+    pub light : weight (v .params) + at ≤ q + growth * k + weight (g .params)
 
   pub entries-law : (n k low : ℕ) (g : Given) (e at : ℕ) (v : Given) (q : ℕ) → e ≤ length s → at ≤ e → Fit n (g .params) →
       entries s n k low g e at ≡ got (v, q) → Entries n k e at g v q

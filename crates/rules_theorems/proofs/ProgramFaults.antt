@@ -1,20 +1,28 @@
 -- Every fault of a program is refused with 97 at place 0 (01, Refusal numbers: '97: program not well formed'; '80 to 97 have place 0').
-use Prim.Native.Nat.{ℕ, zero, suc, _+_}
+use Prim.Native.Nat.{ℕ, zero, suc, _+_, _%_, _<_}
 use mathlib.Core.Path.{_≡_, refl}
-use mathlib.Core.List.{[], _∷_}
+use mathlib.Core.List.{List, [], _∷_}
 use mathlib.Core.Bool.{Bool, true, false, _&&_, _||_, not}
 use mathlib.Core.Option.{Option, some, none}
+use native.Mathlib.Omega.{arith}
 use lib.Dec.{eqb, ltb, leb}
 use lib.ListN.{getD, length, take, drop}
 use Rattle.rules.specs.declared.answers.Group.{Group}
-use Rattle.rules.specs.declared.answers.Refusal.the-variants.{BadProgram}
-use Rattle.rules.specs.Bytes.{Bytes, part, num, same, repeats}
+use Rattle.rules.specs.declared.answers.Refusal.{Refusal}
+use Rattle.rules.specs.declared.answers.Refusal.the-variants.{BadProgram, NotVerified, EventOpen, WrongNumber, BadSlots, NoSlot, BadAnswers, ShortTrace}
+use Rattle.rules.specs.Answers.{refusalNumber}
+use Rattle.rules.specs.Bytes.{Bytes, part, num, same, allIn, repeats}
 use Rattle.rules.specs.Limits.{limits}
+use Rattle.rules.specs.Got as Got
 use Rattle.rules.specs.Got.{Got, refused, got, found, _>>=_}
 use Rattle.rules.specs.Commands.{commands, rowOf, Form, sixteen, nil, below, alternatives, parameters, sequence}
 use Rattle.rules.specs.ProgramTest.{need, marked, optional, isBelow, paramsIn, opIn, groupAllows, recordIn, recordsIn, idsIn, nonJumps, groupIn, programIn}
-use Rattle.rules.specs.Program.{targetOf}
-use Rattle.rules.specs.ProgramFormat.{NONE}
+use Rattle.rules.specs.Program.{Program, targetOf}
+use Rattle.rules.specs.ProgramRun.{exec, runProgram}
+use Rattle.rules.specs.Slots.{answerBytes, slotNames, goodSlots}
+use Rattle.rules.specs.Step.{Env, State, Out}
+use Rattle.rules.specs.Run.{Input, Ran, mayStart, numberFits, admit, runOf}
+use Rattle.rules.specs.ProgramFormat.{NONE, mark, START, NAME, JUMP, codeFrom, groupFrom, componentsFrom, recordsFrom, startSize, lengthFrom, nameSize, componentFrom, placeFrom, targetFrom, argumentFrom, recordSize, sourceBytes, sizeBytes}
 
 abbrev pub Only97 : {A : Type 0} → Got A → Type 0
 Only97 (refused r p) = (r ≡ BadProgram) × (p ≡ 0)
@@ -48,14 +56,14 @@ params97 : (n : ℕ) (p : Bytes) → Only97 (paramsIn n p)
 unfolding paramsIn
 params97 n p =
     then97 (optional 6 1 (limits .uri) (λ b. b) p) _ (optional97 6 1 (limits .uri) (λ b. b) p) λ a.
-    then97 (optional 10 1 1 num (a .1)) _ (optional97 10 1 1 num (a .1)) λ b.
-    then97 (optional 11 32 32 (λ b. b) (b .1)) _ (optional97 11 32 32 (λ b. b) (b .1)) λ c.
-    then97 (optional 12 4 4 num (c .1)) _ (optional97 12 4 4 num (c .1)) λ d.
+    then97 (optional 10 sourceBytes sourceBytes num (a .1)) _ (optional97 10 sourceBytes sourceBytes num (a .1)) λ b.
+    then97 (optional 11 (limits .digest) (limits .digest) (λ b. b) (b .1)) _ (optional97 11 (limits .digest) (limits .digest) (λ b. b) (b .1)) λ c.
+    then97 (optional 12 sizeBytes sizeBytes num (c .1)) _ (optional97 12 sizeBytes sizeBytes num (c .1)) λ d.
     need97 (same (d .1) []) _ (need97 (isBelow (b .0) n) _ tt)
 
 op97 : (n i : ℕ) (form : Form) (p : Bytes) → Only97 (opIn n i form p)
 unfolding opIn
-op97 n i (sixteen op) p = need97 (eqb (length p) 16) _ tt
+op97 n i (sixteen op) p = need97 (eqb (length p) (limits .class)) _ tt
 op97 n i (nil op) p = need97 (same p []) _ tt
 op97 n i (below op) p = need97 (same p []) _ tt
 op97 n i alternatives p = (refl, refl)
@@ -65,18 +73,18 @@ op97 n i sequence p = (refl, refl)
 record97 : (g : Group) (comps total n : ℕ) (p : Bytes) → Only97 (recordIn g comps total n p)
 unfolding recordIn
 record97 g comps total n p =
-    let i : ℕ = getD p 3 0 in
-    let place : ℕ = num (part p 4 2) in
-    let target : ℕ = num (part p 6 2) in
-    let len : ℕ = num (part p 8 2) in
+    let i : ℕ = getD p componentFrom 0 in
+    let place : ℕ = num (part p placeFrom 2) in
+    let target : ℕ = num (part p targetFrom 2) in
+    let len : ℕ = num (part p argumentFrom 2) in
     let forward : Bool = ltb n target && leb target total in
-    need97 (leb 10 (length p) && same (take 2 p) (0x53 ∷ 0x50 ∷ [])) _
-    (need97 (leb (10 + len) (length p)) _
-    (either97 (eqb (getD p 2 0) 0xff) _ _ (need97 (eqb i 0 && eqb place 0 && eqb len 0 && forward) _ tt)
-    (then97 (found (rowOf (getD p 2 0) commands) BadProgram 0) _ (found97 (rowOf (getD p 2 0) commands)) λ row.
+    need97 (leb recordSize (length p) && same (take 2 p) mark) _
+    (need97 (leb (recordSize + len) (length p)) _
+    (either97 (eqb (getD p codeFrom 0) JUMP) _ _ (need97 (eqb i 0 && eqb place 0 && eqb len 0 && forward) _ tt)
+    (then97 (found (rowOf (getD p codeFrom 0) commands) BadProgram 0) _ (found97 (rowOf (getD p codeFrom 0) commands)) λ row.
     need97 (groupAllows g (row .allowed)) _
     (need97 (ltb i comps) _
-    (then97 (opIn comps i (row .form) (part p 10 len)) _ (op97 comps i (row .form) (part p 10 len)) λ op.
+    (then97 (opIn comps i (row .form) (part p recordSize len)) _ (op97 comps i (row .form) (part p recordSize len)) λ op.
     need97 (eqb target NONE || eqb (targetOf op target) target && forward) _ tt)))))
 
 records97 : (g : Group) (comps total k n : ℕ) (p : Bytes) → Only97 (recordsIn g comps total k n p)
@@ -90,18 +98,55 @@ ids97 : (k : ℕ) (p : Bytes) → Only97 (idsIn k p)
 unfolding idsIn
 ids97 zero p = tt
 ids97 (suc k) p =
-    need97 (leb 4 (length p) && marked 0xfd p && leb 1 (getD p 3 0) && leb (getD p 3 0) (limits .identifier) && leb (4 + getD p 3 0) (length p)) _
-    (then97 (idsIn k (drop (getD p 3 0) (drop 4 p))) _ (ids97 k (drop (getD p 3 0) (drop 4 p))) λ a. tt)
+    need97 (leb nameSize (length p) && marked NAME p && leb 1 (getD p lengthFrom 0) && leb (getD p lengthFrom 0) (limits .identifier) && leb (nameSize + getD p lengthFrom 0) (length p)) _
+    (then97 (idsIn k (drop (getD p lengthFrom 0) (drop nameSize p))) _ (ids97 k (drop (getD p lengthFrom 0) (drop nameSize p))) λ a. tt)
 
 pub program97 : (p : Bytes) → Only97 (programIn p)
 unfolding programIn
 program97 p =
-    let comps : ℕ = getD p 8 0 in
-    let total : ℕ = num (part p 9 2) in
-    need97 (leb (length p) (limits .program) && leb 11 (length p) && marked 0xfe p) _
-    (then97 (found (groupIn (getD p 3 0)) BadProgram 0) _ (found97 (groupIn (getD p 3 0))) λ g.
+    let comps : ℕ = getD p componentsFrom 0 in
+    let total : ℕ = num (part p recordsFrom 2) in
+    need97 (leb (length p) (limits .program) && leb startSize (length p) && marked START p) _
+    (then97 (found (groupIn (getD p groupFrom 0)) BadProgram 0) _ (found97 (groupIn (getD p groupFrom 0))) λ g.
     need97 (leb 1 comps && leb comps (limits .components) && leb total (limits .records)) _
-    (then97 (idsIn comps (drop 11 p)) _ (ids97 comps (drop 11 p)) λ a.
+    (then97 (idsIn comps (drop startSize p)) _ (ids97 comps (drop startSize p)) λ a.
     need97 (not (repeats (a .0))) _
     (then97 (recordsIn g comps total total 0 (a .1)) _ (records97 g comps total total 0 (a .1)) λ b.
     need97 (leb (nonJumps (b .0)) (limits .commands)) _ (need97 (same (b .1) []) _ tt))))
+
+-- a run's own tests have numbers below 97
+abbrev Below97 : {A : Type 0} → Got A → Type 0
+Below97 (refused r p) = refusalNumber r < refusalNumber BadProgram
+Below97 (got a) = Unit {0}
+
+then-below : {A B : Type 0} (x : Got A) (f : A → Got B) → Below97 x → ((a : A) → Below97 (f a)) → Below97 (x >>= f)
+then-below (refused r p) f h k = h
+then-below (got a) f h k = k a
+
+need-below : (b : Bool) (r : Refusal) → refusalNumber r < refusalNumber BadProgram → Below97 (Got.need b r 0)
+need-below true r h = tt
+need-below false r h = h
+
+admit-below : (g : Group) (n : ℕ) (ids : List Bytes) (x : Input) → Below97 (admit g n ids x)
+unfolding admit
+admit-below g n ids x =
+    then-below (Got.need (x .verdict) NotVerified 0) _ (need-below (x .verdict) NotVerified (omega arith)) λ _.
+    then-below (Got.need (mayStart g (x .device)) EventOpen 0) _ (need-below (mayStart g (x .device)) EventOpen (omega arith)) λ _.
+    then-below (Got.need (numberFits g n (x .device)) WrongNumber 0) _ (need-below (numberFits g n (x .device)) WrongNumber (omega arith)) λ _.
+    then-below (Got.need (goodSlots (x .slots)) BadSlots 0) _ (need-below (goodSlots (x .slots)) BadSlots (omega arith)) λ _.
+    then-below (Got.need (allIn ids (slotNames (x .slots))) NoSlot 0) _ (need-below (allIn ids (slotNames (x .slots))) NoSlot (omega arith)) λ _.
+    then-below (Got.need (eqb (length (x .answers) % answerBytes) 0) BadAnswers 0) _
+    (need-below (eqb (length (x .answers) % answerBytes) 0) BadAnswers (omega arith)) λ _.
+    need-below (leb (limits .trace) (length (x .trace))) ShortTrace (omega arith)
+
+run-below : (g : Group) (n : ℕ) (ids : List Bytes) (body : Env → State → Out) (x : Input) → Below97 (runOf g n ids body x)
+unfolding runOf
+run-below g n ids body x = then-below (admit g n ids x) _ (admit-below g n ids x) λ _. tt
+
+-- the run of a program that is well formed is never refused with 97
+pub never97 : (b : Bytes) (p : Program) (x : Input) (k : ℕ) → programIn b ≡ got p → runProgram b x ≡ refused BadProgram k → ⊥
+unfolding runProgram
+never97 b p x k e q =
+    let r : runOf (p .group) (p .number) (p .ids) (λ env st. exec env (p .records) 0 0 st) x ≡ refused BadProgram k = rw e at q in
+    let h : Below97 {A = Ran} (refused BadProgram k) = rw r at (run-below (p .group) (p .number) (p .ids) (λ env st. exec env (p .records) 0 0 st) x) in
+    absurd (omega (arith, h))

@@ -18,7 +18,7 @@ use Rattle.rules.specs.Bytes.{Bytes, num, be2, be4, flat, repeats}
 use Rattle.rules.specs.Got.{got}
 use Rattle.rules.specs.Commands.{Op, vendor, class, imageMatch, setIndex, abort, setParams, overrideParams, fetch, copy, run, swap, Params, component}
 use Rattle.rules.specs.Program.{Rec, does, jump, Program, targetOf, argBytes, paramBytes, recBytes, idBytes, programBytes, entry}
-use Rattle.rules.specs.ProgramFormat.{NONE}
+use Rattle.rules.specs.ProgramFormat.{NONE, recordSize, startSize, nameSize, sourceBytes, sizeBytes}
 use Rattle.rules.specs.ProgramTest.{optional, paramsIn, opIn, recordIn, recordsIn, groupAllows, isBelow, idsIn, groupIn, programIn, nonJumps}
 use Rattle.rules_theorems.proofs.OpLaws.{Fit, GoodOp, rowFor, row-law}
 
@@ -40,7 +40,7 @@ module _ (g : Group) (comps total n : ℕ) (rest : Bytes) where
   jump-law : (t : ℕ) → n < t → t ≤ total → t < 65536 → recordIn g comps total n (recBytes (jump t) ++ rest) ≡ got (jump t, rest)
   unfolding recordIn recBytes
   jump-law t h l s =
-      let a : 10 ≤ length (recBytes (jump t) ++ rest) = omega arith in
+      let a : recordSize ≤ length (recBytes (jump t) ++ rest) = omega arith in
       rw (le-leb _ _ a, num-be2 t s, lt-ltb n t h, le-leb t total l)
 
   does-law : (op : Op) (i p t : ℕ) → i < comps → p < 65536 → t < 65536 → length (argBytes op) < 65536 → groupAllows g (rowFor op .allowed) ≡ true →
@@ -49,8 +49,8 @@ module _ (g : Group) (comps total n : ℕ) (rest : Bytes) where
   unfolding recordIn recBytes
   does-law op i p t hi hp ht hl ha htarget hop =
       let j : length (argBytes op ++ rest) ≡ length (argBytes op) + length rest = length-append (argBytes op) rest in
-      let a : 10 ≤ length (recBytes (does op i p t) ++ rest) = omega arith in
-      let b : 10 + length (argBytes op) ≤ length (recBytes (does op i p t) ++ rest) = omega arith in
+      let a : recordSize ≤ length (recBytes (does op i p t) ++ rest) = omega arith in
+      let b : recordSize + length (argBytes op) ≤ length (recBytes (does op i p t) ++ rest) = omega arith in
       rw (le-leb _ _ a, num-be2 (length (argBytes op)) hl, le-leb _ _ b, row-law op .1, row-law op .0, ha, lt-ltb i comps hi, num-be2 (length (argBytes op)) hl, take-append-seam (argBytes op) rest, hop, num-be2 t ht, htarget, num-be2 p hp, drop-append-seam (argBytes op) rest)
 
 -- nothing with a key up to k stands first
@@ -93,19 +93,19 @@ params-law n p f =
       optional-law 6 1 (limits .uri) (λ b. b) (λ b. b) (p .uri) p₁
           (later 6 10 (λ k. k ∷ []) (p .source) p₂ (omega arith) (later 6 11 (λ b. b) (p .digest) p₃ (omega arith) (later 6 12 be4 (p .size) [] (omega arith) tt)))
           (λ b e. (f .uri b e .0, f .uri b e .1, refl)),
-      optional-law 10 1 1 (λ k. k ∷ []) num (p .source) p₂
+      optional-law 10 sourceBytes sourceBytes (λ k. k ∷ []) num (p .source) p₂
           (later 10 11 (λ b. b) (p .digest) p₃ (omega arith) (later 10 12 be4 (p .size) [] (omega arith) tt))
           (λ k e. (omega arith, omega arith, omega arith)),
-      optional-law 11 32 32 (λ b. b) (λ b. b) (p .digest) p₃ (later 11 12 be4 (p .size) [] (omega arith) tt)
+      optional-law 11 (limits .digest) (limits .digest) (λ b. b) (λ b. b) (p .digest) p₃ (later 11 12 be4 (p .size) [] (omega arith) tt)
           (λ b e. (omega (arith, f .digest b e), omega (arith, f .digest b e), refl)),
-      optional-law 12 4 4 be4 num (p .size) [] tt (λ k e. (omega arith, omega arith, num-be4 k (omega (arith, f .size k e)))),
+      optional-law 12 sizeBytes sizeBytes be4 num (p .size) [] tt (λ k e. (omega arith, omega arith, num-be4 k (omega (arith, f .size k e)))),
       below-law (p .source) n (f .source),
     )
 
 op-law : (n j : ℕ) (op : Op) → GoodOp n op → opIn n (component op j) (rowFor op .form) (argBytes op) ≡ got op
 unfolding opIn
-op-law n j (vendor b) h = rw (eq-eqb (length b) 16 h)
-op-law n j (class b) h = rw (eq-eqb (length b) 16 h)
+op-law n j (vendor b) h = rw (eq-eqb (length b) (limits .class) h)
+op-law n j (class b) h = rw (eq-eqb (length b) (limits .class) h)
 op-law n j imageMatch h = refl
 op-law n j (setIndex k) h = refl
 op-law n j abort h = refl
@@ -162,11 +162,11 @@ ids-law [] rest h = refl
 ids-law (x ∷ xs) rest h =
     let q : Bytes = flat (map idBytes xs) ++ rest in
     let j : length (x ++ q) ≡ length x + length q = length-append x q in
-    let a : 4 ≤ length (idBytes x ++ q) = omega arith in
-    let b : 4 + length x ≤ length (idBytes x ++ q) = omega arith in
+    let a : nameSize ≤ length (idBytes x ++ q) = omega arith in
+    let b : nameSize + length x ≤ length (idBytes x ++ q) = omega arith in
     rw (
       append-assoc x (flat (map idBytes xs)) rest,
-      le-leb 4 _ a,
+      le-leb nameSize _ a,
       le-leb 1 (length x) (h .0),
       le-leb (length x) (limits .identifier) (h .1),
       le-leb _ _ b,
@@ -193,7 +193,7 @@ pub program-law : (p : Program) → GoodProgram p → programIn (programBytes p)
 unfolding programIn programBytes
 program-law p h =
     let q : Bytes = flat (map recBytes (p .records)) in
-    let a : 11 ≤ length (programBytes p) = omega arith in
+    let a : startSize ≤ length (programBytes p) = omega arith in
     let r : recordsIn (p .group) (length (p .ids)) (length (p .records)) (length (p .records)) 0 q ≡ got (p .records, []) =
     rw append-nil at (records-law (p .group) (length (p .ids)) (length (p .records)) 0 [] (p .records) (h .records)) in
     rw (

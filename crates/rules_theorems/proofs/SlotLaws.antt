@@ -11,7 +11,8 @@ use borrow.Author.Tests.{ltb-true, ltb-false}
 use lib.ListN.{length, getD, set, take, drop}
 use lib.Seq.{take-set-le, drop-set-lt, drop-set-add, length-sets, getD-drop, getD-take, take-take, drop-drop}
 use Rattle.rules.specs.Bytes.{Bytes, part, put}
-use Rattle.rules.specs.Slots.{slotBytes, answerBytes, imageFrom, slotAt, putImage, slotsIn, slotNames, numbers, slotOf}
+use Rattle.rules.specs.Slots.{slotBytes, answerBytes, imageFrom, slotAt, putImage, slotsIn, slotNames, numbers, slotOf, idFrom}
+use Rattle.rules.specs.Limits.{limits}
 
 take-put : (n : ℕ) (s : Bytes) (i : ℕ) (x : Bytes) → n ≤ i → take n (put s i x) ≡ take n s
 take-put n s i [] h = refl
@@ -36,19 +37,19 @@ part-after s i x at n h = ap (take n) (drop-put-past at s i x h)
 
 -- an identifier lies before the image
 abbrev named : Bytes → Bytes
-named p = take (getD p 0 0) (part p 1 32)
+named p = take (getD p 0 0) (part p idFrom (limits .identifier))
 
-part-of : (l : Bytes) → part (take imageFrom l) 1 32 ≡ part l 1 32
+part-of : (l : Bytes) → part (take imageFrom l) idFrom (limits .identifier) ≡ part l idFrom (limits .identifier)
 part-of [] = refl
-part-of (x ∷ l) = take-take 32 36 l (omega arith)
+part-of (x ∷ l) = take-take (limits .identifier) (imageFrom - idFrom) l (omega arith)
 
 id-is : (b : Bytes) (c : ℕ) → slotAt b c .id ≡ named (part b (slotBytes * c) imageFrom)
 unfolding slotAt
 id-is b c =
     let first : getD (part b (slotBytes * c) imageFrom) 0 0 ≡ getD b (slotBytes * c) 0 =
     getD-take imageFrom (drop (slotBytes * c) b) 0 0 (omega arith) ∙ rw add-zero at (getD-drop (slotBytes * c) b 0 0) in
-    let rest : part (part b (slotBytes * c) imageFrom) 1 32 ≡ part b (slotBytes * c + 1) 32 =
-    part-of (drop (slotBytes * c) b) ∙ ap (take 32) (drop-drop 1 (slotBytes * c) b) in
+    let rest : part (part b (slotBytes * c) imageFrom) idFrom (limits .identifier) ≡ part b (slotBytes * c + idFrom) (limits .identifier) =
+    part-of (drop (slotBytes * c) b) ∙ ap (take (limits .identifier)) (drop-drop idFrom (slotBytes * c) b) in
     rw (first, rest)
 
 -- slots that differ in their images alone have the same identifiers

@@ -18,7 +18,7 @@ use Rattle.rules.specs.ProgramSize.{argSize, argSizeCmd, argSizeAlts}
 use Rattle.rules.proofs.BytesLaws.{length-part}
 use Rattle.rules.proofs.GotLaws.{passed, both, split, split₂, found-is}
 use Rattle.rules.proofs.CheckLaws.{Item, item-law, number-law, inBytes-law, bytes-after}
-use Rattle.rules_theorems.proofs.OpLaws.{GoodOp, rowFor, fit-unset, RowOk, row-ok}
+use Rattle.rules_theorems.proofs.OpLaws.{argumentGrowth, GoodOp, rowFor, fit-unset, RowOk, row-ok}
 use Rattle.rules_theorems.proofs.ParamLaws.{Entries, entries-law}
 
 abbrev pub jumps : Alts → ℕ
@@ -45,7 +45,7 @@ pub record Tree (m e at q c w : ℕ) (G : Type 0) : Type 0 where
   pub up : at ≤ q
   pub fits : q ≤ e
   pub few : m ≤ (limits .commands) → m + c ≤ (limits .commands)
-  pub light : w + at ≤ q + 25 * c
+  pub light : w + at ≤ q + argumentGrowth * c
   pub good : G
 
 module _ (s : Bytes) (n sec : ℕ) (small : length s < 65536) where
@@ -86,10 +86,10 @@ module _ (s : Bytes) (n sec : ℕ) (small : length s < 65536) where
         at ≤ e → e ≤ length s → argument s deeper n (m + 1) place form e at ≡ got (c, q) → Tree m e at q (countCmd c) (argSizeCmd c) (GoodCmd c n sec)
     unfolding argument count argSize GoodSeq
     arg-tree m place (sixteen op) allowed e at c q ok al room pl u l q₀ =
-        split _ (item BYTES 16 16 s e at) _ (c, q) q₀ λ h qh q₁.
-        let i : Item s BYTES 16 16 e at h = item-law s BYTES 16 16 e at h qh in
+        split _ (item BYTES (limits .class) (limits .class) s e at) _ (c, q) q₀ λ h qh q₁.
+        let i : Item s BYTES (limits .class) (limits .class) e at h = item-law s BYTES (limits .class) (limits .class) e at h qh in
         let a : after h ≡ h .next + h .num = bytes-after h (i .is) in
-        let o = ok n (part s (h .next) 16) (length-part s (h .next) 16 (omega arith)) in
+        let o = ok n (part s (h .next) (limits .class)) (length-part s (h .next) (limits .class) (omega arith)) in
         let (ea, eq) = both q₁ in
         rw (← ea)
         (record {
