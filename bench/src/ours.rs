@@ -8,7 +8,7 @@ use crate::reading::{self, Group};
 #[derive(Clone, Copy)]
 struct Device {
     vendor: [u8; 16],
-    class: [u8; 16],
+    class_id: [u8; 16],
     number: u32,
     event: bool,
 }
@@ -17,7 +17,7 @@ impl From<&reading::Device> for Device {
     fn from(device: &reading::Device) -> Self {
         Device {
             vendor: device.vendor,
-            class: device.class,
+            class_id: device.class,
             number: device.number,
             event: device.event_open,
         }

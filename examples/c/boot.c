@@ -32,14 +32,14 @@ static void fill_slot(void) {
 }
 
 int main(void) {
-    struct pitvorgas_checked checked = pitvorgas_check(E, sizeof E);
+    struct pitvorgas_check_answer checked = pitvorgas_check(E, sizeof E);
     if (checked.refusal != 0) {
         printf("refused with %zu at %zu\n", checked.refusal, checked.place);
         return 1;
     }
     printf("number %zu, %zu component\n", checked.number, checked.components);
 
-    struct pitvorgas_translated translated = pitvorgas_translate(E, sizeof E, true, room, sizeof room);
+    struct pitvorgas_translate_answer translated = pitvorgas_translate(E, sizeof E, true, room, sizeof room);
     if (translated.refusal != 0) {
         printf("not translated: %zu\n", translated.refusal);
         return 1;
@@ -48,7 +48,8 @@ int main(void) {
 
     fill_slot();
     struct pitvorgas_device device = {.number = 1};
-    struct pitvorgas_ran ran = pitvorgas_run_program(room, translated.length, true, device, slots, sizeof slots, E, 0, trace, sizeof trace);
+    struct pitvorgas_run_answer ran =
+        pitvorgas_run_program(room, translated.length, true, device, slots, sizeof slots, E, 0, trace, sizeof trace);
     if (ran.refusal != 0) {
         printf("refused with %zu at %zu\n", ran.refusal, ran.place);
         return 1;

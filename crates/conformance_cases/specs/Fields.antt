@@ -32,4 +32,4 @@ pub record StringAt (b : Bytes) (r : ℕ) : Type 0 where
 -- the device in the head of a run
 unfoldable pub deviceOf : Bytes → Device
 deviceOf head =
-    record { vendor = part head 2 16; class = part head 18 16; number = fourAt head 34; event = isSet head 38 }
+    record { vendor = part head 2 16; «class_id» = part head 18 16; number = fourAt head 34; event = isSet head 38 }

@@ -45,7 +45,7 @@ pub fn device_of(head: &[u8]) -> Device
     let class = sixteen(head, 18);
     Device {
         vendor,
-        class,
+        class_id: class,
         number: four(head, 34) as u32,
         event: head[38] != 0,
     }

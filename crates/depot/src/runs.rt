@@ -34,7 +34,7 @@ fn device_of(d: Scenario) -> Device {
     let class = d.class;
     Device {
         vendor,
-        class,
+        class_id: class,
         number: d.number,
         event: d.event,
     }

@@ -1,4 +1,5 @@
--- The answers of the jobs as C has them.
+-- The answers of the jobs as C has them. The numbers of refusals and ends are those that the rules' definitions `refusalNumber` and
+-- `endNumber` give each case (01: 'a definition gives this paper's number .. The promises use that definition').
 use Prim.Native.Nat.{ℕ}
 use mathlib.Core.Bool.{Bool, true, false}
 use mathlib.Core.List.{_++_}
@@ -6,6 +7,7 @@ use lib.ListN.{length, drop, replicate}
 use Rattle.rules.specs.declared.answers.Group.{Group}
 use Rattle.rules.specs.declared.answers.Group.the-variants.{Install, Boot}
 use Rattle.rules.specs.declared.controller.Controller.{Controller}
+use Rattle.rules.specs.Limits.{places, sectionPlaces}
 use Rattle.rules.specs.Answers.{refusalNumber, endNumber}
 use Rattle.rules.specs.Bytes.{Bytes}
 use Rattle.rules.specs.Got.{Got, refused, got}
@@ -24,7 +26,7 @@ use Rattle.pitvorgas.specs.declared.TranslateAnswer.{TranslateAnswer}
 use Rattle.pitvorgas.specs.declared.RunAnswer.{RunAnswer}
 
 abbrev pub controllerOf : Device → Controller
-controllerOf d = record { vendor = d .vendor; class = d .class; number = d .number; event = d .event }
+controllerOf d = record { vendor = d .vendor; class = d .«class_id»; number = d .number; event = d .event }
 
 abbrev pub groupOf : Bool → Group
 groupOf true = Boot
@@ -32,15 +34,15 @@ groupOf false = Install
 
 abbrev pub checkedOf : Got Manifest → CheckAnswer
 checkedOf (refused k p) =
-    record { refusal = refusalNumber k; place = p; number = 0; components = 0; ids = replicate 16 0; sections = replicate 12 0; from = 0; to = 0 }
+    record { refusal = refusalNumber k; place = p; number = 0; components = 0; ids = replicate places 0; sections = replicate sectionPlaces 0; from = 0; to = 0 }
 checkedOf (got m) =
     record {
       refusal = 0;
       place = 0;
       number = m .number;
       components = length (m .ids);
-      ids = laid (m .ids) (replicate 16 0);
-      sections = placed (m .sections) (replicate 12 0);
+      ids = laid (m .ids) (replicate places 0);
+      sections = placed (m .sections) (replicate sectionPlaces 0);
       from = m .part .from;
       to = m .part .to;
     }

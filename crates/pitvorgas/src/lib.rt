@@ -1,4 +1,6 @@
-// The five jobs for C: numbers, slices, and structs by value. include/pitvorgas.h declares them.
+// The five jobs for C: numbers, slices, and structs by value. include/pitvorgas.h declares them by the same names, with `pitvorgas_` before
+// them: `CheckAnswer` is `struct pitvorgas_check_answer`. The promises give refusals and ends by their numbers in document 01
+// (rules/specs/Answers.antt: refusalNumber, endNumber).
 ghost use mathlib.Core.Path.{_≡_};
 ghost use lib.ListN.{length};
 ghost use Rattle.rules.specs.Check as Check;
@@ -27,7 +29,7 @@ use translate::translate;
 #[repr(C)]
 pub struct Device {
     pub vendor: Sixteen,
-    pub class: Sixteen,
+    pub class_id: Sixteen,
     // the sequence number of the manifest that was installed last
     pub number: u32,
     // an event is open
@@ -79,7 +81,7 @@ fn controller_of(d: Device) -> Controller
     ensures { λ r. ⌜ r ≡ controllerOf d ⌝ }
 {
     let vendor = d.vendor;
-    let class = d.class;
+    let class = d.class_id;
     Controller {
         vendor,
         class,
