@@ -4,6 +4,8 @@ use mathlib.Core.Bool.{cond}
 use mathlib.Core.List.{_++_}
 use lib.Dec.{eqb}
 use lib.ListN.{length, getD}
+use Rattle.rules.specs.Limits.{limits}
+use Rattle.rules.specs.Slots.{slotBytes, idFrom, imageFrom, digestFrom, slotAt}
 use Rattle.text.specs.Text.{Bytes, ascii, hex, least}
 use Rattle.text_names.specs.Words.{endWords}
 use Rattle.text.specs.Pieces.{part, labelled, counted, lines}
@@ -20,27 +22,24 @@ countsText events used = counted (ascii ", ") events (ascii " event") ++ counted
 unfoldable pub ranText : RunAnswer → Bytes
 ranText a = endText (a .end) (a .place) ++ countsText (a .events) (a .used) ++ labelled (ascii " used, number ") (a .number) ++ ascii "\n"
 
--- four bytes, big-endian
-abbrev pub fourAt : Bytes → ℕ → ℕ
-fourAt s p = ((getD s p 0 * 256 + getD s (p + 1) 0) * 256 + getD s (p + 2) 0) * 256 + getD s (p + 3) 0
-
--- the slot at p, 74 bytes: 0 the identifier's length, 1 the identifier, 33 the capacity, 37 present, 38 the size, 42 the digest
+-- the identifier of the slot at p
 unfoldable pub nameText : Bytes → ℕ → Bytes
-nameText s p = ascii "  " ++ hex (part s (p + 1) (p + 1 + least (getD s p 0) 32))
+nameText s p = ascii "  " ++ hex (part s (p + idFrom) (p + idFrom + least (getD s p 0) (limits .identifier)))
 
 abbrev pub presentText : ℕ → Bytes
 presentText present = cond (eqb present 0) (ascii "  absent ") (ascii "  present")
 
+-- the image in the slot of number k
 unfoldable pub imageText : Bytes → ℕ → Bytes
-imageText s p =
-    presentText (getD s (p + 37) 0) ++ labelled (ascii "  size ") (fourAt s (p + 38)) ++ ascii "  digest "
-    ++ hex (part s (p + 42) (p + 74)) ++ ascii "\n"
+imageText s k =
+    presentText (getD s (slotBytes * k + imageFrom) 0) ++ labelled (ascii "  size ") (slotAt s k .size) ++ ascii "  digest "
+    ++ hex (part s (slotBytes * k + (imageFrom + digestFrom)) (slotBytes * k + slotBytes)) ++ ascii "\n"
 
 unfoldable pub slotText : Bytes → ℕ → Bytes
-slotText s k = labelled (ascii "slot ") k ++ nameText s (74 * k) ++ labelled (ascii "  capacity ") (fourAt s (74 * k + 33)) ++ imageText s (74 * k)
+slotText s k = labelled (ascii "slot ") k ++ nameText s (slotBytes * k) ++ labelled (ascii "  capacity ") (slotAt s k .capacity) ++ imageText s k
 
 unfoldable pub slotsText : Bytes → Bytes
-slotsText s = lines (slotText s) (length s / 74)
+slotsText s = lines (slotText s) (length s / slotBytes)
 
 -- a refusal, with the bytes that were run; or the events, the end and the slots
 unfoldable pub runText : RunAnswer → Bytes → Bytes → Bytes → Bytes

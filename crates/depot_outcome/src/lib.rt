@@ -1,22 +1,28 @@
 // What a run did, as text in lent room.
-ghost use mathlib.Core.Path.{_≡_};
-ghost use Prim.Native.Nat.{_+_, _*_, _≤_};
+ghost use Prim.Native.Nat.{_+_, _≤_};
 ghost use lib.ListN.{length};
-ghost use Rattle.text.specs.Text.{Wrote, least};
+ghost use Rattle.rules.specs.Slots.{slotBytes};
+ghost use Rattle.run_slots.specs.Slot.{Holds};
+ghost use Rattle.text.specs.Text.{Wrote};
 ghost use Rattle.depot_outcome.specs.Outcome.{endText, countsText, ranText, nameText, presentText, imageText, slotText, slotsText, runText};
-use byte_buffer::four;
 use byte_buffer::wide;
 use depot_events::put_events;
 use depot_refusals::put_refused;
 use pitvorgas::RunAnswer;
+use rules::controller::Controller;
+use rules::slot_format::IDENTIFIER;
+use rules::slot_format::IMAGE;
+use rules::slot_format::SLOT_BYTES;
+use rules::slot_format::SLOT_DIGEST;
+use run_slots::slot::capacity;
+use run_slots::slot::size;
+use text::least;
 use text::pieces::put_counted;
 use text::pieces::put_labelled;
 use text::pieces::put_part;
 use text::put;
 use text::put_byte;
 use text::put_spaces;
-
-const SLOT: usize = 74;
 
 fn put_end(room: &mut [u8], at: usize, end: usize, place: usize) -> usize
     ensures { λ r. ⌜ Wrote (endText end place) at (now (room .entry)) r (now (room .exit)) ⌝ }
@@ -44,23 +50,13 @@ pub fn put_ran(room: &mut [u8], at: usize, answer: RunAnswer) -> usize
     put_byte(room, c, b'\n')
 }
 
-// At most 32.
-fn capped(n: usize) -> usize
-    ensures { λ r. ⌜ r ≡ least n 32 ⌝ }
-{
-    if n < 32 {
-        return n;
-    }
-    32
-}
-
 fn put_name(room: &mut [u8], at: usize, slots: &[u8], p: usize) -> usize
-    requires { ⌜ p + 74 ≤ length (now slots) ⌝ }
+    requires { ⌜ p + slotBytes ≤ length (now slots) ⌝ }
     ensures { λ r. ⌜ Wrote (nameText (now (slots .entry)) p) at (now (room .entry)) r (now (room .exit)) ⌝ }
 {
-    let n = capped(wide(slots[p]));
+    let n = least(wide(slots[p]), Controller::IDENTIFIER_BYTES);
     let a = put_spaces(room, at, 2);
-    put_part(room, a, slots, p + 1, p + 1 + n)
+    put_part(room, a, slots, p + IDENTIFIER, p + IDENTIFIER + n)
 }
 
 fn put_present(room: &mut [u8], at: usize, present: u8) -> usize
@@ -72,33 +68,33 @@ fn put_present(room: &mut [u8], at: usize, present: u8) -> usize
     put(room, at, b"  present")
 }
 
-fn put_image(room: &mut [u8], at: usize, slots: &[u8], p: usize) -> usize
-    requires { ⌜ p + 74 ≤ length (now slots) ⌝ }
-    ensures { λ r. ⌜ Wrote (imageText (now (slots .entry)) p) at (now (room .entry)) r (now (room .exit)) ⌝ }
+fn put_image(room: &mut [u8], at: usize, slots: &[u8], k: usize) -> usize
+    requires { ⌜ Holds (now slots) k ⌝ }
+    ensures { λ r. ⌜ Wrote (imageText (now (slots .entry)) k) at (now (room .entry)) r (now (room .exit)) ⌝ }
 {
-    let a = put_present(room, at, slots[p + 37]);
-    let b = put_labelled(room, a, b"  size ", four(slots, p + 38));
+    let p = SLOT_BYTES * k;
+    let a = put_present(room, at, slots[p + IMAGE]);
+    let b = put_labelled(room, a, b"  size ", size(slots, k));
     let c = put(room, b, b"  digest ");
-    let d = put_part(room, c, slots, p + 42, p + 74);
+    let d = put_part(room, c, slots, p + SLOT_DIGEST, p + SLOT_BYTES);
     put_byte(room, d, b'\n')
 }
 
 fn put_slot(room: &mut [u8], at: usize, slots: &[u8], k: usize) -> usize
-    requires { ⌜ 74 * k + 74 ≤ length (now slots) ⌝ }
+    requires { ⌜ Holds (now slots) k ⌝ }
     ensures { λ r. ⌜ Wrote (slotText (now (slots .entry)) k) at (now (room .entry)) r (now (room .exit)) ⌝ }
 {
-    let p = SLOT * k;
     let a = put_labelled(room, at, b"slot ", k);
-    let b = put_name(room, a, slots, p);
-    let c = put_labelled(room, b, b"  capacity ", four(slots, p + 33));
-    put_image(room, c, slots, p)
+    let b = put_name(room, a, slots, SLOT_BYTES * k);
+    let c = put_labelled(room, b, b"  capacity ", capacity(slots, k));
+    put_image(room, c, slots, k)
 }
 
 // The slots, as many as are whole.
 pub fn put_slots(room: &mut [u8], at: usize, slots: &[u8]) -> usize
     ensures { λ r. ⌜ Wrote (slotsText (now (slots .entry))) at (now (room .entry)) r (now (room .exit)) ⌝ }
 {
-    let n = slots.len() / SLOT;
+    let n = slots.len() / SLOT_BYTES;
     let mut to = at;
     let mut k = 0;
     while k < n {

@@ -4,8 +4,9 @@ use mathlib.Core.Bool.{cond}
 use mathlib.Core.List.{List, [], _++_}
 use lib.Dec.{eqb}
 use lib.ListN.{getD}
+use Rattle.rules.specs.Limits.{limits, sectionCount}
 use Rattle.text.specs.Text.{Bytes, ascii, hex, least}
-use Rattle.text_names.specs.Words.{sectionWords}
+use Rattle.text_names.specs.Words.{sectionKey, sectionWords}
 use Rattle.text.specs.Pieces.{part, labelled, lines}
 use Rattle.depot_refusals.specs.Refusals.{refusedText}
 use Rattle.pitvorgas.specs.declared.CheckAnswer.{CheckAnswer}
@@ -16,11 +17,7 @@ unfoldable pub componentText : Bytes → List ℕ → ℕ → Bytes
 componentText s ids k = labelled (ascii "component ") k ++ ascii "  " ++ hex (part s (getD ids (2 * k) 0) (getD ids (2 * k + 1) 0)) ++ ascii "\n"
 
 unfoldable pub componentsText : Bytes → List ℕ → ℕ → Bytes
-componentsText s ids n = lines (componentText s ids) (least n 8)
-
--- common, and the sections 8 to 12
-abbrev pub sectionKey : ℕ → ℕ
-sectionKey j = cond (eqb j 0) 3 (j + 7)
+componentsText s ids n = lines (componentText s ids) (least n (limits .components))
 
 unfoldable pub spanText : ℕ → ℕ → Bytes
 spanText from to = labelled (ascii " at ") from ++ labelled (ascii " to ") to ++ ascii "\n"
@@ -32,7 +29,7 @@ sectionText t j =
     (ascii "section " ++ sectionWords (sectionKey j) ++ spanText (getD t (2 * j) 0) (getD t (2 * j + 1) 0))
 
 unfoldable pub sectionsText : List ℕ → Bytes
-sectionsText t = lines (sectionText t) 6
+sectionsText t = lines (sectionText t) sectionCount
 
 unfoldable pub manifestText : ℕ → ℕ → Bytes
 manifestText from to = ascii "manifest" ++ spanText from to

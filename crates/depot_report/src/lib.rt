@@ -1,20 +1,26 @@
 // The answers of check, newer and translate, as text in lent room.
-ghost use mathlib.Core.Path.{_≡_};
 ghost use Prim.Native.Nat.{_<_};
-ghost use Rattle.text.specs.Text.{Wrote, least};
-ghost use Rattle.depot_report.specs.Report.{componentText, componentsText, sectionKey, sectionText, sectionsText, spanText, manifestText, headText, acceptedText, checkedText, whichText, newerText, translatedText};
+ghost use Rattle.rules.specs.Limits.{limits, sectionCount};
+ghost use Rattle.text.specs.Text.{Wrote};
+ghost use Rattle.depot_report.specs.Report.{componentText, componentsText, sectionText, sectionsText, spanText, manifestText, headText, acceptedText, checkedText, whichText, newerText, translatedText};
 use depot_refusals::put_refused;
 use pitvorgas::CheckAnswer;
 use pitvorgas::NewerAnswer;
+use rules::controller::Controller;
+use rules::controller::Places;
+use rules::controller::SECTIONS;
+use rules::controller::SectionPlaces;
+use text::least;
 use text::pieces::put_labelled;
 use text::pieces::put_part;
 use text::put;
 use text::put_byte;
 use text::put_spaces;
 use text_names::put_section;
+use text_names::section_key;
 
-fn put_component(room: &mut [u8], at: usize, s: &[u8], ids: &[usize; 16], k: usize) -> usize
-    requires { ⌜ k < 8 ⌝ }
+fn put_component(room: &mut [u8], at: usize, s: &[u8], ids: &Places, k: usize) -> usize
+    requires { ⌜ k < limits .components ⌝ }
     ensures { λ r. ⌜ Wrote (componentText (now (s .entry)) (now (ids .entry)) k) at (now (room .entry)) r (now (room .exit)) ⌝ }
 {
     let a = put_labelled(room, at, b"component ", k);
@@ -23,19 +29,10 @@ fn put_component(room: &mut [u8], at: usize, s: &[u8], ids: &[usize; 16], k: usi
     put_byte(room, c, b'\n')
 }
 
-fn capped(n: usize) -> usize
-    ensures { λ r. ⌜ r ≡ least n 8 ⌝ }
-{
-    if n < 8 {
-        return n;
-    }
-    8
-}
-
-fn put_components(room: &mut [u8], at: usize, s: &[u8], ids: &[usize; 16], n: usize) -> usize
+fn put_components(room: &mut [u8], at: usize, s: &[u8], ids: &Places, n: usize) -> usize
     ensures { λ r. ⌜ Wrote (componentsText (now (s .entry)) (now (ids .entry)) n) at (now (room .entry)) r (now (room .exit)) ⌝ }
 {
-    let end = capped(n);
+    let end = least(n, Controller::COMPONENTS);
     let mut to = at;
     let mut k = 0;
     while k < end {
@@ -43,16 +40,6 @@ fn put_components(room: &mut [u8], at: usize, s: &[u8], ids: &[usize; 16], n: us
         k += 1;
     }
     to
-}
-
-fn section_key(j: usize) -> usize
-    requires { ⌜ j < 6 ⌝ }
-    ensures { λ r. ⌜ r ≡ sectionKey j ⌝ }
-{
-    if j == 0 {
-        return 3;
-    }
-    j + 7
 }
 
 fn put_span(room: &mut [u8], at: usize, from: usize, to: usize) -> usize
@@ -63,8 +50,8 @@ fn put_span(room: &mut [u8], at: usize, from: usize, to: usize) -> usize
     put_byte(room, b, b'\n')
 }
 
-fn put_one_section(room: &mut [u8], at: usize, sections: &[usize; 12], j: usize) -> usize
-    requires { ⌜ j < 6 ⌝ }
+fn put_one_section(room: &mut [u8], at: usize, sections: &SectionPlaces, j: usize) -> usize
+    requires { ⌜ j < sectionCount ⌝ }
     ensures { λ r. ⌜ Wrote (sectionText (now (sections .entry)) j) at (now (room .entry)) r (now (room .exit)) ⌝ }
 {
     let end = sections[2 * j + 1];
@@ -76,12 +63,12 @@ fn put_one_section(room: &mut [u8], at: usize, sections: &[usize; 12], j: usize)
     put_span(room, b, sections[2 * j], end)
 }
 
-fn put_sections(room: &mut [u8], at: usize, sections: &[usize; 12]) -> usize
+fn put_sections(room: &mut [u8], at: usize, sections: &SectionPlaces) -> usize
     ensures { λ r. ⌜ Wrote (sectionsText (now (sections .entry))) at (now (room .entry)) r (now (room .exit)) ⌝ }
 {
     let mut to = at;
     let mut j = 0;
-    while j < 6 {
+    while j < SECTIONS {
         to = put_one_section(room, to, sections, j);
         j += 1;
     }

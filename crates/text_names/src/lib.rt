@@ -1,11 +1,12 @@
 // The words for codes, keys and numbers of document 01, in lent room. Each table is a list of numbers, and the words in the same order.
 ghost use mathlib.Core.Path.{_≡_};
-ghost use Prim.Native.Nat.{_≤_};
+ghost use Prim.Native.Nat.{_≤_, _<_};
 ghost use lib.ListN.{length, take, drop};
+ghost use Rattle.rules.specs.Limits.{sectionCount};
 ghost use Rattle.text.specs.Text.{Wrote};
 ghost use Rattle.text_names.specs.Rows.{before, after};
 ghost use Rattle.text_names.specs.Rows.{position as Rows·position};
-ghost use Rattle.text_names.specs.Words.{wide, commandWords, parameterWords, sectionWords, refusalWords, endWords, resultWords};
+ghost use Rattle.text_names.specs.Words.{wide, commandWords, parameterWords, sectionKey, sectionWords, refusalWords, endWords, resultWords};
 use rules::answers::End;
 use rules::answers::Failure;
 use rules::answers::Refusal;
@@ -50,6 +51,9 @@ const SECTIONS: [u8; 6] = [
     codes::LOAD as u8,
     codes::RUN_SECTION as u8,
 ];
+
+// The key before that of payload fetch, the first section after common.
+const BEFORE_FETCH: usize = codes::PAYLOAD_FETCH - 1;
 
 const REFUSALS: [u8; 20] = [
     Refusal::ENVELOPE_TOO_LONG as u8,
@@ -193,6 +197,17 @@ pub fn put_parameter(room: &mut [u8], at: usize, key: usize) -> usize
         key,
         0,
     )
+}
+
+// The key of section j, in the order of a manifest's sections.
+pub fn section_key(j: usize) -> usize
+    requires { ⌜ j < sectionCount ⌝ }
+    ensures { λ r. ⌜ r ≡ sectionKey j ⌝ }
+{
+    if j == 0 {
+        return codes::COMMON;
+    }
+    j + BEFORE_FETCH
 }
 
 pub fn put_section(room: &mut [u8], at: usize, key: usize) -> usize

@@ -12,7 +12,7 @@ returns c =
     let p3 = p4 .before .before .before .before in
     let p2 = p3 .before .before .before .before .before in
     let p1 = p2 .before .before .before .before .before .before in
-    rw (← p2 .before .four .ensures .0) (wrote-then (wrote-then (wrote-then (wrote-then (p1 .put-present .ensures) (p2 .put-labelled .ensures)) (p3 .put .ensures)) (p4 .put-part .ensures)) (p5 .put-byte .ensures))
+    rw (← p2 .before .size .ensures) (wrote-then (wrote-then (wrote-then (wrote-then (p1 .put-present .ensures) (p2 .put-labelled .ensures)) (p3 .put .ensures)) (p4 .put-part .ensures)) (p5 .put-byte .ensures))
 
 pub put-image-spec : {M : Type 1} → statement M
 put-image-spec =
@@ -20,8 +20,8 @@ put-image-spec =
     (tie.spec
     (λ c. search needs)
     (λ c. search needs)
-    (λ c κs. search needs)
     (λ c. search needs)
+    (λ c κs. search needs)
     (λ c. search needs)
     (λ c κs. search needs)
     (λ c κs. search needs)

@@ -9,7 +9,7 @@ unfolding nameText
 returns c =
     let p2 = c .before .before in
     let p1 = p2 .before .before .before .before in
-    rw (← p1 .before .before .before .wide .ensures .0, ← p1 .before .before .capped .ensures) (wrote-then (p1 .put-spaces .ensures) (p2 .put-part .ensures))
+    rw (← p1 .before .before .before .wide .ensures .0, ← p1 .before .before .least .ensures) (wrote-then (p1 .put-spaces .ensures) (p2 .put-part .ensures))
 
 pub put-name-spec : {M : Type 1} → statement M
 put-name-spec =

@@ -11,17 +11,16 @@ returns c =
     let p3 = p4 .before .before .before .before in
     let p2 = p3 .before .before .before .before .before .before in
     let p1 = p2 .before .before .before .before in
-    rw (← p3 .before .four .ensures .0) (wrote-then (wrote-then (wrote-then (p1 .put-labelled .ensures) (p2 .put-name .ensures)) (p3 .put-labelled2 .ensures)) (p4 .put-image .ensures))
+    rw (← p3 .before .capacity .ensures) (wrote-then (wrote-then (wrote-then (p1 .put-labelled .ensures) (p2 .put-name .ensures)) (p3 .put-labelled2 .ensures)) (p4 .put-image .ensures))
 
 pub put-slot-spec : {M : Type 1} → statement M
 put-slot-spec =
     tie.close
     (tie.spec
     (λ c. search needs)
-    (λ c. search needs)
-    (λ c κs. search needs)
     (λ c κs. search needs)
     (λ c. search needs)
+    (λ c κs. search needs)
     (λ c. search needs)
     (λ c κs. search needs)
     (λ c κs. search needs)

@@ -19,7 +19,7 @@ loop-holds : tie.Need-loop-holds Inv-loop μ-loop
 loop-holds c = (search needs, lines-none _ _ _)
 
 put-component-requires : tie.Need-put-component-requires Inv-loop μ-loop
-put-component-requires c κs = omega (arith, c .before .before .before .capped .ensures)
+put-component-requires c κs = omega (arith, c .before .before .before .least .ensures)
 
 loop-again : tie.Need-loop-again Inv-loop μ-loop
 loop-again c =
@@ -31,7 +31,7 @@ same-length c = wrote-length (c .before .loop .inv .1)
 
 returns : tie.Need-returns Inv-loop μ-loop
 unfolding componentsText
-returns c = rw (← c .before .before .capped .ensures) (lines-all _ _ _ (search needs) (search needs) (c .before .loop .inv .1))
+returns c = rw (← c .before .before .least .ensures) (lines-all _ _ _ (search needs) (search needs) (c .before .loop .inv .1))
 
 pub put-components-spec : {M : Type 1} → statement M
 put-components-spec =

@@ -1,5 +1,6 @@
 use borrow.Author.Needs.{needs}
 use Prim.Native.Nat.{_-_, _≤_}
+use Rattle.rules.specs.Limits.{sectionCount}
 use Rattle.text.specs.Text.{Wrote}
 use Rattle.text.proofs.TextLaws.{wrote-length}
 use Rattle.text.specs.Pieces.{lines}
@@ -9,10 +10,10 @@ use Rattle.depot_report.proofs.put_sections.Statement.{statement}
 use Rattle.depot_report.proofs.put_sections.Tie as tie
 
 abbrev Inv-loop : tie.InvT-loop
-Inv-loop room₀ at sections to₀ j₀ room to j = (j ≤ 6) × Wrote (lines (sectionText sections) j) at room₀ to room
+Inv-loop room₀ at sections to₀ j₀ room to j = (j ≤ sectionCount) × Wrote (lines (sectionText sections) j) at room₀ to room
 
 abbrev μ-loop : tie.MeasureT-loop
-μ-loop room₀ at sections to₀ j₀ room to j = 6 - j
+μ-loop room₀ at sections to₀ j₀ room to j = sectionCount - j
 
 loop-holds : tie.Need-loop-holds Inv-loop μ-loop
 loop-holds c = (search needs, lines-none _ _ _)
@@ -27,7 +28,7 @@ same-length c = wrote-length (c .before .loop .inv .1)
 
 returns : tie.Need-returns Inv-loop μ-loop
 unfolding sectionsText
-returns c = lines-all _ _ 6 (search needs) (search needs) (c .before .loop .inv .1)
+returns c = lines-all _ _ sectionCount (search needs) (search needs) (c .before .loop .inv .1)
 
 pub put-sections-spec : {M : Type 1} → statement M
 put-sections-spec =

@@ -1,7 +1,7 @@
 use borrow.Author.Needs.{needs}
 use borrow.Author.Tests.{eq-eqb, ne-eqb}
-use Rattle.depot_report.proofs.section_key.Statement.{statement}
-use Rattle.depot_report.proofs.section_key.Tie as tie
+use Rattle.text_names.proofs.section_key.Statement.{statement}
+use Rattle.text_names.proofs.section_key.Tie as tie
 
 returns : tie.Need-returns
 returns c = rw (eq-eqb _ 0 (c .if1 .taken))
