@@ -11,6 +11,7 @@ use rules::controller::Controller;
 use run_admission::admit::admit;
 use run_admission::answer::Answer;
 use run_admission::answer::Outcome;
+use run_admission::answer::refused;
 use run_admission::ending::ended;
 use run_admission::ending::number_after;
 use step::run_records;
@@ -50,10 +51,7 @@ fn run_tested(
         &mut assigned,
     );
     if refusal != 0 {
-        return Outcome {
-            answer: Answer::Refused(Refusal::of(refusal), 0),
-            number: device.number,
-        };
+        return refused(Refusal::of(refusal), 0, device);
     }
     let vendor = device.vendor;
     let class = device.class;
@@ -92,10 +90,7 @@ pub fn run_program(
     let t = test_program(p);
     let good = t.good;
     if !good {
-        return Outcome {
-            answer: Answer::Refused(Refusal::BadProgram, 0),
-            number: device.number,
-        };
+        return refused(Refusal::BadProgram, 0, device);
     }
     run_tested(p, t, verdict, device, slots, answers, trace)
 }
