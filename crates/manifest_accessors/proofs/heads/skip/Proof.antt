@@ -15,22 +15,22 @@ abbrev μ-loop : tie.MeasureT-loop
 μ-loop s k at p₀ left₀ p left = left
 
 opens : tie.Need-open-requires Inv-loop μ-loop
-opens c κs = let x = c .before .before .before .pre in strings-first _ _ _ _ _ (x .fits) (c .loop-test .taken) (c .before .loop .inv x)
+opens c κs = let x = c .before .before .before .pre in strings-first _ _ _ _ _ (x .fits) (omega (arith, c .loop-test .taken)) (c .before .loop .inv x)
 
 fits : tie.Need-add-p Inv-loop μ-loop
 fits c =
     let x = c .before .before .before .before .before .pre in
     let q = c .before .before .before .loop .inv x in
     let l = c .before .before .loop-test .taken in
-    let e = c .before .«open» .ensures (strings-first _ _ _ _ _ (x .fits) l q) in
-    omega (arith, strings-fit _ _ _ _ _ (x .fits) l q, e)
+    let e = c .before .«open» .ensures (strings-first _ _ _ _ _ (x .fits) (omega (arith, l)) q) in
+    omega (arith, strings-fit _ _ _ _ _ (x .fits) (omega (arith, l)) q, e)
 
 again : tie.Need-loop-again Inv-loop μ-loop
 again c = λ x.
     let q = c .before .before .before .loop .inv x in
     let l = c .before .before .loop-test .taken in
-    let e = c .before .«open» .ensures (strings-first _ _ _ _ _ (x .fits) l q) in
-    rw (e .0, e .1) (strings-more _ _ _ _ _ (x .fits) l q)
+    let e = c .before .«open» .ensures (strings-first _ _ _ _ _ (x .fits) (omega (arith, l)) q) in
+    rw (e .0, e .1) (strings-more _ _ _ _ _ (x .fits) (omega (arith, l)) q)
 
 done : tie.Need-returns Inv-loop μ-loop
 done c = λ x. strings-none _ _ _ _ _ (omega arith) (c .before .loop .inv x)

@@ -26,13 +26,13 @@ section-requires : tie.Need-run-section-requires Inv-loop μ-loop
 section-requires c κs w =
     turn-job _ _ _ _ _ _ _ _ _ _ _ _ _ _ _ _ _
     (c .before .before .before .before .before .before .before .loop .inv .2 (c .before .before .before .before .before .before .before .before .before .before .before .before .pre))
-    (c .before .before .before .before .before .before .loop-test .taken) _ (c .before .before .before .wanted .ensures) w
+    (omega (arith, c .before .before .before .before .before .before .loop-test .taken)) _ (c .before .before .before .wanted .ensures) w
 
 stops : tie.Need-returns Inv-loop μ-loop
 stops c j =
     turn-stops _ _ _ _ _ _ _ _ _ _ _ _ _ _ _ _ _
     (c .before .before .before .before .before .before .before .before .before .before .before .before .before .loop .inv .2 j)
-    (c .before .before .before .before .before .before .before .before .before .before .before .before .loop-test .taken) _ (c .before .before .before .before .before .before .before .before .before .wanted .ensures)
+    (omega (arith, c .before .before .before .before .before .before .before .before .before .before .before .before .loop-test .taken)) _ (c .before .before .before .before .before .before .before .before .before .wanted .ensures)
     _ _ _ _ (c .before .before .before .before .before .run-section .ensures .0) (c .before .before .before .before .before .run-section .ensures .1)
     (c .if1 .taken)
 
@@ -42,7 +42,7 @@ again c = (
   search needs,
   λ j. turn-goes _ _ _ _ _ _ _ _ _ _ _ _ _ _ _ _ _
       (c .before .before .before .before .before .before .before .before .before .before .before .before .before .loop .inv .2 j)
-      (c .before .before .before .before .before .before .before .before .before .before .before .before .loop-test .taken) _ (c .before .before .before .before .before .before .before .before .before .wanted .ensures)
+      (omega (arith, c .before .before .before .before .before .before .before .before .before .before .before .before .loop-test .taken)) _ (c .before .before .before .before .before .before .before .before .before .wanted .ensures)
       _ _ _ _ (c .before .before .before .before .before .run-section .ensures .0) (c .before .before .before .before .before .run-section .ensures .1)
       (c .if1 .left),
 )
