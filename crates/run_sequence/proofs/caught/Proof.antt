@@ -3,7 +3,7 @@ use Rattle.run_sequence.proofs.caught.Statement.{statement}
 use Rattle.run_sequence.proofs.caught.Tie as tie
 
 returns : tie.Need-returns
-returns c = rw (c .before .before .if1 .taken, eq-eqb _ _ (c .before .if2 .taken), eq-eqb _ _ (c .if3 .taken))
+returns c = rw (c .before .before .if1 .taken, c .before .if2 .taken, c .if3 .taken)
 
 returns-2 : tie.Need-returns-2
 returns-2 c = rw (c .before .before .if1 .taken, eq-eqb _ _ (c .before .if2 .taken), ne-eqb _ _ (c .if3 .left))
