@@ -1,5 +1,5 @@
 -- Whether the section of a number is there and the group's, and the sections that are left after it.
-use Prim.Native.Nat.{ℕ, _+_, _*_, _<_}
+use Prim.Native.Nat.{ℕ, _+_, _*_, _≤_, _<_}
 use mathlib.Core.Path.{_≡_, refl, sym, _∙_}
 use mathlib.Core.List.{List}
 use mathlib.Core.Bool.{Bool, true, false, cond}
@@ -11,9 +11,10 @@ use borrow.Author.Tests.{eqb-true, eqb-false}
 use Rattle.rules.specs.declared.answers.Group.{Group}
 use Rattle.rules.specs.Bytes.{Bytes}
 use Rattle.rules.specs.Commands.{among}
-use Rattle.rules.specs.Limits.{sectionCount}
+use Rattle.rules.specs.Limits.{limits, sectionCount}
 use Rattle.rules.specs.Manifest.{Section}
 use Rattle.rules.specs.Run.{sectionsOf}
+use Rattle.manifest_accessors.specs.Places.{SequenceAt}
 use Rattle.manifest_accessors.specs.Sections.{keyOf}
 use Rattle.manifest_accessors.proofs.SectionsRead.{Rest, Here, rest-none, rest-some}
 
@@ -23,6 +24,21 @@ one-answer b t f = let z : _≡_ {A = Bool} true false = sym t ∙ f in let y : 
 
 abbrev pub Wanted : Group → List ℕ → ℕ → Bool → Type 0
 Wanted group places k w = w ≡ cond (eqb (getD places (2 * k + 1) 0) 0) false (among (keyOf k) (sectionsOf group))
+
+-- the sequence of section k, which begins at the place that the array holds
+abbrev pub section-sequence : (s : Bytes) (n : ℕ) (places : List ℕ) (k m : ℕ) (rest : List Section) (x : Here s n places k m rest) (events : ℕ) → events ≤ m →
+    SequenceAt s n (limits .depth) events (getD places (2 * k) 0)
+section-sequence s n places k m rest x events few =
+    record {
+      section = x .section .key;
+      m = m;
+      e = x .section .place .to;
+      fits = x .read .fits;
+      seq = x .section .seq;
+      to = x .section .place .to;
+      reads = rw (x .from) (x .read .reads);
+      few = few;
+    }
 
 module _ (s : Bytes) (n : ℕ) (group : Group) (places : List ℕ) (k m : ℕ) (rest : List Section) (h : k < sectionCount) (r : Rest s n places k m rest) where
   -- section k is there, and the group's

@@ -22,7 +22,7 @@ use Rattle.manifest_accessors.specs.Sections.{keyOf}
 use Rattle.manifest_accessors.proofs.ManifestParts.{Parts, parts}
 
 -- a section as check read it, after m commands; its number is at least `least`
-pub record ArgumentRead (s : Bytes) (n m least : ℕ) (x : Section) : Type 0 where
+pub record SectionRead (s : Bytes) (n m least : ℕ) (x : Section) : Type 0 where
   pub reads : sequenceAt s n (x .key) (limits .depth) m (x .place .to) (x .place .from) ≡ got (x .seq, x .place .to)
   pub some-bytes : 0 < x .place .to
   pub fits : x .place .to ≤ length s
@@ -33,10 +33,10 @@ pub record ArgumentRead (s : Bytes) (n m least : ℕ) (x : Section) : Type 0 whe
 -- sections whose numbers ascend from `low` on
 abbrev pub ReadAll : Bytes → ℕ → ℕ → ℕ → List Section → Type 0
 ReadAll s n m low [] = Unit {0}
-ReadAll s n m low (x ∷ xs) = ArgumentRead s n m low x × ReadAll s n (m + count (x .seq)) (sectionNo (x .key) + 1) xs
+ReadAll s n m low (x ∷ xs) = SectionRead s n m low x × ReadAll s n (m + count (x .seq)) (sectionNo (x .key) + 1) xs
 
 -- its number is at least any that it is not below
-at-least : (s : Bytes) (n m least least′ : ℕ) (x : Section) → ArgumentRead s n m least x → least′ ≤ sectionNo (x .key) → ArgumentRead s n m least′ x
+at-least : (s : Bytes) (n m least least′ : ℕ) (x : Section) → SectionRead s n m least x → least′ ≤ sectionNo (x .key) → SectionRead s n m least′ x
 at-least s n m least least′ x r h =
     record { reads = r .reads; some-bytes = r .some-bytes; fits = r .fits; low = h; high = r .high; named = r .named }
 
@@ -61,7 +61,7 @@ module _ (s : Bytes) where
       rw (← ex) (record { key = refl; reads = i .reads; some-bytes = omega (arith, i .up, i .mid); fits = i .fits })
 
   numbered : (n k m e at : ℕ) (x : Section) (q low : ℕ) → e ≤ length s → Sequenced n k m e at x q → low ≤ sectionNo k → sectionNo k < sectionCount → k ≡ keyOf (sectionNo k) →
-      ArgumentRead s n m low x
+      SectionRead s n m low x
   numbered n k m e at x q low l r a b c =
       record {
         reads = rw (r .key) (r .reads);
@@ -213,7 +213,7 @@ module _ (s : Bytes) (n : ℕ) where
       pub all : rest ≡ section ∷ others
       pub from : getD places (2 * k) 0 ≡ section .place .from
       pub key : section .key ≡ keyOf k
-      pub read : ArgumentRead s n m k section
+      pub read : SectionRead s n m k section
       pub left : Rest s n places (k + 1) (m + count (section .seq)) others
 
     pub rest-some : (rest : List Section) → k < sectionCount → (getD places (2 * k + 1) 0 ≡ 0 → ⊥) → Rest s n places k m rest → Here rest

@@ -26,7 +26,7 @@ use Rattle.run_envelope.specs.Sections.{startOf, SectionsJob, SectionsRa
 use Rattle.run_commands.proofs.LentLaws.{Moves, moves-seq}
 use Rattle.run_sequence.proofs.Keeping.{Kept, ready-of, kept-of, kept-after, events-after}
 use Rattle.manifest_accessors.proofs.SectionsRead.{Rest, Here, rest-start, rest-end}
-use Rattle.manifest_accessors.proofs.SectionPlaces.{Wanted, Taken, taken, skipped}
+use Rattle.manifest_accessors.proofs.SectionPlaces.{Wanted, Taken, section-sequence, taken, skipped}
 
 -- an end is no success unless its number is that of finished
 not-finished : (n : ℕ) → (n ≡ endNumber Finished → ⊥) → endOf n ≡ Finished → ⊥
@@ -98,17 +98,7 @@ module _ (s vendor class : Bytes) (assigned : List ℕ) (answers : Bytes) (group
       job =
           record {
             ready = ready-of s vendor class assigned answers env slots params trace 0 (l .kept);
-            place =
-                record {
-                  section = x .section .key;
-                  m = l .commands;
-                  e = x .section .place .to;
-                  fits = x .read .fits;
-                  seq = x .section .seq;
-                  to = x .section .place .to;
-                  reads = rw (x .from) (x .read .reads);
-                  few = l .few;
-                };
+            place = section-sequence s (length (env .ids)) places k (l .commands) (l .rest) x (run .events) (l .few);
           }
 
       module _ (a : among (x .section .key) (sectionsOf group) ≡ true) (r : Run) (slots′ : Bytes) (params′ : List ℕ) (trace′ : Bytes)
