@@ -43,7 +43,7 @@ flat-none : (n : ℕ) → flatAll [] n ≡ []
 unfolding flatAll
 flat-none n = refl
 
-module _ (s : Bytes) (group : Group) (places : List ℕ) (h : SectionsHere s places) where
+module _ (s : Bytes) (table : List ℕ) (group : Group) (places : List ℕ) (h : SectionsHere s table places) where
   abbrev plan : List Seq
   plan = planOf group (h .manifest)
 
@@ -91,10 +91,10 @@ module _ (s : Bytes) (group : Group) (places : List ℕ) (h : SectionsHere s pla
     skipped : w ≡ false → Skipped s components group places k (z .at)
     skipped t = skip s components group places k (z .at) l (sym t ∙ e)
 
-    pub sizing-job : w ≡ true → SequenceHere s (limits .depth) (getD places (2 * k) 0)
-    sizing-job t = record { n = components; place = taken t .place; small = omega (arith, plan-small, z .records, z .arguments, first-size k (z .at) (taken t) .0, first-size k (z .at) (taken t) .1) }
+    pub sizing-job : w ≡ true → SequenceHere s table (limits .depth) (getD places (2 * k) 0)
+    sizing-job t = record { rows = h .rows; n = components; place = taken t .place; small = omega (arith, plan-small, z .records, z .arguments, first-size k (z .at) (taken t) .0, first-size k (z .at) (taken t) .1) }
 
-    module _ (r : Size) (whole : w ≡ true → (j : SequenceHere s (limits .depth) (getD places (2 * k) 0)) → SequenceSized (j .place .seq) r)
+    module _ (r : Size) (whole : w ≡ true → (j : SequenceHere s table (limits .depth) (getD places (2 * k) 0)) → SequenceSized (j .place .seq) r)
         (none : w ≡ false → (r .records ≡ 0) × (r .arguments ≡ 0)) where
       pub sizing-on : Sizing (k + 1) (record { next = 0; records = now .records + r .records; arguments = now .arguments + r .arguments })
       unfolding sizing-job
@@ -152,9 +152,10 @@ module _ (s : Bytes) (group : Group) (places : List ℕ) (h : SectionsHere s pla
       its : w ≡ true → Taken s components group places k (z .at)
       its t = take s components group places k (z .at) l (sym t ∙ e)
 
-      pub writing-job : w ≡ true → SequenceJob s (limits .depth) (startOf (getD places (2 * k) 0) now) room
+      pub writing-job : w ≡ true → SequenceJob s table (limits .depth) (startOf (getD places (2 * k) 0) now) room
       writing-job t =
           record {
+            rows = h .rows;
             n = components;
             place = its t .place;
             inside = omega (arith, known .some-ids .0, length-map (h .manifest .ids) (bytesAt s));
@@ -165,7 +166,7 @@ module _ (s : Bytes) (group : Group) (places : List ℕ) (h : SectionsHere s pla
           }
 
       module _ (r : WriteState) (room′ : Bytes)
-          (whole : w ≡ true → (j : SequenceJob s (limits .depth) (startOf (getD places (2 * k) 0) now) room) → Wrote (flatSeq (j .place .seq) false 0 false NONE 0 (now .n)) now room r room′)
+          (whole : w ≡ true → (j : SequenceJob s table (limits .depth) (startOf (getD places (2 * k) 0) now) room) → Wrote (flatSeq (j .place .seq) false 0 false NONE 0 (now .n)) now room r room′)
           (none : w ≡ false → (r ≡ now) × (room′ ≡ room)) where
         pub writing-on : Writing room′ (k + 1) r
         unfolding writing-job

@@ -12,6 +12,7 @@ use Rattle.rules.specs.declared.answers.Refusal.the-variants.{ShortRoom}
 use Rattle.rules.specs.Limits.{limits}
 use Rattle.rules.specs.ProgramFormat.{startSize, recordSize}
 use Rattle.rules.specs.Bytes.{Bytes, put, flat, spanAt}
+use Rattle.rules.specs.Tables.{byNumber}
 use Rattle.rules.specs.Got.{refused}
 use Rattle.rules.specs.Manifest.{Seq}
 use Rattle.rules.specs.Check.{check}
@@ -52,7 +53,7 @@ pub refused-translation : (s : Bytes) (group : Group) (k : Refusal) (p : ℕ) (r
 unfolding translate
 refused-translation s group k p room e = rw e (refl, refl, refl)
 
-module _ (s : Bytes) (number n : ℕ) (ids sections : List ℕ) (a : Accepted s number n ids sections) (group : Group) where
+module _ (s : Bytes) (number n : ℕ) (ids sections : List ℕ) (a : Accepted s number n ids sections) (group : Group) (table : List ℕ) (rows : table ≡ byNumber) where
   abbrev plan : List Seq
   plan = planOf group (a .manifest)
 
@@ -62,8 +63,8 @@ module _ (s : Bytes) (number n : ℕ) (ids sections : List ℕ) (a : Accepted s 
   abbrev identifiers : Bytes
   identifiers = flat (map idBytes (namesAt s ids n))
 
-  abbrev pub here : SectionsHere s sections
-  here = record { manifest = a .manifest; checks = a .checks; places = a .places }
+  abbrev pub here : SectionsHere s table sections
+  here = record { rows = rows; manifest = a .manifest; checks = a .checks; places = a .places }
 
   pub ids-near : InBytes ids n (limits .envelope)
   ids-near k h = let i = inside s number n ids sections a k h in (i .0, omega (arith, i .1, envelope-short s number n ids sections a))
@@ -76,7 +77,7 @@ module _ (s : Bytes) (number n : ℕ) (ids sections : List ℕ) (a : Accepted s 
       omega
       (arith, l, ap length (name-at s ids n k h), length-part s (spanAt ids k .from) (spanAt ids k .to - spanAt ids k .from) (omega (arith, i .0, i .1)))
 
-  module _ (size : Size) (sized : (j : SectionsHere s sections) → SectionsSized (planOf group (j .manifest)) size) (width : ℕ)
+  module _ (size : Size) (sized : (j : SectionsHere s table sections) → SectionsSized (planOf group (j .manifest)) size) (width : ℕ)
       (wide : (t : Bytes) → InBytes ids n (length t) → width ≡ length (flat (map idBytes (namesAt t ids n)))) where
     abbrev total : ℕ
     total = startSize + width + recordSize * size .records + size .arguments
@@ -112,7 +113,7 @@ module _ (s : Bytes) (number n : ℕ) (ids sections : List ℕ) (a : Accepted s 
       names-fit = omega (arith, same-size, widths, enough)
 
       module _ (at : ℕ) (room₂ : Bytes) (second : Filled identifiers startSize room₁ at room₂) where
-        pub job : length room₂ ≤ most → SectionsJob s group sections at room₂
+        pub job : length room₂ ≤ most → SectionsJob s table group sections at room₂
         job small =
             record {
               here = here;
@@ -121,7 +122,7 @@ module _ (s : Bytes) (number n : ℕ) (ids sections : List ℕ) (a : Accepted s 
             }
 
         module _ (small : length room₂ ≤ most) (room₃ : Bytes)
-            (writes : (j : SectionsJob s group sections at room₂) → room₃ ≡ put room₂ at (written (flatAll (planOf group (j .here .manifest)) 0))) where
+            (writes : (j : SectionsJob s table group sections at room₂) → room₃ ≡ put room₂ at (written (flatAll (planOf group (j .here .manifest)) 0))) where
           third : room₃ ≡ put room₂ at (written (flatAll plan 0))
           unfolding job
           third = writes (job small)

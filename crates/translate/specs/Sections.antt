@@ -7,6 +7,7 @@ use Rattle.rules.specs.declared.answers.Group.{Group}
 use Rattle.rules.specs.Bytes.{Bytes}
 use Rattle.rules.specs.Limits.{sectionPlaces}
 use Rattle.rules.specs.ProgramFormat.{recordSize}
+use Rattle.rules.specs.Tables.{byNumber}
 use Rattle.rules.specs.Got.{got}
 use Rattle.rules.specs.Manifest.{Seq, Manifest}
 use Rattle.rules.specs.Check.{check}
@@ -17,8 +18,9 @@ use Rattle.translate_size.specs.declared.sizes.Size.{Size}
 use Rattle.translate_record.specs.declared.record.WriteState.{WriteState}
 use Rattle.translate_size.specs.Size.{most}
 
--- the places of the sections of an accepted envelope
-pub record SectionsHere (s : Bytes) (sections : List ℕ) : Type 0 where
+-- the places of the sections of an accepted envelope, and the lent table
+pub record SectionsHere (s : Bytes) (table sections : List ℕ) : Type 0 where
+  pub rows : table ≡ byNumber
   pub manifest : Manifest
   pub checks : check s ≡ got manifest
   pub places : sections ≡ placed (manifest .sections) (replicate sectionPlaces 0)
@@ -28,8 +30,8 @@ pub record SectionsSized (plan : List Seq) (r : Size) : Type 0 where
   pub arguments : r .arguments ≡ argSizeAll plan
 
 -- and room for their records
-pub record SectionsJob (s : Bytes) (group : Group) (sections : List ℕ) (to : ℕ) (room : Bytes) : Type 0 where
-  pub here : SectionsHere s sections
+pub record SectionsJob (s : Bytes) (table : List ℕ) (group : Group) (sections : List ℕ) (to : ℕ) (room : Bytes) : Type 0 where
+  pub here : SectionsHere s table sections
   pub enough : to + recordSize * sizeAll (planOf group (here .manifest)) + argSizeAll (planOf group (here .manifest)) ≤ length room
   pub small : length room ≤ most
 

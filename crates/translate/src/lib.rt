@@ -13,13 +13,14 @@ use rules::controller::Places;
 use rules::controller::SectionPlaces;
 use rules::program_format::RECORD_BYTES;
 use rules::program_format::START_BYTES;
+use rules_tables::tables;
 use sections::size_sections;
 use sections::write_sections;
 use start::put_start;
 
-pub mod names;
-pub mod sections;
-pub mod start;
+mod names;
+mod sections;
+mod start;
 
 // A refusal with its place, or how long the program is.
 pub enum Translated {
@@ -40,7 +41,8 @@ fn translate_checked(
     requires { ⌜ Accepted (now s) number n (now ids) (now sections) ⌝ }
     ensures { λ r. ⌜ Translates (Rule.translate (now (s .entry)) group (length (now (room .entry)))) r (now (room .entry)) (now (room .exit)) ⌝ }
 {
-    let size = size_sections(s, group, sections);
+    let table = tables();
+    let size = size_sections(s, &table, group, sections);
     let names = size_names(ids, n);
     let length = START_BYTES + names + RECORD_BYTES * size.records + size.arguments;
     if room.len() < length {
@@ -48,7 +50,7 @@ fn translate_checked(
     }
     put_start(room, group, number, n, size.records);
     let at = write_names(s, ids, n, room, START_BYTES);
-    write_sections(s, group, sections, at, room);
+    write_sections(s, &table, group, sections, at, room);
     Translated::Program(length)
 }
 

@@ -16,7 +16,7 @@ use rules::program_format;
 use rules::program_format::NAME_BYTES;
 
 // How many bytes the records of the n identifiers have.
-pub fn size_names(ids: &Places, n: usize) -> usize
+pub(crate) fn size_names(ids: &Places, n: usize) -> usize
     requires { ⌜ (n ≤ limits .components) × InBytes (now ids) n (limits .envelope) ⌝ }
     ensures { λ r. ⌜ ((s : Bytes) → InBytes (now (ids .entry)) n (length s) → r ≡ length (flat (map idBytes (namesAt s (now (ids .entry)) n)))) ⌝ }
 {
@@ -43,7 +43,7 @@ fn put_name(s: &[u8], from: usize, n: usize, room: &mut [u8], to: usize) -> usiz
 }
 
 // The records of the n identifiers at the places `ids` of s, written from `at` on: the place after them.
-pub fn write_names(s: &[u8], ids: &Places, n: usize, room: &mut [u8], at: usize) -> usize
+pub(crate) fn write_names(s: &[u8], ids: &Places, n: usize, room: &mut [u8], at: usize) -> usize
     requires { ⌜ (n ≤ limits .components) × InBytes (now ids) n (length (now s)) × ((k : ℕ) → k < n → spanAt (now ids) k .to - spanAt (now ids) k .from < 256) × (at + length (flat (map idBytes (namesAt (now s) (now ids) n))) ≤ length (now room)) ⌝ }
     ensures { λ r. ⌜ Filled (flat (map idBytes (namesAt (now (s .entry)) (now (ids .entry)) n))) at (now (room .entry)) r (now (room .exit)) ⌝ }
 {

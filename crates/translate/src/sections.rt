@@ -10,21 +10,23 @@ ghost use Rattle.translate_size.specs.Size.{SequenceHere, SequenceSized};
 ghost use Rattle.translate_record.specs.Record.{written, Wrote};
 ghost use Rattle.translate_sequence.specs.Write.{SequenceJob};
 ghost use Rattle.translate.specs.Sections.{SectionsHere, SectionsSized, SectionsJob, startOf};
+use manifest_accessors::arguments::COERCE_FALSE;
 use manifest_accessors::sections::wanted;
 use rules::answers::Group;
 use rules::controller::Controller;
 use rules::controller::SECTIONS;
 use rules::controller::SectionPlaces;
 use rules::program_format::NO_TARGET;
+use rules_tables::Table;
 use translate_record::record::WriteState;
 use translate_sequence::write::write_sequence;
 use translate_size::sizes::Size;
 use translate_size::sizes::size_sequence;
 
 // The size of the sequence at `from`; nothing where it is not wanted.
-fn size_section(s: &[u8], wanted: bool, from: usize) -> Size
-    requires { ⌜ (wanted ≡ true → SequenceHere (now s) (limits .depth) from) ⌝ }
-    ensures { λ r. ⌜ (wanted ≡ true → (j : SequenceHere (now (s .entry)) (limits .depth) from) → SequenceSized (j .place .seq) r) × (wanted ≡ false → (r .records ≡ 0) × (r .arguments ≡ 0)) ⌝ }
+fn size_section(s: &[u8], table: &Table, wanted: bool, from: usize) -> Size
+    requires { ⌜ (wanted ≡ true → SequenceHere (now s) (now table) (limits .depth) from) ⌝ }
+    ensures { λ r. ⌜ (wanted ≡ true → (j : SequenceHere (now (s .entry)) (now (table .entry)) (limits .depth) from) → SequenceSized (j .place .seq) r) × (wanted ≡ false → (r .records ≡ 0) × (r .arguments ≡ 0)) ⌝ }
 {
     if !wanted {
         return Size {
@@ -33,13 +35,13 @@ fn size_section(s: &[u8], wanted: bool, from: usize) -> Size
             arguments: 0,
         };
     }
-    size_sequence(s, Controller::DEPTH, from)
+    size_sequence(s, table, Controller::DEPTH, from)
 }
 
 // The size of the group's sections, from the places that check reported.
-pub fn size_sections(s: &[u8], group: Group, sections: &SectionPlaces) -> Size
-    requires { ⌜ SectionsHere (now s) (now sections) ⌝ }
-    ensures { λ r. ⌜ ((j : SectionsHere (now (s .entry)) (now (sections .entry))) → SectionsSized (planOf group (j .manifest)) r) ⌝ }
+pub(crate) fn size_sections(s: &[u8], table: &Table, group: Group, sections: &SectionPlaces) -> Size
+    requires { ⌜ SectionsHere (now s) (now table) (now sections) ⌝ }
+    ensures { λ r. ⌜ ((j : SectionsHere (now (s .entry)) (now (table .entry)) (now (sections .entry))) → SectionsSized (planOf group (j .manifest)) r) ⌝ }
 {
     let mut now = Size {
         next: 0,
@@ -50,7 +52,7 @@ pub fn size_sections(s: &[u8], group: Group, sections: &SectionPlaces) -> Size
     while k < SECTIONS {
         let from = sections[2 * k];
         let to = sections[2 * k + 1];
-        let r = size_section(s, wanted(group, k, to), from);
+        let r = size_section(s, table, wanted(group, k, to), from);
         now = Size {
             next: 0,
             records: now.records + r.records,
@@ -64,19 +66,21 @@ pub fn size_sections(s: &[u8], group: Group, sections: &SectionPlaces) -> Size
 // The sequence at `from`, written from the state on; nothing where it is not wanted.
 fn write_section(
     s: &[u8],
+    table: &Table,
     wanted: bool,
     from: usize,
     state: WriteState,
     room: &mut [u8],
 ) -> WriteState
-    requires { ⌜ (wanted ≡ true → SequenceJob (now s) (limits .depth) (startOf from state) (now room)) ⌝ }
-    ensures { λ r. ⌜ (wanted ≡ true → (j : SequenceJob (now (s .entry)) (limits .depth) (startOf from state) (now (room .entry))) → Wrote (flatSeq (j .place .seq) false 0 false NONE 0 (state .n)) state (now (room .entry)) r (now (room .exit))) × (wanted ≡ false → (r ≡ state) × (now (room .exit) ≡ now (room .entry))) ⌝ }
+    requires { ⌜ (wanted ≡ true → SequenceJob (now s) (now table) (limits .depth) (startOf from state) (now room)) ⌝ }
+    ensures { λ r. ⌜ (wanted ≡ true → (j : SequenceJob (now (s .entry)) (now (table .entry)) (limits .depth) (startOf from state) (now (room .entry))) → Wrote (flatSeq (j .place .seq) false 0 false NONE 0 (state .n)) state (now (room .entry)) r (now (room .exit))) × (wanted ≡ false → (r ≡ state) × (now (room .exit) ≡ now (room .entry))) ⌝ }
 {
     if !wanted {
         return state;
     }
     write_sequence(
         s,
+        table,
         Controller::DEPTH,
         false,
         NO_TARGET,
@@ -84,7 +88,7 @@ fn write_section(
         WriteState {
             next: from,
             index: 0,
-            coerce: 1,
+            coerce: COERCE_FALSE,
             n: state.n,
             to: state.to,
         },
@@ -93,14 +97,21 @@ fn write_section(
 }
 
 // The records of the group's sections, written from `to` on.
-pub fn write_sections(s: &[u8], group: Group, sections: &SectionPlaces, to: usize, room: &mut [u8])
-    requires { ⌜ SectionsJob (now s) group (now sections) to (now room) ⌝ }
-    ensures { λ _. ⌜ ((j : SectionsJob (now (s .entry)) group (now (sections .entry)) to (now (room .entry))) → now (room .exit) ≡ put (now (room .entry)) to (written (flatAll (planOf group (j .here .manifest)) 0))) ⌝ }
+pub(crate) fn write_sections(
+    s: &[u8],
+    table: &Table,
+    group: Group,
+    sections: &SectionPlaces,
+    to: usize,
+    room: &mut [u8],
+)
+    requires { ⌜ SectionsJob (now s) (now table) group (now sections) to (now room) ⌝ }
+    ensures { λ _. ⌜ ((j : SectionsJob (now (s .entry)) (now (table .entry)) group (now (sections .entry)) to (now (room .entry))) → now (room .exit) ≡ put (now (room .entry)) to (written (flatAll (planOf group (j .here .manifest)) 0))) ⌝ }
 {
     let mut now = WriteState {
         next: 0,
         index: 0,
-        coerce: 1,
+        coerce: COERCE_FALSE,
         n: 0,
         to,
     };
@@ -108,7 +119,7 @@ pub fn write_sections(s: &[u8], group: Group, sections: &SectionPlaces, to: usiz
     while k < SECTIONS {
         let from = sections[2 * k];
         let end = sections[2 * k + 1];
-        now = write_section(s, wanted(group, k, end), from, now, room);
+        now = write_section(s, table, wanted(group, k, end), from, now, room);
         k += 1;
     }
 }

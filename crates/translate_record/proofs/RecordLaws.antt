@@ -1,7 +1,7 @@
 -- The bytes of parameters, arguments and records.
 use Prim.Native.Nat.{ℕ, _+_, _-_, _≤_, _<_}
 use mathlib.Core.Path.{_≡_, refl, sym, _∙_}
-use mathlib.Core.List.{[], _∷_, _++_, append-nil}
+use mathlib.Core.List.{List, [], _∷_, _++_, append-nil}
 use mathlib.Core.Bool.{cond}
 use mathlib.Core.Logic.{_⊎_, inl, inr}
 use native.Mathlib.Omega.{arith}
@@ -112,7 +112,7 @@ jump-wrote target state room room′ e =
       coerce = refl;
     }
 
-module _ (s : Bytes) (c at : ℕ) (state : WriteState) (room : Bytes) (j : LeafJob s c at state room) (a : Args) (r : ArgumentRead s c at (j .argument) a) where
+module _ (s : Bytes) (table : List ℕ) (c at : ℕ) (state : WriteState) (room : Bytes) (j : LeafJob s table c at state room) (a : Args) (r : ArgumentRead s c at (j .argument) a) where
   is-code : code (j .argument .op) ≡ c
   is-code = one-plain s c at (j .argument) .0
 

@@ -4,6 +4,7 @@ use mathlib.Core.Path.{_≡_}
 use mathlib.Core.List.{List, [], _∷_, _++_, map}
 use lib.ListN.{length}
 use Rattle.rules.specs.Bytes.{Bytes, put, flat, be2}
+use Rattle.rules.specs.Tables.{byNumber}
 use Rattle.rules.specs.Manifest.{Cmd}
 use Rattle.rules.specs.Limits.{limits}
 use Rattle.rules.specs.ProgramFormat.{mark, recordSize}
@@ -44,8 +45,9 @@ pub record JumpWrote (target : ℕ) (state : WriteState) (room : Bytes) (r : Wri
   pub index : r .index ≡ state .index
   pub coerce : r .coerce ≡ state .coerce
 
--- a command that holds no sequence, by its code and argument, and room for its record
-pub record LeafJob (s : Bytes) (code at : ℕ) (state : WriteState) (room : Bytes) : Type 0 where
+-- a command that holds no sequence, by its code and argument, the lent table, and room for its record
+pub record LeafJob (s : Bytes) (table : List ℕ) (code at : ℕ) (state : WriteState) (room : Bytes) : Type 0 where
+  pub rows : table ≡ byNumber
   pub argument : ArgumentAt s code at
   pub inside : state .index < argument .n
   pub components : argument .n ≤ limits .components

@@ -1,9 +1,11 @@
 // The argument of a record, written to lent room. Each function gives the place after what it wrote.
+ghost use mathlib.Core.Path.{_≡_};
 ghost use mathlib.Core.List.{[], _∷_};
 ghost use Prim.Native.Nat.{_+_, _-_, _≤_, _<_};
 ghost use lib.ListN.{length};
 ghost use Rattle.rules.specs.Bytes.{part, be4};
 ghost use Rattle.rules.specs.Limits.{limits};
+ghost use Rattle.rules.specs.Tables.{byNumber};
 ghost use Rattle.rules.specs.Program.{entry, paramBytes, argBytes};
 ghost use Rattle.run_slots.specs.Params.{optional, meaning, Fit};
 ghost use Rattle.run_commands.specs.Op.{opOf, IsCode};
@@ -18,7 +20,8 @@ use rules::program_format::ENTRY_BYTES;
 use rules::program_format::SIZE_BYTES;
 use rules::program_format::SOURCE_BYTES;
 use rules::tables::Argument;
-use rules_tables::argument_of;
+use rules_tables::Table;
+use translate_size::kinds::kind_of;
 
 // The URI or the digest under that key: the n bytes of s from `from` on; 0 is unset.
 fn put_string(s: &[u8], key: u8, from: usize, n: usize, room: &mut [u8], to: usize) -> usize
@@ -82,11 +85,18 @@ fn put_parameters(s: &[u8], a: Args, room: &mut [u8], to: usize) -> usize
 }
 
 // The argument of the command of that code, by its kind in the table.
-pub fn put_argument(s: &[u8], code: usize, a: Args, room: &mut [u8], to: usize) -> usize
-    requires { ⌜ Within (now s) (paramsOf a) × Fit (now s) 256 (paramsOf a) × (code < 3 → a .value + limits .class ≤ length (now s)) × IsCode (now s) code (a .value) (paramsOf a) × (to + length (argBytes (opOf (now s) code (a .value) (paramsOf a))) ≤ length (now room)) ⌝ }
+pub(crate) fn put_argument(
+    s: &[u8],
+    table: &Table,
+    code: usize,
+    a: Args,
+    room: &mut [u8],
+    to: usize,
+) -> usize
+    requires { ⌜ Within (now s) (paramsOf a) × Fit (now s) 256 (paramsOf a) × (code < 3 → a .value + limits .class ≤ length (now s)) × IsCode (now s) code (a .value) (paramsOf a) × (to + length (argBytes (opOf (now s) code (a .value) (paramsOf a))) ≤ length (now room)) × (now table ≡ byNumber) ⌝ }
     ensures { λ r. ⌜ Filled (argBytes (opOf (now (s .entry)) code (a .value) (paramsOf a))) to (now (room .entry)) r (now (room .exit)) ⌝ }
 {
-    match argument_of(code) {
+    match kind_of(table, code) {
         Argument::Sixteen => {
             copy(s, a.value, Controller::CLASS_BYTES, room, to);
             to + Controller::CLASS_BYTES

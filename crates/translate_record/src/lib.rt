@@ -1,3 +1,3 @@
 // A record of a program, written to lent room.
-pub mod argument;
+mod argument;
 pub mod record;

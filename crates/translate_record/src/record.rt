@@ -6,6 +6,7 @@ ghost use lib.ListN.{length};
 ghost use Rattle.rules.specs.Bytes.{put};
 ghost use Rattle.rules.specs.Commands.{commands, rowOf, conditionIn};
 ghost use Rattle.rules.specs.Limits.{limits};
+ghost use Rattle.rules.specs.Tables.{byNumber};
 ghost use Rattle.rules.specs.Manifest.{one};
 ghost use Rattle.rules.specs.ProgramFormat.{NONE, recordSize};
 ghost use Rattle.translate_record.specs.Record.{headBytes, JumpWrote, LeafJob, CommandWrote};
@@ -17,8 +18,9 @@ use rules::program_format;
 use rules::program_format::JUMP;
 use rules::program_format::NO_TARGET;
 use rules::program_format::RECORD_BYTES;
-use rules_tables::condition_of;
+use rules_tables::Table;
 use run_slots::params::either;
+use translate_size::kinds::is_condition;
 
 // Where the next command is, the index and coerce of the sequence (1 false, 2 true), the number of the next record, and its place in the room.
 pub struct WriteState {
@@ -52,10 +54,11 @@ fn put_head(
 }
 
 // Only a condition has a target.
-fn target_of(code: usize, target: usize) -> usize
+fn target_of(table: &Table, code: usize, target: usize) -> usize
+    requires { ⌜ now table ≡ byNumber ⌝ }
     ensures { λ r. ⌜ r ≡ cond (conditionIn (rowOf code commands)) target NONE ⌝ }
 {
-    if condition_of(code) {
+    if is_condition(table, code) {
         return target;
     }
     NO_TARGET
@@ -79,26 +82,27 @@ pub fn put_jump(target: usize, state: WriteState, room: &mut [u8]) -> WriteState
 // The command of that code, whose argument stands at `at`, and which holds no sequence.
 pub fn put_command(
     s: &[u8],
+    table: &Table,
     code: usize,
     at: usize,
     target: usize,
     state: WriteState,
     room: &mut [u8],
 ) -> WriteState
-    requires { ⌜ LeafJob (now s) code at state (now room) ⌝ }
-    ensures { λ r. ⌜ ((j : LeafJob (now (s .entry)) code at state (now (room .entry))) → CommandWrote (one (state .next) (j .argument .op) (j .argument .coerce)) (j .argument .to) (j .argument .n) target state (now (room .entry)) r (now (room .exit))) ⌝ }
+    requires { ⌜ LeafJob (now s) (now table) code at state (now room) ⌝ }
+    ensures { λ r. ⌜ ((j : LeafJob (now (s .entry)) (now (table .entry)) code at state (now (room .entry))) → CommandWrote (one (state .next) (j .argument .op) (j .argument .coerce)) (j .argument .to) (j .argument .n) target state (now (room .entry)) r (now (room .exit))) ⌝ }
 {
     let a = read_one(s, code, at);
     let index = component(code, a.value, state.index);
     let start = state.to + RECORD_BYTES;
-    let end = put_argument(s, code, a, room, start);
+    let end = put_argument(s, table, code, a, room, start);
     put_head(
         room,
         state.to,
         code,
         index,
         state.next,
-        target_of(code, target),
+        target_of(table, code, target),
         end - start,
     );
     WriteState {

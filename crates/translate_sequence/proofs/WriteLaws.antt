@@ -8,7 +8,7 @@ use native.Mathlib.Omega.{arith}
 use lib.ListN.{length, length-append}
 use lib.Seq.{length-sets}
 use Rattle.rules.specs.Bytes.{Bytes, put}
-use Rattle.rules.specs.Cbor.{BYTES, ARRAY}
+use Rattle.rules.specs.Tables.{byNumber}
 use Rattle.rules.specs.Limits.{limits}
 use Rattle.rules.specs.ProgramFormat.{recordSize}
 use Rattle.rules.specs.Commands.{Op}
@@ -22,11 +22,12 @@ use Rattle.rules_theorems.proofs.FlatLaws.{bytes, sum-seq, sum-cmd}
 use Rattle.manifest_accessors.specs.Heads.{HeadAt}
 use Rattle.manifest_accessors.specs.Arguments.{isTrue, ArgumentAt}
 use Rattle.manifest_accessors.specs.Places.{SequenceAt}
-use Rattle.manifest_accessors.proofs.HeadLaws.{item-headed, number-headed}
+use Rattle.manifest_accessors.proofs.HeadLaws.{number-headed}
+use Rattle.manifest_accessors.proofs.PlaceLaws.{head-later, command-later, command-starts}
 use Rattle.manifest_accessors.proofs.ArgumentLaws.{command-one}
-use Rattle.manifest_accessors.proofs.SequencePlaces.{CommandsAt, Start, start, Turn, turn, no-more}
-use Rattle.manifest_accessors.proofs.CommandPlaces.{Coded, coded, Sub, its-sequence, Tries, its-alternatives, listOf, Alternatives, alternatives-law}
-use Rattle.manifest_accessors.proofs.TryPlaces.{AltsAt, Choice, choice}
+use Rattle.manifest_accessors.proofs.SequencePlaces.{CommandsAt, start, start-head, start-commands, Turn, turn, no-more}
+use Rattle.manifest_accessors.proofs.CommandPlaces.{Coded, coded, Sub, its-sequence, Tries, its-alternatives, listOf, Alternatives, string-head, string-fits, string-sequence}
+use Rattle.manifest_accessors.proofs.TryPlaces.{AltsAt, Choice, choice, try-head, try-places}
 use Rattle.translate_record.specs.declared.record.WriteState.{WriteState}
 use Rattle.translate_size.specs.Size.{most, SequenceHere, CommandHere}
 use Rattle.translate_record.specs.Record.{written, LeafJob, Wrote, CommandWrote, JumpWrote}
@@ -72,7 +73,8 @@ pub same-room : (a : List Rec) (state : WriteState) (room : Bytes) (now : WriteS
 same-room a state room now room′ w = ap length (w .filled) ∙ length-sets room (state .to) (written a)
 
 -- some commands as check read them, and room for their records
-pub record CommandsJob (s : Bytes) (depth k : ℕ) (state : WriteState) (room : Bytes) : Type 0 where
+pub record CommandsJob (s : Bytes) (table : List ℕ) (depth k : ℕ) (state : WriteState) (room : Bytes) : Type 0 where
+  pub rows : table ≡ byNumber
   pub n : ℕ
   pub place : CommandsAt s n depth 0 k (state .next)
   pub inside : state .index < n
@@ -82,8 +84,9 @@ pub record CommandsJob (s : Bytes) (depth k : ℕ) (state : WriteState) (room : 
   pub small : length room ≤ most
 
 -- the loop over commands: the records of the whole are those written and those of the commands that are left
-pub record Loop (s : Bytes) (depth : ℕ) (coercible : Bool) (target beyond components : ℕ) (whole : List Rec) (state : WriteState) (room₀ room : Bytes) (left : ℕ) (now : WriteState) : Type 0 where
-  pub job : CommandsJob s depth left now room
+pub record Loop (s : Bytes) (table : List ℕ) (depth : ℕ) (coercible : Bool) (target beyond components : ℕ) (whole : List Rec) (state : WriteState) (room₀ room : Bytes) (left : ℕ) (now : WriteState) : Type 0 where
+  pub job : CommandsJob s table depth left now room
+  pub behind : state .next ≤ now .next
   pub same : job .n ≡ components
   pub done : List Rec
   pub wrote : Wrote done state room₀ now room
@@ -106,13 +109,13 @@ arg-size-then : (x : Cmd) (xs : Seq) → argSize (then x xs) ≡ argSizeCmd x + 
 unfolding argSize
 arg-size-then x xs = refl
 
-module _ (s : Bytes) (depth : ℕ) (coercible : Bool) (target beyond : ℕ) where
-  pub loop-starts : (left : ℕ) (now : WriteState) (room : Bytes) (x : CommandsJob s depth left now room) →
-      Loop s depth coercible target beyond (x .n) (flatSeq (x .place .cmds) coercible (now .index) (isTrue (now .coerce)) target beyond (now .n)) now room room left now
-  loop-starts left now room x = record { job = x; same = refl; done = []; wrote = wrote-none now now room refl refl; goes = refl }
+module _ (s : Bytes) (table : List ℕ) (depth : ℕ) (coercible : Bool) (target beyond : ℕ) where
+  pub loop-starts : (left : ℕ) (now : WriteState) (room : Bytes) (x : CommandsJob s table depth left now room) →
+      Loop s table depth coercible target beyond (x .n) (flatSeq (x .place .cmds) coercible (now .index) (isTrue (now .coerce)) target beyond (now .n)) now room room left now
+  loop-starts left now room x = record { job = x; behind = omega arith; same = refl; done = []; wrote = wrote-none now now room refl refl; goes = refl }
 
   module _ (components : ℕ) (whole : List Rec) (state : WriteState) (room₀ room : Bytes) (left : ℕ) (now : WriteState)
-      (l : Loop s depth coercible target beyond components whole state room₀ room left now) where
+      (l : Loop s table depth coercible target beyond components whole state room₀ room left now) where
     pub loop-done : left ≡ 0 → Wrote whole state room₀ now room
     loop-done z =
         let e : whole ≡ l .done =
@@ -132,9 +135,10 @@ module _ (s : Bytes) (depth : ℕ) (coercible : Bool) (target beyond : ℕ) wher
       pub its-weight : argSize (l .job .place .cmds) ≡ argSizeCmd (its-turn .first .cmd) + argSize (its-turn .rest .cmds)
       its-weight = ap argSize (its-turn .cmds) ∙ arg-size-then (its-turn .first .cmd) (its-turn .rest .cmds)
 
-      abbrev pub command-job : CommandJob s depth now room
+      abbrev pub command-job : CommandJob s table depth now room
       command-job =
           record {
+            rows = l .job .rows;
             n = l .job .n;
             place = its-turn .first;
             inside = l .job .inside;
@@ -146,7 +150,7 @@ module _ (s : Bytes) (depth : ℕ) (coercible : Bool) (target beyond : ℕ) wher
 
       pub loop-goes-on : (t : ℕ) → t ≡ cond (coercible && isTrue (now .coerce)) beyond target → (r : WriteState) (room′ : Bytes) →
           CommandWrote (its-turn .first .cmd) (its-turn .first .to) (l .job .n) t now room r room′ →
-          Loop s depth coercible target beyond components whole state room₀ room′ (left - 1) r
+          Loop s table depth coercible target beyond components whole state room₀ room′ (left - 1) r
       loop-goes-on t e r room′ w =
           let x : Cmd = its-turn .first .cmd in
           let xs : Seq = its-turn .rest .cmds in
@@ -158,6 +162,7 @@ module _ (s : Bytes) (depth : ℕ) (coercible : Bool) (target beyond : ℕ) wher
           record {
             job =
                 record {
+                  rows = l .job .rows;
                   n = l .job .n;
                   place =
                       record {
@@ -176,6 +181,7 @@ module _ (s : Bytes) (depth : ℕ) (coercible : Bool) (target beyond : ℕ) wher
                   few = omega (arith, l .job .few, its-size, nn);
                   small = omega (arith, l .job .small, nl);
                 };
+            behind = omega (arith, l .behind, w .next, command-later s (l .job .n) depth 0 (now .next) (its-turn .first));
             same = l .same;
             done = l .done ++ f;
             wrote = wrote-then (l .done) f state room₀ now room now r room′ refl refl (l .wrote) (w .wrote);
@@ -188,38 +194,29 @@ module _ (s : Bytes) (depth : ℕ) (coercible : Bool) (target beyond : ℕ) wher
           }
 
 -- the records of a sequence, from its job
-module _ (s : Bytes) (depth : ℕ) (state : WriteState) (room : Bytes) (j : SequenceJob s depth state room) where
-  abbrev began : Start s (j .n) depth 0 (state .next) (j .place)
-  began = start s (j .n) depth 0 (state .next) (j .place)
-
+module _ (s : Bytes) (table : List ℕ) (depth : ℕ) (state : WriteState) (room : Bytes) (j : SequenceJob s table depth state room) where
   pub sequence-deep : 0 < depth
-  sequence-deep = began .deep
+  sequence-deep = start s (j .n) depth 0 (state .next) (j .place) .deep
 
   abbrev pub sequence-head : HeadAt s (state .next)
-  sequence-head = item-headed s ARRAY 0 (limits .sequence + limits .sequence) (j .place .e) (state .next) (began .head) (j .place .fits) (omega arith) (began .item)
+  sequence-head = start-head s (j .n) depth 0 (state .next) (j .place)
 
-  abbrev pub commands-job : (v p : ℕ) → (v ≡ sequence-head .head .num) × (p ≡ sequence-head .head .next) →
-      CommandsJob s (depth - 1) (v / 2) (record { next = p; index = state .index; coerce = 1; n = state .n; to = state .to }) room
-  commands-job v p q =
-      record {
-        n = j .n;
-        place =
-            record {
-              section = j .place .section;
-              m = j .place .m;
-              e = j .place .e;
-              fits = j .place .fits;
-              cmds = j .place .seq;
-              to = j .place .to;
-              reads = rw (q .0, q .1) (began .reads);
-              few = j .place .few;
-            };
-        inside = j .inside;
-        components = j .components;
-        enough = j .enough;
-        few = j .few;
-        small = j .small;
-      }
+  module _ (v p : ℕ) (q : (v ≡ sequence-head .head .num) × (p ≡ sequence-head .head .next)) where
+    pub commands-later : state .next < p
+    commands-later = omega (arith, q .1, head-later s (state .next) sequence-head .0)
+
+    abbrev pub commands-job : CommandsJob s table (depth - 1) (v / 2) (record { next = p; index = state .index; coerce = 1; n = state .n; to = state .to }) room
+    commands-job =
+        record {
+          rows = j .rows;
+          n = j .n;
+          place = start-commands s (j .n) depth 0 (state .next) (j .place) v p q;
+          inside = j .inside;
+          components = j .components;
+          enough = j .enough;
+          few = j .few;
+          small = j .small;
+        }
 
 -- the same place in the room
 pub wrote-at : (rs : List Rec) (state state′ : WriteState) (room : Bytes) (r r′ : WriteState) (room′ : Bytes) → state .to ≡ state′ .to → state .n ≡ state′ .n → r .to ≡ r′ .to → r .n ≡ r′ .n →
@@ -314,7 +311,9 @@ first-fits (last y) x xs e = let n : y ≡ x = cc in let (p, q) = size-last y in
 first-fits (or y b) x xs e = let n : y ≡ x = cc in let (p, q) = size-or y b in (omega (arith, p, ap size n), omega (arith, q, ap argSize n))
 
 -- the loop over alternatives: the records of the command are those written and those of the alternatives that are left
-pub record AltsLoop (s : Bytes) (depth components : ℕ) (cmd : Cmd) (to target : ℕ) (state : WriteState) (room₀ : Bytes) (z : ℕ) (room : Bytes) (k p : ℕ) (now : WriteState) : Type 0 where
+pub record AltsLoop (s : Bytes) (table : List ℕ) (depth components : ℕ) (cmd : Cmd) (to target : ℕ) (state : WriteState) (room₀ : Bytes) (z : ℕ) (room : Bytes) (k p : ℕ) (now : WriteState) : Type 0 where
+  pub rows : table ≡ byNumber
+  pub behind : state .next < p
   pub whole : Alts
   pub is : cmd ≡ try whole
   pub inside : state .index < components
@@ -330,15 +329,18 @@ pub record AltsLoop (s : Bytes) (depth components : ℕ) (cmd : Cmd) (to target 
   pub few : now .n + sizeAlts alts ≤ limits .records
   pub small : length room ≤ most
 
-module _ (s : Bytes) (depth : ℕ) (state : WriteState) (room : Bytes) (j : CommandJob s depth state room) where
+module _ (s : Bytes) (table : List ℕ) (depth : ℕ) (state : WriteState) (room : Bytes) (j : CommandJob s table depth state room) where
   abbrev pub its-code : Coded s (j .n) depth 0 (state .next) (j .place)
   its-code = coded s (j .n) depth 0 (state .next) (j .place)
 
   abbrev pub command-head : HeadAt s (state .next)
   command-head = number-headed s (j .place .e) (state .next) (its-code .code) (its-code .from) (j .place .fits) (its-code .reads)
 
-  abbrev pub command-here : CommandHere s depth (state .next)
-  command-here = record { n = j .n; place = j .place; small = omega (arith, j .enough, j .small) }
+  pub starts : state .next < length s
+  starts = command-starts s (j .n) depth 0 (state .next) (j .place)
+
+  abbrev pub command-here : CommandHere s table depth (state .next)
+  command-here = record { rows = j .rows; n = j .n; place = j .place; small = omega (arith, j .enough, j .small) }
 
   module _ (v p : ℕ) (q : (v ≡ its-code .code) × (p ≡ its-code .from)) where
     -- 30
@@ -347,10 +349,10 @@ module _ (s : Bytes) (depth : ℕ) (state : WriteState) (room : Bytes) (j : Comm
       sub-at = its-sequence s (j .n) depth 0 (state .next) (j .place) its-code p (q .1) (sym (q .0) ∙ z)
 
       abbrev pub sub-head : HeadAt s p
-      sub-head = item-headed s BYTES 0 (limits .largest) (j .place .e) p (sub-at .inside .head) (j .place .fits) (omega arith) (sub-at .inside .item)
+      sub-head = string-head s (j .n) (j .place .section) depth (j .place .m + 1) (j .place .e) p (sub-at .seq) (sub-at .inside) (j .place .fits)
 
       pub sub-fits : sub-at .inside .head .next + sub-at .inside .head .num ≤ length s
-      sub-fits = omega (arith, sub-at .inside .fits, j .place .fits)
+      sub-fits = string-fits s (j .n) (j .place .section) depth (j .place .m + 1) (j .place .e) p (sub-at .seq) (sub-at .inside) (j .place .fits)
 
       pub sub-size : sizeCmd (j .place .cmd) ≡ size (sub-at .seq)
       sub-size = ap sizeCmd (sub-at .is) ∙ size-sub (sub-at .seq)
@@ -362,25 +364,19 @@ module _ (s : Bytes) (depth : ℕ) (state : WriteState) (room : Bytes) (j : Comm
       sub-few k e = omega (arith, e, sub-size, j .few)
 
       module _ (w from : ℕ) (o : (w ≡ sub-at .inside .head .num) × (from ≡ sub-at .inside .head .next)) where
+        pub sub-later : state .next < from
+        sub-later = omega (arith, q .1, head-later s (state .next) command-head .0, o .1, head-later s p sub-head .0)
+
         abbrev pub sub-place : SequenceAt s (j .n) depth 0 from
-        sub-place =
-            record {
-              section = j .place .section;
-              m = j .place .m + 1;
-              e = sub-at .inside .head .next + sub-at .inside .head .num;
-              fits = sub-fits;
-              seq = sub-at .seq;
-              to = sub-at .inside .head .next + sub-at .inside .head .num;
-              reads = rw (o .1) (sub-at .inside .reads);
-              few = omega (arith, j .place .few);
-            }
+        sub-place = string-sequence s (j .n) (j .place .section) depth (j .place .m + 1) (j .place .e) p (sub-at .seq) (sub-at .inside) (j .place .fits) 0 from (omega arith) (o .1)
 
-        abbrev pub sub-here : SequenceHere s depth from
-        sub-here = record { n = j .n; place = sub-place; small = omega (arith, j .enough, j .small, sub-size, sub-weight) }
+        abbrev pub sub-here : SequenceHere s table depth from
+        sub-here = record { rows = j .rows; n = j .n; place = sub-place; small = omega (arith, j .enough, j .small, sub-size, sub-weight) }
 
-        abbrev pub sub-job : SequenceJob s depth (entered state from state) room
+        abbrev pub sub-job : SequenceJob s table depth (entered state from state) room
         sub-job =
             record {
+              rows = j .rows;
               n = j .n;
               place = sub-place;
               inside = j .inside;
@@ -412,9 +408,10 @@ module _ (s : Bytes) (depth : ℕ) (state : WriteState) (room : Bytes) (j : Comm
       pub one-at : OneAt
       one-at = command-one s (j .n) (j .place .section) depth (j .place .m) (j .place .e) (state .next) (j .place .cmd) (j .place .to) (j .place .fits) (j .place .reads) v p (rw (q .0, q .1) (its-code .reads)) z z′
 
-      abbrev pub leaf-job : LeafJob s v p state room
+      abbrev pub leaf-job : LeafJob s table v p state room
       leaf-job =
           record {
+            rows = j .rows;
             argument = one-at .0;
             inside = omega (arith, j .inside, one-at .1);
             components = omega (arith, j .components, one-at .1);
@@ -433,32 +430,23 @@ module _ (s : Bytes) (depth : ℕ) (state : WriteState) (room : Bytes) (j : Comm
       tries-at = its-alternatives s (j .n) depth 0 (state .next) (j .place) its-code p (q .1) (sym (q .0) ∙ y)
 
       abbrev pub tries-head : HeadAt s p
-      tries-head = item-headed s ARRAY 1 (limits .alternatives) (j .place .e) p (tries-at .head) (j .place .fits) (omega arith) (tries-at .item)
+      tries-head = try-head s (j .n) depth 0 (state .next) (j .place) p tries-at
 
       pub tries-start : (target w from z : ℕ) → (w ≡ tries-at .head .num) × (from ≡ tries-at .head .next) → (k : ℕ) → k ≡ sizeCmd (j .place .cmd) → z ≡ state .n + k →
-          AltsLoop s depth (j .n) (j .place .cmd) (j .place .to) target state room z room w from state
+          AltsLoop s table depth (j .n) (j .place .cmd) (j .place .to) target state room z room w from state
       tries-start target w from z o k e e′ =
-          let (l, size) = alternatives-law s (sequenceAt s (j .n) (j .place .section) depth) (tries-at .head .num - 1) (j .place .m + 1) (j .place .e) (tries-at .head .next) (tries-at .alts) (j .place .to) (tries-at .reads) in
           let sz : sizeCmd (j .place .cmd) ≡ sizeAlts (tries-at .alts) = ap sizeCmd (tries-at .is) ∙ size-try (tries-at .alts) in
           let wt : argSizeCmd (j .place .cmd) ≡ argSizeAlts (tries-at .alts) = ap argSizeCmd (tries-at .is) ∙ arg-size-try (tries-at .alts) in
           let zz : state .n + sizeAlts (tries-at .alts) ≡ z = omega (arith, e, e′, sz) in
           record {
+            rows = j .rows;
+            behind = omega (arith, q .1, head-later s (state .next) command-head .0, o .1, head-later s p tries-head .0);
             whole = tries-at .alts;
             is = tries-at .is;
             inside = j .inside;
             bounded = j .components;
             alts = tries-at .alts;
-            place =
-                record {
-                  section = j .place .section;
-                  m = j .place .m + 1;
-                  e = j .place .e;
-                  fits = j .place .fits;
-                  seqs = listOf (tries-at .alts);
-                  size = omega (arith, size, o .0, tries-at .some-of);
-                  reads = rw (o .1) l;
-                  few = omega (arith, j .place .few);
-                };
+            place = try-places s (j .n) depth 0 (state .next) (j .place) p tries-at w from o;
             listed = refl;
             some-left = omega (arith, o .0, tries-at .some-of);
             done = [];
@@ -472,16 +460,16 @@ module _ (s : Bytes) (depth : ℕ) (state : WriteState) (room : Bytes) (j : Comm
             small = j .small;
           }
 
-module _ (s : Bytes) (depth components : ℕ) (cmd : Cmd) (to target : ℕ) (state : WriteState) (room₀ : Bytes) (z : ℕ) (room : Bytes) (k p : ℕ) (now : WriteState)
-    (l : AltsLoop s depth components cmd to target state room₀ z room k p now) where
+module _ (s : Bytes) (table : List ℕ) (depth components : ℕ) (cmd : Cmd) (to target : ℕ) (state : WriteState) (room₀ : Bytes) (z : ℕ) (room : Bytes) (k p : ℕ) (now : WriteState)
+    (l : AltsLoop s table depth components cmd to target state room₀ z room k p now) where
   abbrev pub its-choice : Choice s components depth 0 k p to (l .place)
   its-choice = choice s components depth 0 k p to (l .place) (l .some-left)
 
   abbrev pub choice-head : HeadAt s p
-  choice-head = item-headed s BYTES 0 (limits .largest) (l .place .e) p (its-choice .inside .head) (l .place .fits) (omega arith) (its-choice .inside .item)
+  choice-head = string-head s components (l .place .section) depth (l .place .m) (l .place .e) p (its-choice .first) (its-choice .inside) (l .place .fits)
 
   pub choice-fits : its-choice .inside .head .next + its-choice .inside .head .num ≤ length s
-  choice-fits = omega (arith, its-choice .inside .fits, l .place .fits)
+  choice-fits = string-fits s components (l .place .section) depth (l .place .m) (l .place .e) p (its-choice .first) (its-choice .inside) (l .place .fits)
 
   pub choice-size : (size (its-choice .first) ≤ sizeAlts (l .alts)) × (argSize (its-choice .first) ≤ argSizeAlts (l .alts))
   choice-size = first-fits (l .alts) (its-choice .first) (its-choice .rest .seqs) (l .listed ∙ its-choice .seqs)
@@ -497,25 +485,20 @@ module _ (s : Bytes) (depth components : ℕ) (cmd : Cmd) (to target : ℕ) (sta
   choice-few h w e = let (b, a, _) = more h in omega (arith, e, l .few, ap sizeAlts a, size-or (its-choice .first) b .0)
 
   module _ (w from : ℕ) (o : (w ≡ its-choice .inside .head .num) × (from ≡ its-choice .inside .head .next)) where
+    pub choice-later : state .next < from
+    choice-later = omega (arith, l .behind, o .1, head-later s p choice-head .0)
+
     abbrev pub choice-place : SequenceAt s components depth 0 from
-    choice-place =
-        record {
-          section = l .place .section;
-          m = l .place .m;
-          e = its-choice .inside .head .next + its-choice .inside .head .num;
-          fits = choice-fits;
-          seq = its-choice .first;
-          to = its-choice .inside .head .next + its-choice .inside .head .num;
-          reads = rw (o .1) (its-choice .inside .reads);
-          few = l .place .few;
-        }
+    choice-place = string-sequence s components (l .place .section) depth (l .place .m) (l .place .e) p (its-choice .first) (its-choice .inside) (l .place .fits) 0 from (omega arith) (o .1)
 
-    abbrev pub choice-here : SequenceHere s depth from
-    choice-here = record { n = components; place = choice-place; small = omega (arith, l .enough, l .small, choice-size .0, choice-size .1) }
+    abbrev pub choice-here : SequenceHere s table depth from
+    choice-here =
+        record { rows = l .rows; n = components; place = choice-place; small = omega (arith, l .enough, l .small, choice-size .0, choice-size .1) }
 
-    abbrev pub choice-job : SequenceJob s depth (entered state from now) room
+    abbrev pub choice-job : SequenceJob s table depth (entered state from now) room
     choice-job =
         record {
+          rows = l .rows;
           n = components;
           place = choice-place;
           inside = l .inside;
@@ -541,7 +524,7 @@ module _ (s : Bytes) (depth components : ℕ) (cmd : Cmd) (to target : ℕ) (sta
           omega (arith, l .few, ap sizeAlts a, size-or (its-choice .first) b .0, wrote .n, length-seq (its-choice .first) false (state .index) false t z (now .n))
 
       pub tries-on : t ≡ now .n + size (its-choice .first) + 1 → (r′ : WriteState) (room″ : Bytes) → JumpWrote z r room′ r′ room″ →
-          AltsLoop s depth components cmd to target state room₀ z room″ (k - 1) (from + w) r′
+          AltsLoop s table depth components cmd to target state room₀ z room″ (k - 1) (from + w) r′
       tries-on e r′ room″ jumped =
           let (b, a, rest) = more h in
           let x : Seq = its-choice .first in
@@ -557,6 +540,8 @@ module _ (s : Bytes) (depth components : ℕ) (cmd : Cmd) (to target : ℕ) (sta
           let ll : length room″ ≡ length room =
           same-room (jump z ∷ []) r room′ r′ room″ (jumped .wrote) ∙ same-room f (entered state from now) room r room′ wrote in
           record {
+            rows = l .rows;
+            behind = omega (arith, choice-later);
             whole = l .whole;
             is = l .is;
             inside = l .inside;

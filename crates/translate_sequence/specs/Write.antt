@@ -1,7 +1,10 @@
 -- The records of a sequence, written to lent room.
 use Prim.Native.Nat.{ℕ, _+_, _*_, _≤_, _<_}
+use mathlib.Core.Path.{_≡_}
+use mathlib.Core.List.{List}
 use lib.ListN.{length}
 use Rattle.rules.specs.Bytes.{Bytes}
+use Rattle.rules.specs.Tables.{byNumber}
 use Rattle.rules.specs.Limits.{limits}
 use Rattle.rules.specs.ProgramFormat.{recordSize}
 use Rattle.rules.specs.Program.{size, sizeCmd}
@@ -10,8 +13,9 @@ use Rattle.manifest_accessors.specs.Places.{CommandAt, SequenceAt}
 use Rattle.translate_size.specs.Size.{most}
 use Rattle.translate_record.specs.declared.record.WriteState.{WriteState}
 
--- the sequence at the state's place as check read it, and room for its records
-pub record SequenceJob (s : Bytes) (depth : ℕ) (state : WriteState) (room : Bytes) : Type 0 where
+-- the sequence at the state's place as check read it, the lent table, and room for its records
+pub record SequenceJob (s : Bytes) (table : List ℕ) (depth : ℕ) (state : WriteState) (room : Bytes) : Type 0 where
+  pub rows : table ≡ byNumber
   pub n : ℕ
   pub place : SequenceAt s n depth 0 (state .next)
   pub inside : state .index < n
@@ -20,7 +24,8 @@ pub record SequenceJob (s : Bytes) (depth : ℕ) (state : WriteState) (room : By
   pub few : state .n + size (place .seq) ≤ limits .records
   pub small : length room ≤ most
 
-pub record CommandJob (s : Bytes) (depth : ℕ) (state : WriteState) (room : Bytes) : Type 0 where
+pub record CommandJob (s : Bytes) (table : List ℕ) (depth : ℕ) (state : WriteState) (room : Bytes) : Type 0 where
+  pub rows : table ≡ byNumber
   pub n : ℕ
   pub place : CommandAt s n depth 0 (state .next)
   pub inside : state .index < n

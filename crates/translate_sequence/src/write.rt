@@ -7,12 +7,16 @@ ghost use mathlib.Core.Bool.{false, _&&_, cond};
 ghost use Rattle.manifest_accessors.specs.Arguments.{isTrue};
 ghost use Rattle.translate_record.specs.Record.{Wrote, CommandWrote};
 ghost use Rattle.translate_sequence.specs.Write.{SequenceJob, CommandJob};
+use manifest_accessors::arguments::COERCE_FALSE;
+use manifest_accessors::arguments::COERCE_TRUE;
 use manifest_accessors::heads::open;
-use rules::codes::RUN_SEQUENCE;
-use rules::codes::TRY_EACH;
+use rules_tables::Table;
 use translate_record::record::WriteState;
 use translate_record::record::put_command;
 use translate_record::record::put_jump;
+use translate_size::kinds::holds_alternatives;
+use translate_size::kinds::holds_sequence;
+use translate_size::kinds::kind_of;
 use translate_size::sizes::size_command;
 use translate_size::sizes::size_sequence;
 
@@ -21,7 +25,7 @@ fn caught(coercible: bool, coerce: usize, beyond: usize, target: usize) -> usize
     ensures { λ r. ⌜ r ≡ cond (coercible && isTrue coerce) beyond target ⌝ }
 {
     if coercible {
-        if coerce == 2 {
+        if coerce == COERCE_TRUE {
             return beyond;
         }
     }
@@ -52,6 +56,7 @@ fn enter(state: WriteState, at: usize, now: WriteState) -> WriteState
 // The sequence at state.next: a failed condition goes on at `target`, or at `beyond` where `coercible` holds and coerce is true.
 pub fn write_sequence(
     s: &[u8],
+    table: &Table,
     depth: usize,
     coercible: bool,
     target: usize,
@@ -59,44 +64,47 @@ pub fn write_sequence(
     state: WriteState,
     room: &mut [u8],
 ) -> WriteState
-    requires { ⌜ SequenceJob (now s) depth state (now room) ⌝ }
-    ensures { λ r. ⌜ ((j : SequenceJob (now (s .entry)) depth state (now (room .entry))) → Wrote (flatSeq (j .place .seq) coercible (state .index) false target beyond (state .n)) state (now (room .entry)) r (now (room .exit))) ⌝ }
+    requires { ⌜ SequenceJob (now s) (now table) depth state (now room) ⌝ }
+    ensures { λ r. ⌜ ((j : SequenceJob (now (s .entry)) (now (table .entry)) depth state (now (room .entry))) → Wrote (flatSeq (j .place .seq) coercible (state .index) false target beyond (state .n)) state (now (room .entry)) r (now (room .exit))) ⌝ }
 {
     let h = open(s, state.next);
     let mut now = WriteState {
         next: h.next,
         index: state.index,
-        coerce: 1,
+        coerce: COERCE_FALSE,
         n: state.n,
         to: state.to,
     };
     let mut left = h.value / 2;
     while 0 < left {
         let t = caught(coercible, now.coerce, beyond, target);
-        now = write_command(s, depth - 1, t, now, room);
+        now = write_command(s, table, depth - 1, t, now, room);
         left -= 1;
     }
     now
 }
 
 // The command at state.next: a failed condition goes on at `target`.
-pub fn write_command(
+fn write_command(
     s: &[u8],
+    table: &Table,
     depth: usize,
     target: usize,
     state: WriteState,
     room: &mut [u8],
 ) -> WriteState
-    requires { ⌜ CommandJob (now s) depth state (now room) ⌝ }
-    ensures { λ r. ⌜ ((j : CommandJob (now (s .entry)) depth state (now (room .entry))) → CommandWrote (j .place .cmd) (j .place .to) (j .n) target state (now (room .entry)) r (now (room .exit))) ⌝ }
+    requires { ⌜ CommandJob (now s) (now table) depth state (now room) ⌝ }
+    ensures { λ r. ⌜ ((j : CommandJob (now (s .entry)) (now (table .entry)) depth state (now (room .entry))) → CommandWrote (j .place .cmd) (j .place .to) (j .n) target state (now (room .entry)) r (now (room .exit))) ⌝ }
 {
     let c = open(s, state.next);
     let code = c.value;
-    if code == RUN_SEQUENCE {
+    let kind = kind_of(table, code);
+    if holds_sequence(kind) {
         let b = open(s, c.next);
-        let inner = size_sequence(s, depth, b.next);
+        let inner = size_sequence(s, table, depth, b.next);
         let r = write_sequence(
             s,
+            table,
             depth,
             true,
             target,
@@ -106,8 +114,8 @@ pub fn write_command(
         );
         return enter(state, b.next + b.value, r);
     }
-    if code == TRY_EACH {
-        let whole = size_command(s, depth, state.next);
+    if holds_alternatives(kind) {
+        let whole = size_command(s, table, depth, state.next);
         let z = state.n + whole.records;
         let h = open(s, c.next);
         let mut left = h.value;
@@ -115,9 +123,10 @@ pub fn write_command(
         let mut now = state;
         while 1 < left {
             let b = open(s, p);
-            let alternative = size_sequence(s, depth, b.next);
+            let alternative = size_sequence(s, table, depth, b.next);
             now = write_sequence(
                 s,
+                table,
                 depth,
                 false,
                 now.n + alternative.records + 1,
@@ -130,8 +139,9 @@ pub fn write_command(
             left -= 1;
         }
         let b = open(s, p);
-        let r = write_sequence(s, depth, false, target, z, enter(state, b.next, now), room);
+        let last = enter(state, b.next, now);
+        let r = write_sequence(s, table, depth, false, target, z, last, room);
         return enter(state, b.next + b.value, r);
     }
-    put_command(s, code, c.next, target, state, room)
+    put_command(s, table, code, c.next, target, state, room)
 }

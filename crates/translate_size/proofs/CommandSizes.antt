@@ -1,11 +1,14 @@
 -- A command, by its code, as it is counted.
 use Prim.Native.Nat.{ℕ, _+_, _-_, _≤_, _<_}
 use mathlib.Core.Path.{_≡_, sym, ap, _∙_}
+use mathlib.Core.List.{List}
 use native.Mathlib.Omega.{arith}
 use lib.ListN.{length}
 use Rattle.rules.specs.Bytes.{Bytes}
-use Rattle.rules.specs.Cbor.{BYTES, ARRAY}
 use Rattle.rules.specs.Limits.{limits}
+use Rattle.rules.specs.Tables.{byNumber}
+use Rattle.rules.specs.declared.tables.Argument.{Argument}
+use Rattle.rules_tables.specs.Kinds.{kindOf}
 use Rattle.rules.specs.Manifest.{Cmd, one, Alts, last, or}
 use Rattle.rules.specs.Check.{sequenceAt}
 use Rattle.rules.specs.Program.{size, sizeCmd, sizeAlts}
@@ -13,10 +16,11 @@ use Rattle.rules.specs.ProgramSize.{argSize, argSizeCmd, argSizeAlts, sizeAll, 
 use Rattle.manifest_accessors.specs.declared.arguments.Args.{Args}
 use Rattle.manifest_accessors.specs.Arguments.{ArgumentAt, ArgumentRead}
 use Rattle.manifest_accessors.specs.Heads.{HeadAt}
-use Rattle.manifest_accessors.proofs.HeadLaws.{item-headed, number-headed}
+use Rattle.manifest_accessors.proofs.HeadLaws.{number-headed}
+use Rattle.manifest_accessors.proofs.PlaceLaws.{head-later, command-starts}
 use Rattle.manifest_accessors.proofs.ArgumentLaws.{command-one}
-use Rattle.manifest_accessors.proofs.CommandPlaces.{Coded, coded, Sub, its-sequence, Tries, its-alternatives, listOf, alternatives-law}
-use Rattle.manifest_accessors.proofs.TryPlaces.{AltsAt, Choice, choice, no-choice}
+use Rattle.manifest_accessors.proofs.CommandPlaces.{Coded, coded, Sub, its-sequence, Tries, its-alternatives, listOf, alternatives-law, string-head, string-fits, string-sequence}
+use Rattle.manifest_accessors.proofs.TryPlaces.{AltsAt, Choice, choice, no-choice, try-head, try-places}
 use Rattle.translate_size.specs.declared.sizes.Size.{Size}
 use Rattle.translate_size.specs.Size.{argumentSize, most, SequenceHere, CommandHere, SequenceSized, CommandSized}
 use Rattle.translate_size.proofs.ArgumentSizes.{argument-is}
@@ -32,19 +36,24 @@ arg-size-alts (last a) = omega arith
 arg-size-alts (or a b) = omega (arith, arg-size-alts b)
 
 -- the loop over alternatives: what is counted and the alternatives that are left make the whole
-pub record Choices (s : Bytes) (depth : ℕ) (cmd : Cmd) (to k : ℕ) (now : Size) : Type 0 where
+pub record Choices (s : Bytes) (table : List ℕ) (depth at : ℕ) (cmd : Cmd) (to k : ℕ) (now : Size) : Type 0 where
+  pub rows : table ≡ byNumber
   pub n : ℕ
   pub place : AltsAt s n depth 0 k (now .next) to
+  pub behind : at < now .next
   pub records : now .records + sizeAll (place .seqs) ≡ sizeCmd cmd
   pub arguments : now .arguments + argSizeAll (place .seqs) ≡ argSizeCmd cmd
   pub small : sizeCmd cmd + argSizeCmd cmd ≤ most
 
-module _ (s : Bytes) (depth at : ℕ) (j : CommandHere s depth at) where
+module _ (s : Bytes) (table : List ℕ) (depth at : ℕ) (j : CommandHere s table depth at) where
   abbrev its-code : Coded s (j .n) depth 0 at (j .place)
   its-code = coded s (j .n) depth 0 at (j .place)
 
   abbrev pub command-head : HeadAt s at
   command-head = number-headed s (j .place .e) at (its-code .code) (its-code .from) (j .place .fits) (its-code .reads)
+
+  pub starts : at < length s
+  starts = command-starts s (j .n) depth 0 at (j .place)
 
   module _ (v p : ℕ) (q : (v ≡ its-code .code) × (p ≡ its-code .from)) where
     -- 30
@@ -53,10 +62,10 @@ module _ (s : Bytes) (depth at : ℕ) (j : CommandHere s depth at) where
       sub-at = its-sequence s (j .n) depth 0 at (j .place) its-code p (q .1) (sym (q .0) ∙ z)
 
       abbrev pub sub-head : HeadAt s p
-      sub-head = item-headed s BYTES 0 (limits .largest) (j .place .e) p (sub-at .inside .head) (j .place .fits) (omega arith) (sub-at .inside .item)
+      sub-head = string-head s (j .n) (j .place .section) depth (j .place .m + 1) (j .place .e) p (sub-at .seq) (sub-at .inside) (j .place .fits)
 
       pub sub-fits : sub-at .inside .head .next + sub-at .inside .head .num ≤ length s
-      sub-fits = omega (arith, sub-at .inside .fits, j .place .fits)
+      sub-fits = string-fits s (j .n) (j .place .section) depth (j .place .m + 1) (j .place .e) p (sub-at .seq) (sub-at .inside) (j .place .fits)
 
       sub-size : sizeCmd (j .place .cmd) ≡ size (sub-at .seq)
       unfolding size
@@ -70,21 +79,15 @@ module _ (s : Bytes) (depth at : ℕ) (j : CommandHere s depth at) where
       sub-small = omega (arith, sub-size, sub-weight, j .small)
 
       module _ (w from : ℕ) (o : (w ≡ sub-at .inside .head .num) × (from ≡ sub-at .inside .head .next)) where
-        abbrev pub sub-here : SequenceHere s depth from
+        pub sub-later : at < from
+        sub-later = omega (arith, q .1, head-later s at command-head .0, o .1, head-later s p sub-head .0)
+
+        abbrev pub sub-here : SequenceHere s table depth from
         sub-here =
             record {
+              rows = j .rows;
               n = j .n;
-              place =
-                  record {
-                    section = j .place .section;
-                    m = j .place .m + 1;
-                    e = sub-at .inside .head .next + sub-at .inside .head .num;
-                    fits = sub-fits;
-                    seq = sub-at .seq;
-                    to = sub-at .inside .head .next + sub-at .inside .head .num;
-                    reads = rw (o .1) (sub-at .inside .reads);
-                    few = omega arith;
-                  };
+              place = string-sequence s (j .n) (j .place .section) depth (j .place .m + 1) (j .place .e) p (sub-at .seq) (sub-at .inside) (j .place .fits) 0 from (omega arith) (o .1);
               small = sub-small;
             }
 
@@ -109,20 +112,20 @@ module _ (s : Bytes) (depth at : ℕ) (j : CommandHere s depth at) where
       abbrev pub one-here : ArgumentAt s v p
       one-here = one-at .0
 
-      module _ (a : Args) (r : ArgumentRead s v p one-here a) where
-        one-weight : argSizeCmd (j .place .cmd) ≡ argumentSize v a
+      module _ (a : Args) (r : ArgumentRead s v p one-here a) (k : Argument) (e : k ≡ kindOf v) where
+        one-weight : argSizeCmd (j .place .cmd) ≡ argumentSize k a
         unfolding argSize
-        one-weight = ap argSizeCmd (one-at .2) ∙ sym (argument-is s v p one-here a r)
+        one-weight = ap argSizeCmd (one-at .2) ∙ sym (argument-is s v p one-here a r k e)
 
-        pub one-small : argumentSize v a ≤ most
+        pub one-small : argumentSize k a ≤ most
         one-small = omega (arith, one-weight, j .small)
 
-        pub one-sized : (n : ℕ) → n ≡ argumentSize v a → CommandSized (j .place .cmd) (j .place .to) (record { next = a .next; records = 1; arguments = n })
+        pub one-sized : (n : ℕ) → n ≡ argumentSize k a → CommandSized (j .place .cmd) (j .place .to) (record { next = a .next; records = 1; arguments = n })
         unfolding size
-        one-sized n e =
+        one-sized n i =
             record {
               records = sym (ap sizeCmd (one-at .2));
-              arguments = e ∙ sym one-weight;
+              arguments = i ∙ sym one-weight;
               next = r .next ∙ one-at .3;
             }
 
@@ -132,7 +135,7 @@ module _ (s : Bytes) (depth at : ℕ) (j : CommandHere s depth at) where
       tries-at = its-alternatives s (j .n) depth 0 at (j .place) its-code p (q .1) (sym (q .0) ∙ z)
 
       abbrev pub tries-head : HeadAt s p
-      tries-head = item-headed s ARRAY 1 (limits .alternatives) (j .place .e) p (tries-at .head) (j .place .fits) (omega arith) (tries-at .item)
+      tries-head = try-head s (j .n) depth 0 at (j .place) p tries-at
 
       tries-size : sizeCmd (j .place .cmd) ≡ sizeAlts (tries-at .alts)
       unfolding size
@@ -146,43 +149,35 @@ module _ (s : Bytes) (depth at : ℕ) (j : CommandHere s depth at) where
         pub tries-some : 1 ≤ w
         tries-some = omega (arith, o .0, tries-at .some-of)
 
-        pub choices-start : Choices s depth (j .place .cmd) (j .place .to) w (record { next = from; records = w - 1; arguments = 0 })
+        pub choices-start : Choices s table depth at (j .place .cmd) (j .place .to) w (record { next = from; records = w - 1; arguments = 0 })
         choices-start =
-            let (l, many) = alternatives-law s (sequenceAt s (j .n) (j .place .section) depth) (tries-at .head .num - 1) (j .place .m + 1) (j .place .e) (tries-at .head .next) (tries-at .alts) (j .place .to) (tries-at .reads) in
+            let many = alternatives-law s (sequenceAt s (j .n) (j .place .section) depth) (tries-at .head .num - 1) (j .place .m + 1) (j .place .e) (tries-at .head .next) (tries-at .alts) (j .place .to) (tries-at .reads) .1 in
             record {
+              rows = j .rows;
               n = j .n;
-              place =
-                  record {
-                    section = j .place .section;
-                    m = j .place .m + 1;
-                    e = j .place .e;
-                    fits = j .place .fits;
-                    seqs = listOf (tries-at .alts);
-                    size = omega (arith, many, o .0, tries-at .some-of);
-                    reads = rw (o .1) l;
-                    few = omega arith;
-                  };
+              place = try-places s (j .n) depth 0 at (j .place) p tries-at w from o;
+              behind = omega (arith, q .1, head-later s at command-head .0, o .1, head-later s p tries-head .0);
               records = omega (arith, tries-size, size-alts (tries-at .alts), many, o .0, tries-at .some-of);
               arguments = omega (arith, tries-weight, arg-size-alts (tries-at .alts));
               small = j .small;
             }
 
-module _ (s : Bytes) (depth : ℕ) (cmd : Cmd) (to k : ℕ) (now : Size) (l : Choices s depth cmd to k now) where
+module _ (s : Bytes) (table : List ℕ) (depth at : ℕ) (cmd : Cmd) (to k : ℕ) (now : Size) (l : Choices s table depth at cmd to k now) where
   pub choices-done : k ≡ 0 → CommandSized cmd to now
   unfolding sizeAll argSizeAll
   choices-done z =
-      let (e, at) = no-choice s (l .n) depth 0 k (now .next) to (l .place) z in
-      record { records = omega (arith, l .records, ap sizeAll e); arguments = omega (arith, l .arguments, ap argSizeAll e); next = at }
+      let (e, end) = no-choice s (l .n) depth 0 k (now .next) to (l .place) z in
+      record { records = omega (arith, l .records, ap sizeAll e); arguments = omega (arith, l .arguments, ap argSizeAll e); next = end }
 
   module _ (h : 0 < k) where
     abbrev its-choice : Choice s (l .n) depth 0 k (now .next) to (l .place)
     its-choice = choice s (l .n) depth 0 k (now .next) to (l .place) h
 
     abbrev pub choice-head : HeadAt s (now .next)
-    choice-head = item-headed s BYTES 0 (limits .largest) (l .place .e) (now .next) (its-choice .inside .head) (l .place .fits) (omega arith) (its-choice .inside .item)
+    choice-head = string-head s (l .n) (l .place .section) depth (l .place .m) (l .place .e) (now .next) (its-choice .first) (its-choice .inside) (l .place .fits)
 
     pub choice-fits : its-choice .inside .head .next + its-choice .inside .head .num ≤ length s
-    choice-fits = omega (arith, its-choice .inside .fits, l .place .fits)
+    choice-fits = string-fits s (l .n) (l .place .section) depth (l .place .m) (l .place .e) (now .next) (its-choice .first) (its-choice .inside) (l .place .fits)
 
     sum : sizeAll (l .place .seqs) ≡ size (its-choice .first) + sizeAll (its-choice .rest .seqs)
     unfolding sizeAll
@@ -196,21 +191,15 @@ module _ (s : Bytes) (depth : ℕ) (cmd : Cmd) (to k : ℕ) (now : Size) (l : Ch
     choice-small = omega (arith, sum, weight, l .records, l .arguments, l .small)
 
     module _ (w from : ℕ) (o : (w ≡ its-choice .inside .head .num) × (from ≡ its-choice .inside .head .next)) where
-      abbrev pub choice-here : SequenceHere s depth from
+      pub choice-later : at < from
+      choice-later = omega (arith, l .behind, o .1, head-later s (now .next) choice-head .0)
+
+      abbrev pub choice-here : SequenceHere s table depth from
       choice-here =
           record {
+            rows = l .rows;
             n = l .n;
-            place =
-                record {
-                  section = l .place .section;
-                  m = l .place .m;
-                  e = its-choice .inside .head .next + its-choice .inside .head .num;
-                  fits = choice-fits;
-                  seq = its-choice .first;
-                  to = its-choice .inside .head .next + its-choice .inside .head .num;
-                  reads = rw (o .1) (its-choice .inside .reads);
-                  few = omega arith;
-                };
+            place = string-sequence s (l .n) (l .place .section) depth (l .place .m) (l .place .e) (now .next) (its-choice .first) (its-choice .inside) (l .place .fits) 0 from (omega arith) (o .1);
             small = choice-small;
           }
 
@@ -219,10 +208,11 @@ module _ (s : Bytes) (depth : ℕ) (cmd : Cmd) (to k : ℕ) (now : Size) (l : Ch
         choices-small =
             (omega (arith, sum, l .records, l .small, sized .records), omega (arith, weight, l .arguments, l .small, sized .arguments))
 
-        pub choices-on : Choices s depth cmd to (k - 1) (record { next = from + w; records = now .records + r .records; arguments = now .arguments + r .arguments })
+        pub choices-on : Choices s table depth at cmd to (k - 1) (record { next = from + w; records = now .records + r .records; arguments = now .arguments + r .arguments })
         choices-on =
             let t = its-choice in
             record {
+              rows = l .rows;
               n = l .n;
               place =
                   record {
@@ -235,6 +225,7 @@ module _ (s : Bytes) (depth : ℕ) (cmd : Cmd) (to k : ℕ) (now : Size) (l : Ch
                     reads = rw (o .0, o .1) (t .rest .reads);
                     few = omega arith;
                   };
+              behind = omega (arith, choice-later);
               records = omega (arith, sum, l .records, sized .records);
               arguments = omega (arith, weight, l .arguments, sized .arguments);
               small = l .small;

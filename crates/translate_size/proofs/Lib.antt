@@ -1,3 +1,4 @@
+pub mod KindTests
 pub mod ArgumentSizes
 pub mod SequenceSizes
 pub mod CommandSizes

@@ -1,2 +1,3 @@
 // The sizes of the records of an accepted envelope's sequences.
+pub mod kinds;
 pub mod sizes;

@@ -2,17 +2,18 @@
 ghost use mathlib.Core.Path.{_≡_};
 ghost use Prim.Native.Nat.{_≤_};
 ghost use Rattle.translate_size.specs.Size.{parametersSize, argumentSize, most, SequenceHere, CommandHere, SequenceSized, CommandSized};
+use crate::kinds::holds_alternatives;
+use crate::kinds::holds_sequence;
+use crate::kinds::kind_of;
 use manifest_accessors::arguments::Args;
 use manifest_accessors::arguments::read_one;
 use manifest_accessors::heads::open;
-use rules::codes::RUN_SEQUENCE;
-use rules::codes::TRY_EACH;
 use rules::controller::Controller;
 use rules::program_format::ENTRY_BYTES;
 use rules::program_format::SIZE_BYTES;
 use rules::program_format::SOURCE_BYTES;
 use rules::tables::Argument;
-use rules_tables::argument_of;
+use rules_tables::Table;
 use run_slots::params::either;
 
 // The bytes of a source, a digest and a size, each with its key and length.
@@ -43,12 +44,12 @@ fn parameters_size(a: Args) -> usize
     text + uri + source + digest + size
 }
 
-// How many bytes the argument of a command has in its record, by its kind in the table.
-pub fn argument_size(code: usize, a: Args) -> usize
-    requires { ⌜ argumentSize code a ≤ most ⌝ }
-    ensures { λ r. ⌜ r ≡ argumentSize code a ⌝ }
+// How many bytes an argument of that kind has in its record.
+fn argument_size(kind: Argument, a: Args) -> usize
+    requires { ⌜ argumentSize kind a ≤ most ⌝ }
+    ensures { λ r. ⌜ r ≡ argumentSize kind a ⌝ }
 {
-    match argument_of(code) {
+    match kind {
         Argument::Sixteen => Controller::CLASS_BYTES,
         Argument::Parameters => parameters_size(a),
         Argument::Nil => 0,
@@ -59,9 +60,9 @@ pub fn argument_size(code: usize, a: Args) -> usize
 }
 
 // The sequence at `at`; it and those in it may be `depth` deep.
-pub fn size_sequence(s: &[u8], depth: usize, at: usize) -> Size
-    requires { ⌜ SequenceHere (now s) depth at ⌝ }
-    ensures { λ r. ⌜ ((j : SequenceHere (now (s .entry)) depth at) → SequenceSized (j .place .seq) r) ⌝ }
+pub fn size_sequence(s: &[u8], table: &Table, depth: usize, at: usize) -> Size
+    requires { ⌜ SequenceHere (now s) (now table) depth at ⌝ }
+    ensures { λ r. ⌜ ((j : SequenceHere (now (s .entry)) (now (table .entry)) depth at) → SequenceSized (j .place .seq) r) ⌝ }
 {
     let h = open(s, at);
     let mut now = Size {
@@ -71,7 +72,7 @@ pub fn size_sequence(s: &[u8], depth: usize, at: usize) -> Size
     };
     let mut left = h.value / 2;
     while 0 < left {
-        let c = size_command(s, depth - 1, now.next);
+        let c = size_command(s, table, depth - 1, now.next);
         now = Size {
             next: c.next,
             records: now.records + c.records,
@@ -83,22 +84,23 @@ pub fn size_sequence(s: &[u8], depth: usize, at: usize) -> Size
 }
 
 // The command at `at`; the sequences that it holds may be `depth` deep.
-pub fn size_command(s: &[u8], depth: usize, at: usize) -> Size
-    requires { ⌜ CommandHere (now s) depth at ⌝ }
-    ensures { λ r. ⌜ ((j : CommandHere (now (s .entry)) depth at) → CommandSized (j .place .cmd) (j .place .to) r) ⌝ }
+pub fn size_command(s: &[u8], table: &Table, depth: usize, at: usize) -> Size
+    requires { ⌜ CommandHere (now s) (now table) depth at ⌝ }
+    ensures { λ r. ⌜ ((j : CommandHere (now (s .entry)) (now (table .entry)) depth at) → CommandSized (j .place .cmd) (j .place .to) r) ⌝ }
 {
     let c = open(s, at);
     let code = c.value;
-    if code == RUN_SEQUENCE {
+    let kind = kind_of(table, code);
+    if holds_sequence(kind) {
         let b = open(s, c.next);
-        let r = size_sequence(s, depth, b.next);
+        let r = size_sequence(s, table, depth, b.next);
         return Size {
             next: b.next + b.value,
             records: r.records,
             arguments: r.arguments,
         };
     }
-    if code == TRY_EACH {
+    if holds_alternatives(kind) {
         let h = open(s, c.next);
         let mut left = h.value;
         // each alternative but the last has a jump after it
@@ -109,7 +111,7 @@ pub fn size_command(s: &[u8], depth: usize, at: usize) -> Size
         };
         while 0 < left {
             let b = open(s, now.next);
-            let r = size_sequence(s, depth, b.next);
+            let r = size_sequence(s, table, depth, b.next);
             now = Size {
                 next: b.next + b.value,
                 records: now.records + r.records,
@@ -123,6 +125,6 @@ pub fn size_command(s: &[u8], depth: usize, at: usize) -> Size
     Size {
         next: a.next,
         records: 1,
-        arguments: argument_size(code, a),
+        arguments: argument_size(kind, a),
     }
 }

@@ -8,44 +8,44 @@ use Rattle.translate.proofs.sections.size_sections.Statement.{statement
 use Rattle.translate.proofs.sections.size_sections.Tie as tie
 
 abbrev Inv-loop : tie.InvT-loop
-Inv-loop s group sections now₀ k₀ now k = (j : SectionsHere s sections) → Sizing s group sections j k now
+Inv-loop s table group sections now₀ k₀ now k = (j : SectionsHere s table sections) → Sizing s table group sections j k now
 
 abbrev μ-loop : tie.MeasureT-loop
-μ-loop s group sections now₀ k₀ now k = sectionCount - k
+μ-loop s table group sections now₀ k₀ now k = sectionCount - k
 
 start : tie.Need-loop-holds Inv-loop μ-loop
-start c j = sizing-starts _ _ _ j
+start c j = sizing-starts _ _ _ _ j
 
 section : tie.Need-size-section-requires Inv-loop μ-loop
 section c κs t =
     let j = c .before .before .before .before .before .before .pre in
-    sizing-job _ _ _ j _ _ (c .before .before .before .before .loop .inv j) (c .before .before .before .loop-test .taken) _ (c .wanted .ensures) t
+    sizing-job _ _ _ _ j _ _ (c .before .before .before .before .loop .inv j) (c .before .before .before .loop-test .taken) _ (c .wanted .ensures) t
 
-records : tie.Need-add-t17 Inv-loop μ-loop
+records : tie.Need-add-t18 Inv-loop μ-loop
 records c =
     let j = c .before .before .before .before .before .before .before .before .before .pre in
     omega (
       arith,
-      sizing-adds _ _ _ j _ _ (c .before .before .before .before .before .before .before .loop .inv j) (c .before .before .before .before .before .before .loop-test .taken) _
+      sizing-adds _ _ _ _ j _ _ (c .before .before .before .before .before .before .before .loop .inv j) (c .before .before .before .before .before .before .loop-test .taken) _
           (c .before .before .before .wanted .ensures) _ (c .before .before .size-section .ensures .0) (c .before .before .size-section .ensures .1) .0,
     )
 
-arguments : tie.Need-add-t10 Inv-loop μ-loop
+arguments : tie.Need-add-t11 Inv-loop μ-loop
 arguments c =
     let j = c .before .before .before .before .before .before .before .before .before .before .before .pre in
     omega (
       arith,
-      sizing-adds _ _ _ j _ _ (c .before .before .before .before .before .before .before .before .before .loop .inv j) (c .before .before .before .before .before .before .before .before .loop-test .taken) _
+      sizing-adds _ _ _ _ j _ _ (c .before .before .before .before .before .before .before .before .before .loop .inv j) (c .before .before .before .before .before .before .before .before .loop-test .taken) _
           (c .before .before .before .before .before .wanted .ensures) _ (c .before .before .before .before .size-section .ensures .0) (c .before .before .before .before .size-section .ensures .1) .1,
     )
 
 again : tie.Need-loop-again Inv-loop μ-loop
 again c j =
-    sizing-on _ _ _ j _ _ (c .before .before .before .before .before .before .before .before .before .loop .inv j) (c .before .before .before .before .before .before .before .before .loop-test .taken) _
+    sizing-on _ _ _ _ j _ _ (c .before .before .before .before .before .before .before .before .before .loop .inv j) (c .before .before .before .before .before .before .before .before .loop-test .taken) _
     (c .before .before .before .before .before .wanted .ensures) _ (c .before .before .before .before .size-section .ensures .0) (c .before .before .before .before .size-section .ensures .1)
 
 returns : tie.Need-returns Inv-loop μ-loop
-returns c j = sizing-done _ _ _ j _ _ (c .before .loop .inv j) (c .loop-test .left)
+returns c j = sizing-done _ _ _ _ j _ _ (c .before .loop .inv j) (c .loop-test .left)
 
 pub size-sections-spec : {M : Type 1} → statement M
 size-sections-spec =

@@ -10,30 +10,30 @@ use Rattle.translate.proofs.sections.write_sections.Statement.{statemen
 use Rattle.translate.proofs.sections.write_sections.Tie as tie
 
 abbrev Inv-loop : tie.InvT-loop
-Inv-loop s group sections to room₀ now₀ k₀ room now k =
+Inv-loop s table group sections to room₀ now₀ k₀ room now k =
     (length room ≡ length room₀)
-    × ((j : SectionsJob s group sections to room₀) → Writing s group sections (j .here) (record { next = 0; index = 0; coerce = 1; n = 0; to = to }) room₀ room k now)
+    × ((j : SectionsJob s table group sections to room₀) → Writing s table group sections (j .here) (record { next = 0; index = 0; coerce = 1; n = 0; to = to }) room₀ room k now)
 
 abbrev μ-loop : tie.MeasureT-loop
-μ-loop s group sections to room₀ now₀ k₀ room now k = sectionCount - k
+μ-loop s table group sections to room₀ now₀ k₀ room now k = sectionCount - k
 
 start : tie.Need-loop-holds Inv-loop μ-loop
-start c = (refl, λ j. writing-starts _ _ _ (j .here) _ _ refl (j .enough) (j .small))
+start c = (refl, λ j. writing-starts _ _ _ _ (j .here) _ _ refl (j .enough) (j .small))
 
 section : tie.Need-write-section-requires Inv-loop μ-loop
 section c κs t =
     let j = c .before .before .before .before .before .before .before .before .pre in
-    writing-job _ _ _ (j .here) _ _ _ _ _ (c .before .before .before .before .before .loop .inv .1 j) (c .before .before .before .before .loop-test .taken) _ (c .before .wanted .ensures) t
+    writing-job _ _ _ _ (j .here) _ _ _ _ _ (c .before .before .before .before .before .loop .inv .1 j) (c .before .before .before .before .loop-test .taken) _ (c .before .wanted .ensures) t
 
 again : tie.Need-loop-again Inv-loop μ-loop
 again c = (
   search needs,
-  λ j. writing-on _ _ _ (j .here) _ _ _ _ _ (c .before .before .before .before .before .before .before .before .loop .inv .1 j) (c .before .before .before .before .before .before .before .loop-test .taken) _
+  λ j. writing-on _ _ _ _ (j .here) _ _ _ _ _ (c .before .before .before .before .before .before .before .before .loop .inv .1 j) (c .before .before .before .before .before .before .before .loop-test .taken) _
       (c .before .before .before .before .wanted .ensures) _ _ (c .before .before .write-section .ensures .0) (c .before .before .write-section .ensures .1),
 )
 
 returns : tie.Need-returns Inv-loop μ-loop
-returns c j = writing-done _ _ _ (j .here) _ _ _ _ _ (c .before .loop .inv .1 j) (c .loop-test .left)
+returns c j = writing-done _ _ _ _ (j .here) _ _ _ _ _ (c .before .loop .inv .1 j) (c .loop-test .left)
 
 pub write-sections-spec : {M : Type 1} → statement M
 write-sections-spec =

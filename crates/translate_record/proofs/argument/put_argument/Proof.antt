@@ -14,46 +14,46 @@ copies : tie.Need-copy-requires
 copies c κs =
     let d = c .before .before .before .before .before .before in
     let a = d .args .a in
-    let (_, _, v, _, l) = d .pre in
-    let k = sixteen-codes _ (sym (c .before .before .before .argument-of .ensures) ∙ c .before .enum-told .given .1) in
+    let (_, _, v, _, l, _) = d .pre in
+    let k = sixteen-codes _ (sym (c .before .before .before .kind-of .ensures) ∙ c .before .enum-told .given .1) in
     let inside = v (⊎-elim (λ i. omega arith) (λ i. omega arith) k) in
     (inside, omega (arith, length-part (d .args .s .now) (a .value) 16 inside, rw (sixteen-bytes _ _ _ _ k) at l))
 
 puts : tie.Need-put-parameters-requires
 puts c κs =
     let d = c .before .before .before .before .before .before in
-    let (w, f, _, _, l) = d .pre in
-    (w, f, rw (params-bytes _ _ _ _ (parameter-codes _ (sym (c .before .before .before .argument-of .ensures) ∙ c .before .enum-told2 .given .1))) at l)
+    let (w, f, _, _, l, _) = d .pre in
+    (w, f, rw (params-bytes _ _ _ _ (parameter-codes _ (sym (c .before .before .before .kind-of .ensures) ∙ c .before .enum-told2 .given .1))) at l)
 
 sixteen : tie.Need-returns
 sixteen c =
     let d = c .before .before .before .before .before .before .before .before .before in
-    let (_, _, v, _, l) = d .pre in
-    let k = sixteen-codes _ (sym (c .before .before .before .before .before .before .argument-of .ensures) ∙ c .before .before .before .before .enum-told .given .1) in
+    let (_, _, v, _, l, _) = d .pre in
+    let k = sixteen-codes _ (sym (c .before .before .before .before .before .before .kind-of .ensures) ∙ c .before .before .before .before .enum-told .given .1) in
     sixteen-filled (d .args .s .now) _ (d .args .a .value) (paramsOf (d .args .a)) k (v (⊎-elim (λ i. omega arith) (λ i. omega arith) k)) _ _ _ (c .before .before .copy .ensures)
 
 parameters : tie.Need-returns-2
 parameters c =
-    rw (params-bytes _ _ _ _ (parameter-codes _ (sym (c .before .before .before .before .before .before .argument-of .ensures) ∙ c .before .before .before .before .enum-told2 .given .1))) (c .before .before .put-parameters .ensures)
+    rw (params-bytes _ _ _ _ (parameter-codes _ (sym (c .before .before .before .before .before .before .kind-of .ensures) ∙ c .before .before .before .before .enum-told2 .given .1))) (c .before .before .put-parameters .ensures)
 
 nil : tie.Need-returns-3
 nil c =
-    let (f, g) = nil-codes _ (sym (c .before .before .argument-of .ensures) ∙ c .enum-told3 .given .1) in
+    let (f, g) = nil-codes _ (sym (c .before .before .kind-of .ensures) ∙ c .enum-told3 .given .1) in
     rw (no-bytes _ _ (c .before .before .before .before .before .pre .3) f g) (filled-none _ _)
 
 index : tie.Need-returns-4
 index c =
-    let (f, g) = index-codes _ (sym (c .before .before .argument-of .ensures) ∙ c .enum-told4 .given .1) in
+    let (f, g) = index-codes _ (sym (c .before .before .kind-of .ensures) ∙ c .enum-told4 .given .1) in
     rw (no-bytes _ _ (c .before .before .before .before .before .pre .3) f g) (filled-none _ _)
 
 alternatives : tie.Need-returns-5
 alternatives c =
-    let (f, g) = alternative-codes _ (sym (c .before .before .argument-of .ensures) ∙ c .enum-told5 .given .1) in
+    let (f, g) = alternative-codes _ (sym (c .before .before .kind-of .ensures) ∙ c .enum-told5 .given .1) in
     rw (no-bytes _ _ (c .before .before .before .before .before .pre .3) f g) (filled-none _ _)
 
 sequence : tie.Need-returns-6
 sequence c =
-    let (f, g) = sequence-codes _ (sym (c .before .before .argument-of .ensures) ∙ c .enum-told6 .given .1) in
+    let (f, g) = sequence-codes _ (sym (c .before .before .kind-of .ensures) ∙ c .enum-told6 .given .1) in
     rw (no-bytes _ _ (c .before .before .before .before .before .pre .3) f g) (filled-none _ _)
 
 pub put-argument-spec : {M : Type 1} → statement M

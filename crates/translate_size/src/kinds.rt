@@ -1,0 +1,60 @@
+// What stands after a command's code, by the lent table.
+ghost use mathlib.Core.Path.{_≡_};
+ghost use Rattle.rules.specs.Commands.{commands, rowOf, conditionIn};
+ghost use Rattle.rules.specs.Tables.{byNumber};
+ghost use Rattle.rules_tables.specs.Kinds.{kindOf};
+ghost use Rattle.translate_size.specs.Kinds.{isSequence, isAlternatives};
+use rules::tables::Argument;
+use rules::tables::Listed;
+use rules_tables::Table;
+use rules_tables::look_up;
+
+// The kind of the argument; nil where the code is not listed.
+pub fn kind_of(table: &Table, code: usize) -> Argument
+    requires { ⌜ now table ≡ byNumber ⌝ }
+    ensures { λ r. ⌜ r ≡ kindOf code ⌝ }
+{
+    let row = look_up(table, code);
+    match row {
+        Listed::Command(command) => command.argument,
+        Listed::Unlisted => Argument::Nil,
+    }
+}
+
+// Whether the command is a condition; false where the code is not listed.
+pub fn is_condition(table: &Table, code: usize) -> bool
+    requires { ⌜ now table ≡ byNumber ⌝ }
+    ensures { λ r. ⌜ r ≡ conditionIn (rowOf code commands) ⌝ }
+{
+    let row = look_up(table, code);
+    match row {
+        Listed::Command(command) => command.condition,
+        Listed::Unlisted => false,
+    }
+}
+
+pub fn holds_sequence(kind: Argument) -> bool
+    ensures { λ r. ⌜ r ≡ isSequence kind ⌝ }
+{
+    match kind {
+        Argument::Sequence => true,
+        Argument::Sixteen => false,
+        Argument::Parameters => false,
+        Argument::Nil => false,
+        Argument::Index => false,
+        Argument::Alternatives => false,
+    }
+}
+
+pub fn holds_alternatives(kind: Argument) -> bool
+    ensures { λ r. ⌜ r ≡ isAlternatives kind ⌝ }
+{
+    match kind {
+        Argument::Alternatives => true,
+        Argument::Sixteen => false,
+        Argument::Parameters => false,
+        Argument::Nil => false,
+        Argument::Index => false,
+        Argument::Sequence => false,
+    }
+}
