@@ -3,22 +3,17 @@ use borrow.Author.Needs.{needs}
 use Rattle.rules.proofs.answers.End.of.Statement.{statement}
 use Rattle.rules.proofs.answers.End.of.Tie as tie
 
-of-requires : tie.Need-of-requires
-of-requires c κs = search needs
-
-returns : tie.Need-returns
-returns c = rw (c .match .keys1)
-
-returns-2 : tie.Need-returns-2
-returns-2 c = rw (c .match .keys2)
-
-returns-3 : tie.Need-returns-3
-returns-3 c = rw (c .match .keys3)
-
 returns-4 : tie.Need-returns-4
 returns-4 c =
     let (((u, a1), a2), a3) = c .before .match .rest in
     rw (c .of .ensures) (simp (ne-eqb _ _ a1, ne-eqb _ _ a2, ne-eqb _ _ a3))
 
 pub of-spec : {M : Type 1} → statement M
-of-spec = tie.close (tie.spec of-requires returns returns-2 returns-3 returns-4)
+of-spec =
+    tie.close
+    (tie.spec
+    (λ c κs. search needs)
+    (λ c. rw (c .match .keys1))
+    (λ c. rw (c .match .keys2))
+    (λ c. rw (c .match .keys3))
+    returns-4)
