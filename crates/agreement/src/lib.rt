@@ -3,8 +3,8 @@ ghost use Rattle.agreement.specs.Agreement.{Agreed};
 use program_run::run_program;
 use rules::answers::Group;
 use rules::controller::Controller;
-use run_admission::answer::Answer;
 use run_admission::answer::Outcome;
+use run_admission::answer::refused;
 use run_envelope::run;
 use translate::Translated;
 use translate::translate;
@@ -36,10 +36,7 @@ pub fn agree(
     match translated {
         Translated::Refused(refusal, at) => Agreement {
             translated: Translated::Refused(refusal, at),
-            program: Outcome {
-                answer: Answer::Refused(refusal, at),
-                number: device.number,
-            },
+            program: refused(refusal, at, device),
             envelope,
         },
         Translated::Program(n) => {

@@ -12,14 +12,14 @@ fits : tie.Need-part-run-program-end
 fits c =
     let a = c .before .before .before .before .before .before .before .before .before .before .before .before .before .before .before .before .before .before .before .before .before .before .args in
     let t = c .before .before .before .before .before .before .translate in
-    written (translate (a .s .now) (a .group) (length (a .room .now))) _ (a .room .now) (t .last .1 .1 .0) _ (t .ensures) (c .before .before .translated2 .given .1) .fits
+    omega (arith, written (translate (a .s .now) (a .group) (length (a .room .now))) _ (a .room .now) (t .last .1 .1 .0) _ (t .ensures) (c .before .before .translated2 .given .1) .fits)
 
-refused : tie.Need-returns
-refused c =
-    let a = c .before .before .before .before .before .before .before .before .before .before .before .before .before .before .before .before .before .before .before .before .before .args in
-    let t = c .before .before .before .before .before .translate in
+not-translated : tie.Need-returns
+not-translated c =
+    let a = c .before .before .before .before .before .before .before .before .before .before .before .before .before .before .before .before .before .before .before .before .before .before .args in
+    let t = c .before .before .before .before .before .before .translate in
     refused-agrees (a .s .now) (a .group) (a .verdict) (a .device) (a .answers .now) (a .room .now) (t .last .1 .1 .0) (a .pslots .now) (a .ptrace .now) (a .eslots .now) _ (a .etrace .now) _ _
-    (c .before .before .before .before .before .before .before .before .before .before .before .run .ensures) _ _ _ (c .before .translated .given .1) (t .ensures)
+    (c .before .before .before .before .before .before .before .before .before .before .before .before .run .ensures) _ _ _ (c .before .before .translated .given .1) (t .ensures) _ (c .refused .ensures)
 
 ran : tie.Need-returns-2
 ran c =
@@ -36,6 +36,7 @@ agree-spec =
     (λ c κs. search needs)
     (λ c κs. search needs)
     (λ c. search needs)
+    (λ c κs. search needs)
     (λ c. search needs)
     (λ c. search needs)
     (λ c. search needs)
@@ -44,7 +45,7 @@ agree-spec =
     (λ c. search needs)
     (λ c. search needs)
     (λ c. search needs)
-    refused
+    not-translated
     (λ c. search needs)
     (λ c. search needs)
     (λ c. search needs)
