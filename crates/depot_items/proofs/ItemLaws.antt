@@ -1,14 +1,19 @@
 -- Items by their heads.
 use Prim.Native.Nat.{ℕ, _+_, _≤_, _<_}
-use mathlib.Core.Path.{_≡_}
+use mathlib.Core.Path.{_≡_, refl, sym, ap, _∙_}
 use mathlib.Core.Logic.{_⊎_}
-use lib.ListN.{length}
+use lib.ListN.{length, take}
+use lib.Seq.{length-take-le}
 use borrow.Author.Tests.{lt-ltb, le-ltb, le-leb, lt-leb, eq-eqb, ne-eqb}
 use native.Mathlib.Omega.{arith}
 use Rattle.rules.specs.Bytes.{Bytes}
-use Rattle.rules.specs.Got.{Got}
+use Rattle.rules.specs.Got.{Got, refused, got}
 use Rattle.rules.specs.Cbor.{Head, head, BYTES, TEXT, after}
+use Rattle.rules.proofs.AnswerLaws.{not-zero}
+use Rattle.rules.proofs.CheckLaws.{head-bounds}
 use Rattle.rules.proofs.CborLaws.{after-string, after-other}
+use Rattle.cbor.specs.declared.reader.Read.{Read}
+use Rattle.cbor.specs.Read.{readOf}
 use Rattle.depot_items.specs.Items.{nothing, held, seen, itemAt, itemOf}
 
 held-past : (e : ℕ) (h : Head) → e < after h → held e h ≡ nothing e
@@ -35,9 +40,33 @@ module _ (s : Bytes) (e at : ℕ) where
   unfolding itemAt
   item-outside l = rw (lt-ltb (length s) e l)
 
-  pub item-read : (x : Got Head) → e ≤ length s → x ≡ head s e at → itemAt s e at ≡ seen e x
-  unfolding itemAt
-  item-read x l q = rw (le-ltb (length s) e l, ← q)
+  -- what a reader of the bytes before e reads
+  module _ (l : e ≤ length s) (r : Read) (q : r ≡ readOf (head (take e s) (length (take e s)) at)) where
+    by : r ≡ readOf (head (take e s) e at)
+    by = rw (length-take-le e s l) at q
+
+    pub item-read : r .refusal ≡ 0 → itemAt s e at ≡ held e (record { kind = r .kind; num = r .number; next = r .next })
+    unfolding itemAt seen
+    item-read z = rw (le-ltb (length s) e l, by) (go (head (take e s) e at) (ap (λ (x : Read). x .refusal) (sym by) ∙ z))
+      where
+        go : (g : Got Head) → readOf g .refusal ≡ 0 → seen e g ≡ held e (record { kind = readOf g .kind; num = readOf g .number; next = readOf g .next })
+        go (refused k p) h = absurd (not-zero k h)
+        go (got h) _ = refl
+
+    pub item-unread : (r .refusal ≡ 0 → ⊥) → itemAt s e at ≡ nothing e
+    unfolding itemAt seen
+    item-unread z = rw (le-ltb (length s) e l) (go (head (take e s) e at) (λ y. z (ap (λ (x : Read). x .refusal) by ∙ y)))
+      where
+        go : (g : Got Head) → (readOf g .refusal ≡ 0 → ⊥) → seen e g ≡ nothing e
+        go (refused k p) _ = refl
+        go (got h) n = absurd (n refl)
+
+    pub item-next : r .refusal ≡ 0 → r .next ≤ e
+    item-next z = rw by (go (head (take e s) e at) refl (ap (λ (x : Read). x .refusal) (sym by) ∙ z))
+      where
+        go : (g : Got Head) → head (take e s) e at ≡ g → readOf g .refusal ≡ 0 → readOf g .next ≤ e
+        go (refused k p) _ h = absurd (not-zero k h)
+        go (got h) y _ = head-bounds (take e s) e at h y .1
 
   pub item-wanted : (kind : ℕ) → itemAt s e at .kind ≡ kind → itemOf s e at kind ≡ itemAt s e at
   unfolding itemOf

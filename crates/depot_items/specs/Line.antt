@@ -5,6 +5,7 @@ use mathlib.Core.List.{[], _∷_, _++_}
 use lib.Dec.{eqb, ltb}
 use lib.ListN.{length, replicate}
 use Rattle.rules.specs.Bytes.{Bytes, part}
+use Rattle.rules.specs.Limits.{limits}
 use Rattle.rules.specs.Cbor.{NUMBER, BYTES, TEXT, ARRAY, MAP, FALSE, TRUE, NIL}
 use Rattle.text.specs.Text.{ascii, decimal, padded, hex, quoted}
 use Rattle.text.specs.Pieces.{labelled, counted, coded}
@@ -18,9 +19,9 @@ newline = 10 ∷ []
 abbrev pub mark : Bytes
 mark = ascii "?"
 
--- some columns, and two more for each level: the commands of a section hold sequences 3 deep
+-- some columns, and two more for each level: a section is itself a sequence, and its commands hold sequences one less deep
 unfoldable pub marginText : ℕ → ℕ → Bytes
-marginText columns depth = replicate columns 32 ++ replicate (2 * (3 - depth)) 32
+marginText columns depth = replicate columns 32 ++ replicate (2 * (limits .depth - 1 - depth)) 32
 
 -- a command's place, name and code
 unfoldable pub titleText : ℕ → ℕ → ℕ → Bytes

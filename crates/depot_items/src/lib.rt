@@ -2,17 +2,15 @@
 ghost use mathlib.Core.Path.{_≡_};
 ghost use mathlib.Core.Logic.{_⊎_};
 ghost use Prim.Native.Nat.{_≤_};
-ghost use Rattle.cbor.specs.Answer.{headOf};
+ghost use Rattle.rules.specs.Cbor.{BYTES, TEXT};
 ghost use Rattle.depot_items.specs.Items.{nothing as Items·nothing, held, itemAt, itemOf};
 
 pub mod line;
 
-use cbor::Head;
-use cbor::HeadRead;
-use cbor::read_head;
+use cbor::reader::head_at;
 
-// The kind of no item.
-const NONE: usize = 31;
+// The kind of no item: no kind of cbor's.
+const NO_ITEM: usize = 31;
 
 // The kind of an item, its number, the place after its head, and the one after it; of an array or a map, those are one.
 pub struct Item {
@@ -26,7 +24,7 @@ fn nothing(e: usize) -> Item
     ensures { λ r. ⌜ r ≡ Items·nothing e ⌝ }
 {
     Item {
-        kind: NONE,
+        kind: NO_ITEM,
         num: 0,
         next: e,
         after: e,
@@ -35,7 +33,7 @@ fn nothing(e: usize) -> Item
 
 // A string whose bytes lie in the container that ends at `e`.
 fn string(e: usize, kind: usize, num: usize, next: usize) -> Item
-    requires { ⌜ ((kind ≡ 2) ⊎ (kind ≡ 3)) × (next ≤ e) ⌝ }
+    requires { ⌜ ((kind ≡ BYTES) ⊎ (kind ≡ TEXT)) × (next ≤ e) ⌝ }
     ensures { λ r. ⌜ r ≡ held e (record { kind = kind; num = num; next = next }) ⌝ }
 {
     if e - next < num {
@@ -49,36 +47,37 @@ fn string(e: usize, kind: usize, num: usize, next: usize) -> Item
     }
 }
 
-fn whole(e: usize, h: Head) -> Item
-    requires { ⌜ h .next ≤ e ⌝ }
-    ensures { λ r. ⌜ r ≡ held e (headOf h) ⌝ }
+// An item whose head lies in the container that ends at `e`.
+fn whole(e: usize, kind: usize, num: usize, next: usize) -> Item
+    requires { ⌜ next ≤ e ⌝ }
+    ensures { λ r. ⌜ r ≡ held e (record { kind = kind; num = num; next = next }) ⌝ }
 {
-    let kind = h.kind;
     if kind == cbor::BYTES {
-        return string(e, kind, h.num, h.next);
+        return string(e, kind, num, next);
     }
     if kind == cbor::TEXT {
-        return string(e, kind, h.num, h.next);
+        return string(e, kind, num, next);
     }
     Item {
         kind,
-        num: h.num,
-        next: h.next,
-        after: h.next,
+        num,
+        next,
+        after: next,
     }
 }
 
-// The item at `at`, in a container that ends at `e`.
+// The item at `at`, in a container that ends at `e`: a reader of the bytes before `e` reads its head.
 pub fn look(s: &[u8], e: usize, at: usize) -> Item
     ensures { λ r. ⌜ r ≡ itemAt (now (s .entry)) e at ⌝ }
 {
     if s.len() < e {
         return nothing(e);
     }
-    match read_head(s, e, at) {
-        HeadRead::NotCbor(_) => nothing(e),
-        HeadRead::Head(h) => whole(e, h),
+    let h = head_at(&s[..e], at);
+    if h.refusal == 0 {
+        return whole(e, h.kind, h.number, h.next);
     }
+    nothing(e)
 }
 
 // The same, of a wanted kind.

@@ -1,9 +1,11 @@
 // The pieces of a line.
 ghost use mathlib.Core.Path.{_≡_};
 ghost use Prim.Native.Nat.{_-_, _*_};
+ghost use Rattle.rules.specs.Limits.{limits};
 ghost use Rattle.text.specs.Text.{Wrote};
 ghost use Rattle.depot_items.specs.Line.{marginText, titleText, stringText, itemText, argumentText, alternativeText, parameterText};
 use crate::Item;
+use rules::controller::Controller;
 use text::pieces::put_code;
 use text::pieces::put_counted;
 use text::pieces::put_labelled;
@@ -17,14 +19,17 @@ use text::put_spaces;
 
 pub const NEWLINE: u8 = 10;
 
+// How deep the sequences are that the commands of a section may hold.
+const LEVELS: usize = Controller::DEPTH - 1;
+
 // Two columns for each level.
 fn indent(depth: usize) -> usize
-    ensures { λ r. ⌜ r ≡ 2 * (3 - depth) ⌝ }
+    ensures { λ r. ⌜ r ≡ 2 * (limits .depth - 1 - depth) ⌝ }
 {
-    if 3 <= depth {
+    if LEVELS <= depth {
         return 0;
     }
-    2 * (3 - depth)
+    2 * (LEVELS - depth)
 }
 
 pub fn put_margin(room: &mut [u8], at: usize, columns: usize, depth: usize) -> usize

@@ -8,6 +8,7 @@ use borrow.Author.Tests.{eq-eqb, ne-eqb, leb-true}
 use native.Mathlib.Omega.{arith}
 use lib.ListN.{length, getD, length-append}
 use lib.Seq.{length-sets}
+use Rattle.rules.specs.Limits.{limits}
 use Rattle.rules.specs.Bytes.{Bytes, same, put}
 use Rattle.rules.specs.Slots.{slotBytes, answerBytes}
 use Rattle.text.specs.Text.{ascii}
@@ -63,11 +64,11 @@ module _ (n : ℕ) (d : Scenario) where
 
   keep-vendor : (t : Bytes) → counts (vendorLine n d t) ≡ counts d
   unfolding vendorLine counts
-  keep-vendor t = either (isBytes 16 t) _ _ refl refl
+  keep-vendor t = either (isBytes (limits .class) t) _ _ refl refl
 
   keep-class : (t : Bytes) → counts (classLine n d t) ≡ counts d
   unfolding classLine counts
-  keep-class t = either (isBytes 16 t) _ _ refl refl
+  keep-class t = either (isBytes (limits .class) t) _ _ refl refl
 
   keep-number : (t : Bytes) → counts (numberLine n d t) ≡ counts d
   unfolding numberLine counts
@@ -121,8 +122,8 @@ module _ (m k : ℕ) where
       (λ p.
       one-of (leb (d .slots + slotBytes) m) _ _
       (λ q.
-      let l : length (slot t) ≡ 74 = slot-length t p in
-      let f : d .slots + 74 ≤ m = leb-true (d .slots + 74) m q in
+      let l : length (slot t) ≡ slotBytes = slot-length t p in
+      let f : d .slots + slotBytes ≤ m = leb-true (d .slots + slotBytes) m q in
       record { slots = omega arith; answers = omega arith; slotsFit = λ h. f; answersFit = λ h. h })
       (λ q. counted-same d (refusedAt n d) refl))
       (λ p. counted-same d (refusedAt n d) refl)
@@ -134,8 +135,8 @@ module _ (m k : ℕ) where
       (λ p.
       one-of (leb (d .answers + answerBytes) k) _ _
       (λ q.
-      let l : length (answer t) ≡ 37 = answer-length t p in
-      let f : d .answers + 37 ≤ k = leb-true (d .answers + 37) k q in
+      let l : length (answer t) ≡ answerBytes = answer-length t p in
+      let f : d .answers + answerBytes ≤ k = leb-true (d .answers + answerBytes) k q in
       record { slots = omega arith; answers = omega arith; slotsFit = λ h. h; answersFit = λ h. f })
       (λ q. counted-same d (refusedAt n d) refl))
       (λ p. counted-same d (refusedAt n d) refl)

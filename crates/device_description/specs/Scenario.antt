@@ -5,6 +5,7 @@ use mathlib.Core.Bool.{Bool, true, false, cond}
 use mathlib.Core.List.{List, [], _∷_, _++_}
 use lib.Dec.{eqb, leb}
 use Rattle.rules.specs.Bytes.{Bytes, same, put}
+use Rattle.rules.specs.Limits.{limits}
 use Rattle.rules.specs.Slots.{slotBytes, answerBytes}
 use Rattle.text.specs.Text.{ascii}
 use Rattle.device_text.specs.Words.{lines, trim, word, rest, number, isNumber, bytes, isBytes}
@@ -16,8 +17,8 @@ unfoldable pub start : Scenario
 start =
     record {
       verdict = true;
-      vendor = zeros 16;
-      class = zeros 16;
+      vendor = zeros (limits .class);
+      class = zeros (limits .class);
       number = 0;
       event = false;
       slots = 0;
@@ -136,10 +137,10 @@ verdictLine n d t =
     cond (same t (ascii "good")) (withVerdict true d) (cond (same t (ascii "bad")) (withVerdict false d) (refusedAt n d))
 
 unfoldable pub vendorLine : ℕ → Scenario → Bytes → Scenario
-vendorLine n d t = cond (isBytes 16 t) (withVendor (bytes t) d) (refusedAt n d)
+vendorLine n d t = cond (isBytes (limits .class) t) (withVendor (bytes t) d) (refusedAt n d)
 
 unfoldable pub classLine : ℕ → Scenario → Bytes → Scenario
-classLine n d t = cond (isBytes 16 t) (withClass (bytes t) d) (refusedAt n d)
+classLine n d t = cond (isBytes (limits .class) t) (withClass (bytes t) d) (refusedAt n d)
 
 unfoldable pub numberLine : ℕ → Scenario → Bytes → Scenario
 numberLine n d t = cond (isNumber t) (withNumber (number t) d) (refusedAt n d)

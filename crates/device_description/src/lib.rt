@@ -11,13 +11,14 @@ use device_text::line::next_line;
 use device_text::put::put_answer;
 use device_text::put::put_slot;
 use device_text::put::sixteen;
-use device_text::read::NONE;
+use device_text::read::NO_NUMBER;
 use device_text::read::decimal;
 use device_text::read::is_bytes;
 use device_text::rest;
 use device_text::shape::is_answer;
 use device_text::shape::is_slot;
 use device_text::word;
+use rules::controller::Controller;
 use rules::controller::Sixteen;
 use rules::slot_format::IMAGE_BYTES;
 use rules::slot_format::SLOT_BYTES;
@@ -41,8 +42,8 @@ pub struct Scenario {
 fn start() -> Scenario
     ensures { λ r. ⌜ r ≡ Rule.start ⌝ }
 {
-    let vendor = [0u8; 16];
-    let class = [0u8; 16];
+    let vendor = [0u8; Controller::CLASS_BYTES];
+    let class = [0u8; Controller::CLASS_BYTES];
     Scenario {
         verdict: true,
         vendor,
@@ -80,7 +81,7 @@ fn verdict_line(mut d: Scenario, n: usize, t: &[u8]) -> Scenario
 fn vendor_line(mut d: Scenario, n: usize, t: &[u8]) -> Scenario
     ensures { λ r. ⌜ r ≡ Rule.vendorLine n d (now (t .entry)) ⌝ }
 {
-    if is_bytes(16, t) {
+    if is_bytes(Controller::CLASS_BYTES, t) {
         let vendor = sixteen(t);
         d.vendor = vendor;
         return d;
@@ -91,7 +92,7 @@ fn vendor_line(mut d: Scenario, n: usize, t: &[u8]) -> Scenario
 fn class_line(mut d: Scenario, n: usize, t: &[u8]) -> Scenario
     ensures { λ r. ⌜ r ≡ Rule.classLine n d (now (t .entry)) ⌝ }
 {
-    if is_bytes(16, t) {
+    if is_bytes(Controller::CLASS_BYTES, t) {
         let class = sixteen(t);
         d.class = class;
         return d;
@@ -103,7 +104,7 @@ fn number_line(mut d: Scenario, n: usize, t: &[u8]) -> Scenario
     ensures { λ r. ⌜ r ≡ Rule.numberLine n d (now (t .entry)) ⌝ }
 {
     let number = decimal(t);
-    if number < NONE {
+    if number < NO_NUMBER {
         d.number = number as u32;
         return d;
     }

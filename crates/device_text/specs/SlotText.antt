@@ -5,19 +5,24 @@ use mathlib.Core.List.{[], _∷_, _++_}
 use lib.Dec.{eqb, ltb}
 use lib.ListN.{length, replicate}
 use Rattle.rules.specs.Bytes.{Bytes, be4, same}
+use Rattle.rules.specs.Limits.{limits}
+use Rattle.rules.specs.Slots.{answerBytes, sizeFrom}
 use Rattle.text.specs.Text.{ascii}
 use Rattle.device_text.specs.Words.{word, rest, number, isNumber, bytes, isBytes, upToBytes}
 
 abbrev pub zeros : ℕ → Bytes
 zeros n = replicate n 0
 
--- an image: SIZE DIGEST
+-- an image: SIZE DIGEST. In a slot and an answer one byte stands before it
+abbrev pub contentBytes : ℕ
+contentBytes = answerBytes - sizeFrom
+
 unfoldable pub isImage : Bytes → Bool
-isImage t = cond (isNumber (word t)) (isBytes 32 (rest t)) false
+isImage t = cond (isNumber (word t)) (isBytes (limits .digest) (rest t)) false
 
 -- one that is left out has size 0 and a digest of zeros
 unfoldable pub image : Bytes → Bytes
-image t = cond (eqb (length t) 0) (zeros 36) (be4 (number (word t)) ++ bytes (rest t))
+image t = cond (eqb (length t) 0) (zeros contentBytes) (be4 (number (word t)) ++ bytes (rest t))
 
 -- a slot: IDENTIFIER CAPACITY present IMAGE, or IDENTIFIER CAPACITY absent, and an image or none
 unfoldable pub isState : Bytes → Bytes → Bool
@@ -28,7 +33,7 @@ isState w t =
 
 unfoldable pub isSlot : Bytes → Bool
 isSlot t =
-    cond (upToBytes 32 (word t))
+    cond (upToBytes (limits .identifier) (word t))
     (cond (isNumber (word (rest t)))
     (isState (word (rest (rest t))) (rest (rest (rest t))))
     false)
@@ -37,16 +42,16 @@ isSlot t =
 abbrev pub presence : Bytes → ℕ
 presence w = cond (same w (ascii "present")) 1 0
 
--- its identifier in 33 bytes, the length first
+-- its identifier, the length first
 unfoldable pub identifier : Bytes → Bytes
-identifier w = (length w / 2 % 256 ∷ []) ++ bytes w ++ zeros (32 - length w / 2)
+identifier w = (length w / 2 % 256 ∷ []) ++ bytes w ++ zeros (limits .identifier - length w / 2)
 
--- its 74 bytes (the layout of rules, Slots)
+-- its bytes (the layout of rules, Slots)
 unfoldable pub slot : Bytes → Bytes
 slot t =
     identifier (word t) ++ be4 (number (word (rest t))) ++ (presence (word (rest (rest t))) ∷ []) ++ image (rest (rest (rest t)))
 
--- an answer: STATUS IMAGE, and its 37 bytes; the status is good, bad or a number below 256
+-- an answer: STATUS IMAGE, and its bytes; the status is good, bad or a number below 256
 unfoldable pub status : Bytes → ℕ
 status w = cond (same w (ascii "good")) 0 (cond (same w (ascii "bad")) 1 (number w))
 

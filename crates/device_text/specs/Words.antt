@@ -5,6 +5,7 @@ use mathlib.Core.List.{List, [], _∷_, _++_}
 use lib.Dec.{eqb, ltb, leb}
 use lib.ListN.{length, take, drop, getD}
 use Rattle.rules.specs.Bytes.{Bytes}
+use Rattle.rules.specs.Limits.{limits}
 
 -- where b first stands in s; the length of s, if it does not
 unfoldable pub until : ℕ → Bytes → ℕ
@@ -50,17 +51,17 @@ word s = before 32 s
 unfoldable pub rest : Bytes → Bytes
 rest s = after 32 s
 
--- no number: numbers are below 2^32
-abbrev pub none : ℕ
-none = 4294967296
+-- no number: it is above the largest
+abbrev pub noNumber : ℕ
+noNumber = limits .largest + 1
 
 -- one digit more of a number in decimal
 unfoldable pub oneMore : ℕ → ℕ → ℕ
 oneMore n b =
-    cond (ltb b 48) none
-    (cond (ltb 57 b) none
-    (cond (leb none n) none
-    (cond (leb none (n * 10 + (b - 48))) none
+    cond (ltb b 48) noNumber
+    (cond (ltb 57 b) noNumber
+    (cond (leb noNumber n) noNumber
+    (cond (leb noNumber (n * 10 + (b - 48))) noNumber
     (n * 10 + (b - 48)))))
 
 unfoldable pub numberFrom : ℕ → Bytes → ℕ
@@ -69,10 +70,10 @@ numberFrom n (b ∷ s) = numberFrom (oneMore n b) s
 
 -- the number that a word writes in decimal, or none
 unfoldable pub number : Bytes → ℕ
-number w = cond (eqb (length w) 0) none (numberFrom 0 w)
+number w = cond (eqb (length w) 0) noNumber (numberFrom 0 w)
 
 abbrev pub isNumber : Bytes → Bool
-isNumber w = ltb (number w) none
+isNumber w = ltb (number w) noNumber
 
 -- the value of a digit in hexadecimal; 16 is none
 unfoldable pub digit : ℕ → ℕ

@@ -4,6 +4,7 @@ ghost use Prim.Native.Nat.{_%_};
 ghost use lib.ListN.{replicate};
 ghost use Rattle.rules.specs.Bytes.{be4};
 ghost use Rattle.rules.specs.Bytes.{put as Bytes·put};
+ghost use Rattle.rules.specs.Limits.{limits};
 ghost use Rattle.text.specs.Text.{Wrote};
 ghost use Rattle.device_text.specs.Words as Words;
 ghost use Rattle.device_text.specs.SlotText as Rule;
@@ -13,25 +14,20 @@ use crate::read::digit;
 use crate::rest;
 use crate::shape::status;
 use crate::word;
+use rules::controller::Controller;
 use rules::controller::Sixteen;
+use rules::slot_format::IMAGE_BYTES;
+use rules::slot_format::SIZE;
 use text::put_byte;
+use text::put_times;
+
+// Size and digest: an image without its first byte.
+const CONTENT: usize = IMAGE_BYTES - SIZE;
 
 fn low(n: usize) -> u8
     ensures { λ r. ⌜ r ≡ n % 256 ⌝ }
 {
     (n % 256) as u8
-}
-
-fn put_zeros(room: &mut [u8], at: usize, n: usize) -> usize
-    ensures { λ r. ⌜ Wrote (replicate n 0) at (now (room .entry)) r (now (room .exit)) ⌝ }
-{
-    let mut to = at;
-    let mut i = 0;
-    while i < n {
-        to = put_byte(room, to, 0);
-        i += 1;
-    }
-    to
 }
 
 // A number in four bytes.
@@ -65,11 +61,11 @@ fn put_bytes(room: &mut [u8], at: usize, w: &[u8]) -> usize
     to
 }
 
-// 16 bytes.
+// A vendor or a class.
 pub fn sixteen(w: &[u8]) -> Sixteen
-    ensures { λ r. ⌜ r ≡ Bytes·put (replicate 16 0) 0 (Words.bytes (now (w .entry))) ⌝ }
+    ensures { λ r. ⌜ r ≡ Bytes·put (replicate (limits .class) 0) 0 (Words.bytes (now (w .entry))) ⌝ }
 {
-    let mut b = [0u8; 16];
+    let mut b = [0u8; Controller::CLASS_BYTES];
     put_bytes(&mut b, 0, w);
     b
 }
@@ -79,23 +75,23 @@ fn put_image(room: &mut [u8], at: usize, t: &[u8]) -> usize
     ensures { λ r. ⌜ Wrote (Rule.image (now (t .entry))) at (now (room .entry)) r (now (room .exit)) ⌝ }
 {
     if t.len() == 0 {
-        return put_zeros(room, at, 36);
+        return put_times(room, at, 0, CONTENT);
     }
     let a = put_four(room, at, decimal(word(t)));
     put_bytes(room, a, rest(t))
 }
 
-// An identifier's length, and the identifier in 32 bytes.
+// An identifier's length, and the identifier in as many bytes as a slot has for it.
 fn put_identifier(room: &mut [u8], at: usize, w: &[u8]) -> usize
     ensures { λ r. ⌜ Wrote (Rule.identifier (now (w .entry))) at (now (room .entry)) r (now (room .exit)) ⌝ }
 {
     let n = w.len() / 2;
     let a = put_byte(room, at, low(n));
     let b = put_bytes(room, a, w);
-    if 32 < n {
+    if Controller::IDENTIFIER_BYTES < n {
         return b;
     }
-    put_zeros(room, b, 32 - n)
+    put_times(room, b, 0, Controller::IDENTIFIER_BYTES - n)
 }
 
 fn presence(w: &[u8]) -> u8

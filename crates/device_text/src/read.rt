@@ -2,9 +2,10 @@
 ghost use mathlib.Core.Path.{_≡_};
 ghost use Rattle.device_text.specs.Words as Words;
 use byte_buffer::wide;
+use rules::controller::Controller;
 
-// No number: numbers are below 2^32.
-pub const NONE: usize = 4294967296;
+// No number: it is above the largest.
+pub const NO_NUMBER: usize = Controller::LARGEST_NUMBER + 1;
 
 // No digit in hexadecimal.
 const NO_DIGIT: usize = 16;
@@ -14,17 +15,17 @@ fn one_more(n: usize, b: u8) -> usize
     ensures { λ r. ⌜ r ≡ Words.oneMore n b ⌝ }
 {
     if b < 48 {
-        return NONE;
+        return NO_NUMBER;
     }
     if 57 < b {
-        return NONE;
+        return NO_NUMBER;
     }
-    if NONE <= n {
-        return NONE;
+    if NO_NUMBER <= n {
+        return NO_NUMBER;
     }
     let m = n * 10 + (wide(b) - 48);
-    if NONE <= m {
-        return NONE;
+    if NO_NUMBER <= m {
+        return NO_NUMBER;
     }
     m
 }
@@ -33,7 +34,7 @@ pub fn decimal(w: &[u8]) -> usize
     ensures { λ r. ⌜ r ≡ Words.number (now (w .entry)) ⌝ }
 {
     if w.len() == 0 {
-        return NONE;
+        return NO_NUMBER;
     }
     let mut n = 0;
     let mut i = 0;

@@ -2,24 +2,22 @@
 ghost use mathlib.Core.Path.{_≡_};
 ghost use Rattle.device_text.specs.SlotText as Rule;
 use crate::is;
-use crate::read::NONE;
+use crate::read::NO_NUMBER;
 use crate::read::decimal;
 use crate::read::is_bytes;
 use crate::read::up_to_bytes;
 use crate::rest;
 use crate::word;
-
-// The length of a digest, and the largest of an identifier.
-const BYTES: usize = 32;
+use rules::controller::Controller;
 
 // A size and a digest.
 fn is_image(t: &[u8]) -> bool
     ensures { λ r. ⌜ r ≡ Rule.isImage (now (t .entry)) ⌝ }
 {
-    if NONE <= decimal(word(t)) {
+    if NO_NUMBER <= decimal(word(t)) {
         return false;
     }
-    is_bytes(BYTES, rest(t))
+    is_bytes(Controller::DIGEST_BYTES, rest(t))
 }
 
 // Whether a slot is present, and its image.
@@ -41,11 +39,11 @@ fn is_state(w: &[u8], t: &[u8]) -> bool
 pub fn is_slot(t: &[u8]) -> bool
     ensures { λ r. ⌜ r ≡ Rule.isSlot (now (t .entry)) ⌝ }
 {
-    if !up_to_bytes(BYTES, word(t)) {
+    if !up_to_bytes(Controller::IDENTIFIER_BYTES, word(t)) {
         return false;
     }
     let t2 = rest(t);
-    if NONE <= decimal(word(t2)) {
+    if NO_NUMBER <= decimal(word(t2)) {
         return false;
     }
     let t3 = rest(t2);

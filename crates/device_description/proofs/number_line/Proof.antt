@@ -9,13 +9,13 @@ returns : tie.Need-returns
 unfolding Rule.numberLine
 returns c =
     let n = c .before .decimal in
-    rw (← n .ensures, lt-ltb (n .result) Words.none (c .if1 .taken))
+    rw (← n .ensures, lt-ltb (n .result) Words.noNumber (c .if1 .taken))
 
 returns-2 : tie.Need-returns-2
 unfolding Rule.numberLine
 returns-2 c =
     let n = c .before .before .decimal in
-    rw (← n .ensures, le-ltb (n .result) Words.none (c .before .if1 .left)) (c .refuse .ensures)
+    rw (← n .ensures, le-ltb (n .result) Words.noNumber (c .before .if1 .left)) (c .refuse .ensures)
 
 pub number-line-spec : {M : Type 1} → statement M
 number-line-spec =

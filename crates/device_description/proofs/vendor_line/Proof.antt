@@ -1,6 +1,7 @@
 use mathlib.Core.Path.{_≡_, sym, _∙_}
 use mathlib.Core.Bool.{true, false}
 use borrow.Author.Needs.{needs}
+use Rattle.rules.specs.Limits.{limits}
 use Rattle.device_text.specs.Words as Words
 use Rattle.device_description.specs.Scenario as Rule
 use Rattle.device_text.proofs.LengthLaws.{sixteen-all}
@@ -11,14 +12,14 @@ returns : tie.Need-returns
 unfolding Rule.vendorLine
 returns c =
     let t = c .before .before .before .before .args .t .now in
-    let p : Words.isBytes 16 t ≡ true = sym (c .before .before .is-bytes .ensures) ∙ c .before .if1 .taken in
+    let p : Words.isBytes (limits .class) t ≡ true = sym (c .before .before .is-bytes .ensures) ∙ c .before .if1 .taken in
     rw (p, ← sixteen-all t p, ← c .sixteen .ensures)
 
 returns-2 : tie.Need-returns-2
 unfolding Rule.vendorLine
 returns-2 c =
     let t = c .before .before .before .before .args .t .now in
-    let p : Words.isBytes 16 t ≡ false = sym (c .before .before .is-bytes .ensures) ∙ c .before .if1 .left in
+    let p : Words.isBytes (limits .class) t ≡ false = sym (c .before .before .is-bytes .ensures) ∙ c .before .if1 .left in
     rw p (c .refuse .ensures)
 
 pub vendor-line-spec : {M : Type 1} → statement M

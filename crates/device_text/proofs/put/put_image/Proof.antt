@@ -12,7 +12,7 @@ returns : tie.Need-returns
 unfolding Rule.image
 returns c =
     let i = c .before .before .before .before in
-    rw (eq-eqb (length (i .before .before .before .args .t .now)) 0 (i .if1 .taken)) (c .before .before .put-zeros .ensures)
+    rw (eq-eqb (length (i .before .before .before .args .t .now)) 0 (i .if1 .taken)) (c .before .before .put-times .ensures)
 
 returns-2 : tie.Need-returns-2
 unfolding Rule.image

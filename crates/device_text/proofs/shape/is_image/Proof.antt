@@ -10,14 +10,14 @@ returns : tie.Need-returns
 unfolding Rule.isImage
 returns c =
     let e = c .before .decimal .ensures ∙ ap Words.number (c .before .before .word .ensures) in
-    rw (← e, le-ltb (c .before .decimal .result) Words.none (c .if1 .taken))
+    rw (← e, le-ltb (c .before .decimal .result) Words.noNumber (c .if1 .taken))
 
 returns-2 : tie.Need-returns-2
 unfolding Rule.isImage
 returns-2 c =
     let d = c .before .before .before in
     let e = d .decimal .ensures ∙ ap Words.number (d .before .word .ensures) in
-    rw (← e, lt-ltb (d .decimal .result) Words.none (c .before .before .if1 .left), ← c .before .rest .ensures) (c .is-bytes .ensures)
+    rw (← e, lt-ltb (d .decimal .result) Words.noNumber (c .before .before .if1 .left), ← c .before .rest .ensures) (c .is-bytes .ensures)
 
 pub is-image-spec : {M : Type 1} → statement M
 is-image-spec =
