@@ -3,8 +3,10 @@ use Prim.Native.Nat.{ℕ, zero, suc, _-_, _/_, _≤_, _<_}
 use mathlib.Core.Path.{_≡_, refl}
 use mathlib.Core.List.{_++_}
 use mathlib.Core.Logic.{_⊎_, inl, inr}
+use mathlib.Core.Bool.{true, false}
 use borrow.Author.Tests.{le-leb, lt-leb, eq-eqb, ne-eqb}
 use native.Mathlib.Omega.{arith}
+use Rattle.rules_tables.specs.Kinds.{kindOf}
 use Rattle.rules.specs.Bytes.{Bytes}
 use Rattle.rules.specs.Cbor.{NUMBER, BYTES, ARRAY, MAP}
 use Rattle.cbor.proofs.ReadingLaws.{above}
@@ -12,7 +14,7 @@ use Rattle.depot_items.specs.declared.Item.{Item}
 use Rattle.depot_show.specs.declared.walk.Put.{Put}
 use Rattle.depot_items.specs.Items.{itemAt, itemOf}
 use Rattle.depot_items.specs.Line.{newline, titleText, argumentText, parameterText, alternativeText}
-use Rattle.depot_show.specs.Shown.{Shown, Shows, none, behind, andThen, stopped, parametersShown, nestedShown, alternativesShown, commandShown, commandsShown, sequenceShown}
+use Rattle.depot_show.specs.Shown.{holdsSequence, Shown, Shows, none, behind, andThen, stopped, parametersShown, nestedShown, alternativesShown, commandShown, commandsShown, sequenceShown}
 use Rattle.depot_show.proofs.ShownLaws.{Rest, rest-shown}
 
 not-none : (k : ℕ) → suc k ≤ 0 → ⊥
@@ -90,27 +92,27 @@ module _ (s : Bytes) (deeper : ℕ → ℕ → Shown) (depth : ℕ) where
 
   -- a command, by its code and its argument
   module _ (e at : ℕ) (c : Item) (q : c ≡ itemOf s e at NUMBER) where
-    pub command-nested : c .num ≡ 30 → commandShown s deeper depth e at ≡ behind (titleText depth at (c .num) ++ newline) (nestedShown s deeper e (c .next))
+    pub command-nested : holdsSequence (kindOf (c .num)) ≡ true → commandShown s deeper depth e at ≡ behind (titleText depth at (c .num) ++ newline) (nestedShown s deeper e (c .next))
     unfolding commandShown
-    command-nested h = rw (← q, eq-eqb _ _ h)
+    command-nested h = rw (← q, h)
 
-    module _ (i : Item) (p : i ≡ itemAt s e (c .next)) (n : c .num ≡ 30 → ⊥) where
+    module _ (i : Item) (p : i ≡ itemAt s e (c .next)) (n : holdsSequence (kindOf (c .num)) ≡ false) where
       abbrev line : Bytes
       line = titleText depth at (c .num) ++ argumentText s i ++ newline
 
       pub command-alternatives : i .kind ≡ ARRAY →
           commandShown s deeper depth e at ≡ behind line (alternativesShown s deeper depth (i .num) (i .num) e (i .next))
       unfolding commandShown
-      command-alternatives h = rw (← q, ← p, ne-eqb _ _ n, eq-eqb _ _ h)
+      command-alternatives h = rw (← q, ← p, n, eq-eqb _ _ h)
 
       pub command-parameters : (i .kind ≡ ARRAY → ⊥) → i .kind ≡ MAP →
           commandShown s deeper depth e at ≡ behind line (parametersShown s depth (i .num) e (i .next))
       unfolding commandShown
-      command-parameters k h = rw (← q, ← p, ne-eqb _ _ n, ne-eqb _ _ k, eq-eqb _ _ h)
+      command-parameters k h = rw (← q, ← p, n, ne-eqb _ _ k, eq-eqb _ _ h)
 
       pub command-plain : (i .kind ≡ ARRAY → ⊥) → (i .kind ≡ MAP → ⊥) → commandShown s deeper depth e at ≡ (line, i .after)
       unfolding commandShown
-      command-plain k h = rw (← q, ← p, ne-eqb _ _ n, ne-eqb _ _ k, ne-eqb _ _ h)
+      command-plain k h = rw (← q, ← p, n, ne-eqb _ _ k, ne-eqb _ _ h)
 
 module _ (s : Bytes) (depth e at : ℕ) where
   pub sequence-none : depth ≡ 0 → sequenceShown s depth e at ≡ stopped 0 e

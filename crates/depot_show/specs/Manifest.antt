@@ -1,16 +1,16 @@
 -- A manifest: its number, its components and its sections.
-use Prim.Native.Nat.{ℕ, zero, suc, _+_, _*_}
+use Prim.Native.Nat.{ℕ, _+_, _*_}
 use mathlib.Core.Bool.{cond}
 use mathlib.Core.List.{List, [], _++_}
 use lib.Dec.{eqb}
 use lib.ListN.{getD}
 use Rattle.rules.specs.Bytes.{Bytes}
 use Rattle.rules.specs.Cbor.{BYTES}
-use Rattle.rules.specs.Limits.{limits}
+use Rattle.rules.specs.Limits.{limits, sectionCount}
 use Rattle.check_envelope.specs.declared.report.Report.{Report}
 use Rattle.text.specs.Text.{ascii, least}
-use Rattle.text.specs.Pieces.{labelled, coded}
-use Rattle.text_names.specs.Words.{sectionWords}
+use Rattle.text.specs.Pieces.{labelled, coded, lines}
+use Rattle.text_names.specs.Words.{sectionKey, sectionWords}
 use Rattle.depot_items.specs.Line.{newline, stringText}
 use Rattle.depot_show.specs.Shown.{sequenceShown}
 
@@ -19,21 +19,21 @@ unfoldable pub componentText : Bytes → ℕ → ℕ → ℕ → Bytes
 componentText s k from to =
     labelled (ascii "component ") k ++ ascii "  " ++ stringText s BYTES from to ++ labelled (ascii "  at ") from ++ newline
 
--- the first k
+-- the first n
 unfoldable pub componentsText : Bytes → List ℕ → ℕ → Bytes
-componentsText s ids zero = []
-componentsText s ids (suc k) = componentsText s ids k ++ componentText s k (getD ids (2 * k) 0) (getD ids (2 * k + 1) 0)
+componentsText s ids n = lines (λ k. componentText s k (getD ids (2 * k) 0) (getD ids (2 * k + 1) 0)) n
 
 -- the section under `key`, whose sequence stands from `from` to `to`; one that is not there ends at 0
 unfoldable pub sectionText : Bytes → ℕ → ℕ → ℕ → Bytes
 sectionText s key from to =
     cond (eqb to 0) [] (sectionWords key ++ coded key ++ newline ++ sequenceShown s (limits .depth) to from .0)
 
+-- section j, by the places of all
+abbrev pub sectionAt : Bytes → List ℕ → ℕ → Bytes
+sectionAt s places j = sectionText s (sectionKey j) (getD places (2 * j) 0) (getD places (2 * j + 1) 0)
+
 unfoldable pub sectionsText : Bytes → List ℕ → Bytes
-sectionsText s places =
-    sectionText s 3 (getD places 0 0) (getD places 1 0) ++ sectionText s 8 (getD places 2 0) (getD places 3 0)
-    ++ sectionText s 9 (getD places 4 0) (getD places 5 0) ++ sectionText s 10 (getD places 6 0) (getD places 7 0)
-    ++ sectionText s 11 (getD places 8 0) (getD places 9 0) ++ sectionText s 12 (getD places 10 0) (getD places 11 0)
+sectionsText s places = lines (sectionAt s places) sectionCount
 
 -- by the number, how many components there are, and the places of the identifiers and of the sections
 unfoldable pub partsText : Bytes → ℕ → ℕ → List ℕ → List ℕ → Bytes

@@ -1,18 +1,21 @@
 // A manifest as a person reads it, in lent room.
-ghost use mathlib.Core.Path.{_≡_};
 ghost use Prim.Native.Nat.{_≤_};
-ghost use Rattle.text.specs.Text.{Wrote, least};
+ghost use Rattle.rules.specs.Limits.{limits};
+ghost use Rattle.text.specs.Text.{Wrote};
 ghost use Rattle.depot_show.specs.Manifest.{componentText, componentsText, sectionText, sectionsText, partsText, manifestText};
 use check_envelope::report::Report;
 use depot_items::line::NEWLINE;
 use depot_items::line::put_string;
 use rules::controller::Controller;
 use rules::controller::Places;
+use rules::controller::SECTIONS;
 use rules::controller::SectionPlaces;
+use text::least;
 use text::pieces::put_code;
 use text::pieces::put_labelled;
 use text::put;
 use text::put_byte;
+use text_names::section_key;
 use walk::put_sequence;
 
 mod walk;
@@ -30,7 +33,7 @@ fn put_component(room: &mut [u8], at: usize, s: &[u8], k: usize, from: usize, en
 
 // The first `n` components.
 fn put_components(room: &mut [u8], at: usize, s: &[u8], n: usize, ids: &Places) -> usize
-    requires { ⌜ n ≤ 8 ⌝ }
+    requires { ⌜ n ≤ limits .components ⌝ }
     ensures { λ r. ⌜ Wrote (componentsText (now (s .entry)) (now (ids .entry)) n) at (now (room .entry)) r (now (room .exit)) ⌝ }
 {
     let mut to = at;
@@ -40,16 +43,6 @@ fn put_components(room: &mut [u8], at: usize, s: &[u8], n: usize, ids: &Places) 
         k += 1;
     }
     to
-}
-
-// How many of them a report has places for.
-fn listed(components: usize) -> usize
-    ensures { λ r. ⌜ (r ≤ 8) × (r ≡ least components 8) ⌝ }
-{
-    if Controller::COMPONENTS < components {
-        return Controller::COMPONENTS;
-    }
-    components
 }
 
 // The section under `key`, whose sequence stands from `from` to `end`; an end of 0 says that it is not there.
@@ -69,12 +62,20 @@ fn put_section(room: &mut [u8], at: usize, s: &[u8], key: usize, from: usize, en
 fn put_sections(room: &mut [u8], at: usize, s: &[u8], sections: &SectionPlaces) -> usize
     ensures { λ r. ⌜ Wrote (sectionsText (now (s .entry)) (now (sections .entry))) at (now (room .entry)) r (now (room .exit)) ⌝ }
 {
-    let a = put_section(room, at, s, 3, sections[0], sections[1]);
-    let b = put_section(room, a, s, 8, sections[2], sections[3]);
-    let c = put_section(room, b, s, 9, sections[4], sections[5]);
-    let d = put_section(room, c, s, 10, sections[6], sections[7]);
-    let e = put_section(room, d, s, 11, sections[8], sections[9]);
-    put_section(room, e, s, 12, sections[10], sections[11])
+    let mut to = at;
+    let mut j = 0;
+    while j < SECTIONS {
+        to = put_section(
+            room,
+            to,
+            s,
+            section_key(j),
+            sections[2 * j],
+            sections[2 * j + 1],
+        );
+        j += 1;
+    }
+    to
 }
 
 // The manifest of an envelope by its number and the places of its identifiers and sections, as check reports them.
@@ -91,7 +92,7 @@ pub fn put_parts(
 {
     let a = put_labelled(room, at, b"number ", number);
     let b = put_byte(room, a, NEWLINE);
-    let c = put_components(room, b, s, listed(components), ids);
+    let c = put_components(room, b, s, least(components, Controller::COMPONENTS), ids);
     put_sections(room, c, s, sections)
 }
 

@@ -1,6 +1,8 @@
 // Commands and sequences of any bytes. Where a code, a key, a string or a sequence is not there, a mark stands for it, and the walk goes on
 // after its container.
-ghost use Rattle.depot_show.specs.Shown.{Shows, stopped, parametersShown, nestedShown, alternativesShown, commandShown, commandsShown, sequenceShown};
+ghost use mathlib.Core.Path.{_≡_};
+ghost use Rattle.rules_tables.specs.Kinds.{kindOf};
+ghost use Rattle.depot_show.specs.Shown.{holdsSequence, Shows, stopped, parametersShown, nestedShown, alternativesShown, commandShown, commandsShown, sequenceShown};
 use depot_items::line::NEWLINE;
 use depot_items::line::put_alternative;
 use depot_items::line::put_argument;
@@ -9,10 +11,10 @@ use depot_items::line::put_parameter;
 use depot_items::line::put_title;
 use depot_items::look;
 use depot_items::want;
+use rules::tables::Argument;
+use rules_tables::argument_of;
 use text::put;
 use text::put_byte;
-
-const RUN_SEQUENCE: usize = 30;
 
 // The place after what was shown, and the place in the room after its text.
 pub struct Put {
@@ -97,6 +99,21 @@ fn put_alternatives(
     Put { next, to: end }
 }
 
+// Whether a command's argument is one sequence.
+fn holds_sequence(code: usize) -> bool
+    ensures { λ r. ⌜ r ≡ holdsSequence (kindOf code) ⌝ }
+{
+    let argument = argument_of(code);
+    match argument {
+        Argument::Sixteen => false,
+        Argument::Nil => false,
+        Argument::Index => false,
+        Argument::Alternatives => false,
+        Argument::Parameters => false,
+        Argument::Sequence => true,
+    }
+}
+
 // The command at `at`; the sequences that it holds may be `depth` deep.
 fn put_command(room: &mut [u8], to: usize, s: &[u8], depth: usize, e: usize, at: usize) -> Put
     ensures { λ r. ⌜ Shows (commandShown (now (s .entry)) (sequenceShown (now (s .entry)) depth) depth e at) to (now (room .entry)) r (now (room .exit)) ⌝ }
@@ -106,7 +123,7 @@ fn put_command(room: &mut [u8], to: usize, s: &[u8], depth: usize, e: usize, at:
     let code = c.num;
     let kind = i.kind;
     let title = put_title(room, to, depth, at, code);
-    if code == RUN_SEQUENCE {
+    if holds_sequence(code) {
         let below = put_byte(room, title, NEWLINE);
         return put_nested(room, below, s, depth, e, c.next);
     }

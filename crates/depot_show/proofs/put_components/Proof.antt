@@ -1,9 +1,7 @@
 use Prim.Native.Nat.{_-_, _≤_}
-use native.Mathlib.Omega.{arith}
-use native.Mathlib.Numerals.{add-one}
-use mathlib.Core.Path.{_≡_}
 use Rattle.text.specs.Text.{Wrote}
-use Rattle.text.proofs.TextLaws.{wrote-none, wrote-then, wrote-length}
+use Rattle.text.proofs.TextLaws.{wrote-length}
+use Rattle.text.proofs.PieceLaws.{lines-none, lines-next, lines-all}
 use Rattle.depot_show.specs.Manifest.{componentsText}
 use borrow.Author.Needs.{needs}
 use Rattle.depot_show.proofs.put_components.Statement.{statement}
@@ -18,14 +16,14 @@ abbrev μ-loop : tie.MeasureT-loop
 
 loop-holds : tie.Need-loop-holds Inv-loop μ-loop
 unfolding componentsText
-loop-holds c = (search needs, wrote-none _ _)
+loop-holds c = (search needs, lines-none _ _ _)
 
 loop-again : tie.Need-loop-again Inv-loop μ-loop
 unfolding componentsText
 loop-again c =
     let p = c .before .before in
     let q = p .before .before .before .before .before in
-    (search needs, rw (add-one (q .loop .k)) (wrote-then (q .loop .inv .1) (p .put-component .ensures)))
+    (search needs, lines-next _ _ (q .loop .inv .1) (p .put-component .ensures))
 
 same-length : tie.Need-same-length Inv-loop μ-loop
 same-length c =
@@ -33,10 +31,8 @@ same-length c =
     wrote-length (p .loop .inv .1)
 
 returns : tie.Need-returns Inv-loop μ-loop
-returns c =
-    let p = c .before in
-    let q = p .before .before .before in
-    let e : p .loop .k ≡ q .args .n = omega arith in rw e at (p .loop .inv .1)
+unfolding componentsText
+returns c = lines-all _ _ _ (search needs) (search needs) (c .before .loop .inv .1)
 
 pub put-components-spec : {M : Type 1} → statement M
 put-components-spec =

@@ -1,7 +1,7 @@
 -- The walk. It ends by the depth: a sequence calls its commands one level deeper. The invariant of both loops: what is written, and what is
 -- left, make the whole.
 use Prim.Native.Nat.{ℕ, _+_, _*_, _≤_, _<_}
-use mathlib.Core.Path.{refl}
+use mathlib.Core.Path.{refl, sym, _∙_}
 use mathlib.Core.Logic.{inl, inr}
 use native.Mathlib.Omega.{arith}
 use borrow.Author.Needs.{needs}
@@ -31,6 +31,7 @@ use Rattle.depot_items.proofs.want.Reads as want-reads
 use Rattle.depot_items.proofs.line.put_alternative.Reads as put-alternative-reads
 use Rattle.depot_items.proofs.line.put_argument.Reads as put-argument-reads
 use Rattle.depot_items.proofs.line.put_title.Reads as put-title-reads
+use Rattle.depot_show.proofs.walk.holds_sequence.Reads as holds-sequence-reads
 use Rattle.depot_show.proofs.walk.put_parameters.Reads as put-parameters-reads
 use Rattle.depot_show.proofs.walk.put_stop.Reads as put-stop-reads
 use Rattle.text.proofs.put_byte.Reads as put-byte-reads
@@ -118,7 +119,7 @@ put-alternatives-callees t = (put-alternative-reads.Asked, put-alternative-reads
 
 -- what put-command knows of what it calls
 abbrev put-command-callees : ℕ → put-command-lts.Claims
-put-command-callees t = (want-reads.Asked, want-reads.Learnt, look-reads.Asked, look-reads.Learnt, put-title-reads.Asked, put-title-reads.Learnt, put-byte-reads.Asked, put-byte-reads.Learnt, put-nested-below t, put-nested.Post, put-argument-reads.Asked, put-argument-reads.Learnt, put-alternatives-below t, put-alternatives.Post, put-parameters-reads.Asked, put-parameters-reads.Learnt)
+put-command-callees t = (want-reads.Asked, want-reads.Learnt, look-reads.Asked, look-reads.Learnt, put-title-reads.Asked, put-title-reads.Learnt, holds-sequence-reads.Asked, holds-sequence-reads.Learnt, put-byte-reads.Asked, put-byte-reads.Learnt, put-nested-below t, put-nested.Post, put-argument-reads.Asked, put-argument-reads.Learnt, put-alternatives-below t, put-alternatives.Post, put-parameters-reads.Asked, put-parameters-reads.Learnt)
 
 -- what put-commands knows of what it calls
 abbrev put-commands-callees : ℕ → put-commands-lts.Claims
@@ -177,7 +178,7 @@ put-alternatives-returns-2 t c =
 
 put-command-put-nested-requires : (t : ℕ) → put-command-lts.Need-put-nested-requires (put-command-callees t) (put-command-at t) put-command.Post
 put-command-put-nested-requires t c κs =
-    let p = c .before .before .before .before .before .before .before .before .before .before .before .before .before .before in
+    let p = c .before .before .before .before .before .before .before .before .before .before .before .before .before .before .before in
     (omega (arith, p .pre .0), tt)
 
 put-command-returns : (t : ℕ) → put-command-lts.Need-returns (put-command-callees t) (put-command-at t) put-command.Post
@@ -185,13 +186,14 @@ put-command-returns t c =
     let p = c .before .before in
     let q = p .before .before .before .before in
     let r = q .before .before in
-    let s = r .before .before .before in
+    let h = r .before in
+    let s = h .before .before .before in
     let u = s .before .before .before in
-    rw (command-nested _ _ _ _ _ _ (u .want .ensures) (r .if1 .taken)) (behind-shows (wrote-then (s .put-title .ensures) (q .put-byte .ensures)) (p .put-nested .ensures))
+    rw (command-nested _ _ _ _ _ _ (u .want .ensures) (sym (h .holds-sequence .ensures) ∙ r .if1 .taken)) (behind-shows (wrote-then (s .put-title .ensures) (q .put-byte .ensures)) (p .put-nested .ensures))
 
 put-command-put-alternatives-requires : (t : ℕ) → put-command-lts.Need-put-alternatives-requires (put-command-callees t) (put-command-at t) put-command.Post
 put-command-put-alternatives-requires t c κs =
-    let p = c .before .before .before .before .before .before .before .before .before .before .before .before .before .before .before .before .before .before .before in
+    let p = c .before .before .before .before .before .before .before .before .before .before .before .before .before .before .before .before .before .before .before .before in
     (omega (arith, p .pre .0), tt)
 
 put-command-returns-2 : (t : ℕ) → put-command-lts.Need-returns-2 (put-command-callees t) (put-command-at t) put-command.Post
@@ -201,10 +203,11 @@ put-command-returns-2 t c =
     let r = q .before .before .before in
     let s = r .before .before .before .before in
     let u = s .before .before in
-    let v = u .before .before .before in
+    let h = u .before in
+    let v = h .before .before .before in
     let w = v .before .before in
     let x = w .before in
-    rw (command-alternatives _ _ _ _ _ _ (x .want .ensures) _ (w .look .ensures) (u .if1 .left) (q .if2 .taken)) (behind-shows (wrote-then (wrote-then (v .put-title .ensures) (s .put-argument .ensures)) (r .put-byte2 .ensures)) (p .put-alternatives .ensures))
+    rw (command-alternatives _ _ _ _ _ _ (x .want .ensures) _ (w .look .ensures) (sym (h .holds-sequence .ensures) ∙ u .if1 .left) (q .if2 .taken)) (behind-shows (wrote-then (wrote-then (v .put-title .ensures) (s .put-argument .ensures)) (r .put-byte2 .ensures)) (p .put-alternatives .ensures))
 
 put-command-returns-3 : (t : ℕ) → put-command-lts.Need-returns-3 (put-command-callees t) (put-command-at t) put-command.Post
 put-command-returns-3 t c =
@@ -214,10 +217,11 @@ put-command-returns-3 t c =
     let s = r .before .before .before in
     let u = s .before .before .before .before in
     let v = u .before .before in
-    let w = v .before .before .before in
+    let h = v .before in
+    let w = h .before .before .before in
     let x = w .before .before in
     let y = x .before in
-    rw (command-parameters _ _ _ _ _ _ (y .want .ensures) _ (x .look .ensures) (v .if1 .left) (r .if2 .left) (q .if3 .taken)) (behind-shows (wrote-then (wrote-then (w .put-title .ensures) (u .put-argument .ensures)) (s .put-byte2 .ensures)) (p .put-parameters .ensures))
+    rw (command-parameters _ _ _ _ _ _ (y .want .ensures) _ (x .look .ensures) (sym (h .holds-sequence .ensures) ∙ v .if1 .left) (r .if2 .left) (q .if3 .taken)) (behind-shows (wrote-then (wrote-then (w .put-title .ensures) (u .put-argument .ensures)) (s .put-byte2 .ensures)) (p .put-parameters .ensures))
 
 put-command-returns-4 : (t : ℕ) → put-command-lts.Need-returns-4 (put-command-callees t) (put-command-at t) put-command.Post
 put-command-returns-4 t c =
@@ -225,10 +229,11 @@ put-command-returns-4 t c =
     let q = p .before .before .before in
     let r = q .before .before .before .before in
     let s = r .before .before in
-    let u = s .before .before .before in
+    let h = s .before in
+    let u = h .before .before .before in
     let v = u .before .before in
     let w = v .before in
-    rw (command-plain _ _ _ _ _ _ (w .want .ensures) _ (v .look .ensures) (s .if1 .left) (p .if2 .left) (c .if3 .left)) (record { next = refl; wrote = wrote-then (wrote-then (u .put-title .ensures) (r .put-argument .ensures)) (q .put-byte2 .ensures) })
+    rw (command-plain _ _ _ _ _ _ (w .want .ensures) _ (v .look .ensures) (sym (h .holds-sequence .ensures) ∙ s .if1 .left) (p .if2 .left) (c .if3 .left)) (record { next = refl; wrote = wrote-then (wrote-then (u .put-title .ensures) (r .put-argument .ensures)) (q .put-byte2 .ensures) })
 
 abbrev put-commands-Inv-loop : put-commands-lts.InvT-loop
 put-commands-Inv-loop room₀ to s depth e at count next₀ end₀ left₀ room next end left = Rest (commandsShown s (sequenceShown s depth) depth count e at) to room₀ (commandsShown s (sequenceShown s depth) depth left e next) end room
@@ -334,6 +339,7 @@ pub +put-alternatives+put-command+put-commands+put-nested+put-sequence-spec :
     (put-alternatives-same-length-2 t)
     (put-alternatives-returns-2 t))
     (λ t. put-command-lts.spec (put-command-callees t) (put-command-at t) put-command.Post
+    (λ c κs. search needs)
     (λ c κs. search needs)
     (λ c κs. search needs)
     (λ c κs. search needs)
