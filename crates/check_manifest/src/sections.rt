@@ -9,7 +9,7 @@ ghost use Rattle.rules.specs.Tables.{byNumber};
 ghost use Rattle.rules.specs.Manifest.{count, countAll};
 ghost use Rattle.rules.specs.Check as Check;
 ghost use Rattle.cbor.specs.Reading.{reading};
-ghost use Rattle.check_sequence.specs.Opening.{Section};
+ghost use Rattle.check_sequence.specs.Command.{Section};
 ghost use Rattle.check_manifest.specs.Sections.{sectionNo, Placed};
 use cbor::reading::Reading;
 use cbor::reading::item;

@@ -6,7 +6,7 @@ use native.Mathlib.Omega.{arith}
 use borrow.Author.Tests.{eqb-true, ne-eqb}
 use lib.Dec.{eqb}
 use Rattle.rules.specs.Commands.{among, COMMON, PAYLOAD_FETCH, INSTALL, VALIDATE, LOAD, RUN}
-use Rattle.check_sequence.specs.Opening.{Section}
+use Rattle.check_sequence.specs.Command.{Section}
 use Rattle.check_manifest.proofs.sections.section_number.Statement.{statement}
 use Rattle.check_manifest.proofs.sections.section_number.Tie as tie
 
