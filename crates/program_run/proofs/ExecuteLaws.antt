@@ -17,7 +17,7 @@ use Rattle.run_slots.specs.declared.params.Params.{Params}
 use Rattle.run_slots.specs.Params.{FitAll}
 use Rattle.run_commands.specs.declared.Progress.{Progress}
 use Rattle.run_commands.specs.Machine.{stateAt, outAt}
-use Rattle.run_commands.specs.Op.{opOf, IsCode}
+use Rattle.run_commands.specs.Op.{opOf, IsCode, SixteenAt}
 use Rattle.run_commands.proofs.LentLaws.{moves-step, lent-after}
 use Rattle.program_run.specs.declared.step.ProgramState.{ProgramState}
 use Rattle.program_run.specs.Step.{ArgumentAt, valueOf, GivenAs, OnwardJob, Onward, stateOf, ExecJob, Executed}
@@ -88,7 +88,7 @@ module _ (p : Bytes) (components : ℕ) (current : ProgramState) (vendor class :
         }
 
     module _ (v : ℕ) (ev : v ≡ valueOf code i (at + recordSize)) (w : Params) (g : GivenAs p components code (at + recordSize) (at + recordSize + size) argument-here w) where
-      pub execute-sixteen : code < 3 → v + limits .class ≤ length p
+      pub execute-sixteen : SixteenAt p code v
       execute-sixteen l =
           let e : v ≡ at + recordSize = ev ∙ rw (ne-eqb code 12 (λ q. omega arith)) in
           omega (arith, argument-sixteen p components code (at + recordSize) (at + recordSize + size) argument-here l)

@@ -1,17 +1,17 @@
 -- The argument of a command's record: what a run makes of it is what the program test has read.
-use Prim.Native.Nat.{ℕ, _+_, _-_, _≤_, _<_}
+use Prim.Native.Nat.{ℕ, _-_, _≤_, _<_}
 use mathlib.Core.Path.{_≡_, sym, ap, _∙_}
 use native.Mathlib.Omega.{arith}
 use lib.ListN.{length}
 use Rattle.rules.specs.Bytes.{Bytes, part}
-use Rattle.rules.specs.Commands.{Op, vendor, class, imageMatch, setIndex, abort, setParams, overrideParams, fetch, copy, run, swap, Params, Form, sixteen, nil, below, alternatives, parameters, sequence, commands}
+use Rattle.rules.specs.Commands.{Op, vendor, class, imageMatch, setIndex, abort, setParams, overrideParams, fetch, copy, run, swap, Params, Form, sixteen, nil, alternatives, parameters, sequence, commands}
 use Rattle.rules.specs.Got.{got}
 use Rattle.rules.specs.Limits.{limits}
 use Rattle.rules.specs.ProgramTest.{paramsIn}
 use Rattle.rules.proofs.TableLaws.{each-row, _&_}
 use Rattle.run_slots.specs.declared.params.Params as Words
 use Rattle.run_slots.specs.Params.{meaning}
-use Rattle.run_commands.specs.Op.{opOf}
+use Rattle.run_commands.specs.Op.{opOf, SixteenAt}
 use Rattle.program_records.specs.declared.parameters.Entries.{Entries}
 use Rattle.program_records.specs.Entries.{ParamsAre}
 use Rattle.program_run.specs.Step.{ArgumentAt, valueOf, GivenAs}
@@ -38,9 +38,9 @@ module _ (p : Bytes) (n code from to : ℕ) (x : ArgumentAt p n code from to) wh
   size : to - from ≡ length argument
   size = sym (length-to p from to (x .up) (x .fits))
 
-  pub argument-sixteen : code < 3 → from + limits .class ≤ length p
+  pub argument-sixteen : SixteenAt p code from
   argument-sixteen =
-      each-row (λ c r. As (r .form) → c < 3 → from + limits .class ≤ length p) commands code (x .row)
+      each-row (λ c r. As (r .form) → SixteenAt p c from) commands code (x .row)
       ((λ q l. omega (arith, sixteen-is n (x .i) argument (x .op) vendor q .0, size, x .up, x .fits))
       & (λ q l. omega (arith, sixteen-is n (x .i) argument (x .op) class q .0, size, x .up, x .fits))
       & (λ q l. absurd (omega arith))

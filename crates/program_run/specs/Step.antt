@@ -1,7 +1,7 @@
 -- One step of a program's run, and the whole run.
 use Prim.Native.Nat.{ℕ, _+_, _-_, _≤_, _<_}
 use mathlib.Core.Path.{_≡_}
-use mathlib.Core.Bool.{true, false, cond}
+use mathlib.Core.Bool.{cond}
 use mathlib.Core.List.{List}
 use mathlib.Core.Option.{some}
 use lib.Dec.{eqb}
@@ -13,7 +13,6 @@ use Rattle.rules.specs.Bytes.{Bytes, part}
 use Rattle.rules.specs.Commands.{Op, setIndex, code, Row, rowOf, commands}
 use Rattle.rules.specs.Got.{got}
 use Rattle.rules.specs.Limits.{limits}
-use Rattle.rules.specs.Program.{Rec}
 use Rattle.rules.specs.ProgramFormat.{JUMP, NONE, codeFrom}
 use Rattle.rules.specs.ProgramRun.{exec, resume}
 use Rattle.rules.specs.ProgramTest.{opIn, nonJumps}
