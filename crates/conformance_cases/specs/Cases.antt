@@ -22,7 +22,7 @@ use Rattle.rules.specs.Program as Program
 use Rattle.rules.specs.ProgramRun.{runProgram}
 use Rattle.run_admission.specs.Answer.{inputOf, slotsAfter, traceAfter}
 use Rattle.pitvorgas.specs.Answers.{controllerOf, groupOf, checkedOf, newerOf, translatedOf, roomAfter, ranOf}
-use Rattle.conformance_cases.specs.Fields.{twoAt, isSet, stringEnd, deviceOf}
+use Rattle.conformance_cases.specs.Fields.{runHead, twoAt, isSet, stringEnd, deviceOf}
 use Rattle.conformance_lines.specs.Lines.{newline, checkedText, newerText}
 use Rattle.conformance_cases.specs.Lent.{roomFill, translationLine, ranLine}
 
@@ -71,7 +71,7 @@ runSlots program head b =
     cond (eqb (stringEnd b) 0) malformedText (runAnswers program head (take (stringEnd b - 2) (drop 2 b)) (drop (stringEnd b) b))
 
 unfoldable pub runCase : Bool → Bytes → Bytes
-runCase program b = cond (ltb (length b) 42) malformedText (runSlots program (take 42 b) (drop 42 b))
+runCase program b = cond (ltb (length b) runHead) malformedText (runSlots program (take runHead b) (drop runHead b))
 
 unfoldable pub jobLine : ℕ → Bytes → Bytes
 jobLine job b =

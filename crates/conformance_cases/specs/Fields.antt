@@ -5,6 +5,7 @@ use mathlib.Core.Bool.{Bool, cond, not}
 use lib.Dec.{eqb, ltb}
 use lib.ListN.{length, getD}
 use Rattle.rules.specs.Bytes.{Bytes, part}
+use Rattle.rules.specs.Limits.{limits}
 use Rattle.pitvorgas.specs.declared.Device.{Device}
 
 -- big-endian numbers
@@ -29,7 +30,10 @@ pub record StringAt (b : Bytes) (r : ℕ) : Type 0 where
   pub whole : (r ≡ 0 → ⊥) → 2 ≤ r
   pub short : r < 65538
 
--- the device in the head of a run
+-- the bytes of the head of a run (Cases has its layout), and the device in it
+abbrev pub runHead : ℕ
+runHead = 42
+
 unfoldable pub deviceOf : Bytes → Device
 deviceOf head =
-    record { vendor = part head 2 16; «class_id» = part head 18 16; number = fourAt head 34; event = isSet head 38 }
+    record { vendor = part head 2 (limits .class); «class_id» = part head 18 (limits .class); number = fourAt head 34; event = isSet head 38 }

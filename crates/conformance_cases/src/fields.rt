@@ -3,10 +3,12 @@ ghost use mathlib.Core.Path.{_≡_};
 ghost use Prim.Native.Nat.{_+_, _≤_};
 ghost use lib.ListN.{length};
 ghost use Rattle.rules.specs.Bytes.{part};
-ghost use Rattle.conformance_cases.specs.Fields.{StringAt, deviceOf};
+ghost use Rattle.rules.specs.Limits.{limits};
+ghost use Rattle.conformance_cases.specs.Fields.{StringAt, runHead, deviceOf};
 use byte_buffer::four;
 use byte_buffer::two;
 use pitvorgas::Device;
+use rules::controller::Controller;
 use rules::controller::Sixteen;
 
 // The end of the string at the start of b, or 0.
@@ -24,12 +26,12 @@ pub fn string_end(b: &[u8]) -> usize
 }
 
 fn sixteen(b: &[u8], at: usize) -> Sixteen
-    requires { ⌜ at + 16 ≤ length (now b) ⌝ }
-    ensures { λ r. ⌜ r ≡ part (now (b .entry)) at 16 ⌝ }
+    requires { ⌜ at + limits .class ≤ length (now b) ⌝ }
+    ensures { λ r. ⌜ r ≡ part (now (b .entry)) at (limits .class) ⌝ }
 {
-    let mut id = [0u8; 16];
+    let mut id = [0u8; Controller::CLASS_BYTES];
     let mut k = 0;
-    while k < 16 {
+    while k < Controller::CLASS_BYTES {
         id[k] = b[at + k];
         k += 1;
     }
@@ -38,7 +40,7 @@ fn sixteen(b: &[u8], at: usize) -> Sixteen
 
 // The device in the head of a run (specs/Cases.antt has the layout).
 pub fn device_of(head: &[u8]) -> Device
-    requires { ⌜ length (now head) ≡ 42 ⌝ }
+    requires { ⌜ length (now head) ≡ runHead ⌝ }
     ensures { λ r. ⌜ r ≡ deviceOf (now (head .entry)) ⌝ }
 {
     let vendor = sixteen(head, 2);

@@ -5,6 +5,7 @@ ghost use lib.ListN.{length, getD, replicate};
 ghost use Rattle.text.specs.Text.{Wrote};
 ghost use Rattle.run_admission.specs.Answer.{slotsAfter, traceAfter};
 ghost use Rattle.pitvorgas.specs.Answers.{controllerOf, ranOf};
+ghost use Rattle.conformance_cases.specs.Fields.{runHead};
 ghost use Rattle.conformance_cases.specs.Fields.{deviceOf};
 ghost use Rattle.conformance_cases.specs.Cases.{checkLine, newerLine, translateLine, ranBy, ranWith, runLine};
 use crate::fields::device_of;
@@ -62,7 +63,7 @@ fn run_by(
     answers: &[u8],
     trace: &mut [u8],
 ) -> RunAnswer
-    requires { ⌜ length (now head) ≡ 42 ⌝ }
+    requires { ⌜ length (now head) ≡ runHead ⌝ }
     ensures { λ r. ⌜ (r ≡ ranOf (controllerOf (deviceOf (now (head .entry)))) (ranBy program (now (head .entry)) (now (s .entry)) (now (slots .entry)) (now (answers .entry)) (now (trace .entry)))) × (now (slots .exit) ≡ slotsAfter (now (slots .entry)) (ranBy program (now (head .entry)) (now (s .entry)) (now (slots .entry)) (now (answers .entry)) (now (trace .entry)))) × (now (trace .exit) ≡ traceAfter (now (trace .entry)) (ranBy program (now (head .entry)) (now (s .entry)) (now (slots .entry)) (now (answers .entry)) (now (trace .entry)))) ⌝ }
 {
     let device = device_of(head);
@@ -85,7 +86,7 @@ fn run_with(
     trace: &mut [u8],
     room: &mut [u8],
 ) -> usize
-    requires { ⌜ (length (now head) ≡ 42) × (length (now slots) ≡ length (now before)) ⌝ }
+    requires { ⌜ (length (now head) ≡ runHead) × (length (now slots) ≡ length (now before)) ⌝ }
     ensures { λ r. ⌜ Wrote (ranWith (now (head .entry)) (now (before .entry)) (replicate (length (now (trace .entry))) (getD (now (head .entry)) 41 0)) (ranBy program (now (head .entry)) (now (s .entry)) (now (before .entry)) (now (answers .entry)) (replicate (length (now (trace .entry))) (getD (now (head .entry)) 41 0)))) 0 (now (room .entry)) r (now (room .exit)) ⌝ }
 {
     put(slots, 0, before);
@@ -103,7 +104,7 @@ pub fn run_line(
     s: &[u8],
     room: &mut [u8],
 ) -> usize
-    requires { ⌜ (length (now head) ≡ 42) × (length (now before) < 65536) ⌝ }
+    requires { ⌜ (length (now head) ≡ runHead) × (length (now before) < 65536) ⌝ }
     ensures { λ r. ⌜ Wrote (runLine program (now (head .entry)) (now (before .entry)) (now (answers .entry)) (now (s .entry))) 0 (now (room .entry)) r (now (room .exit)) ⌝ }
 {
     let mut slots = memory();

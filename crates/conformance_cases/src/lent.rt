@@ -6,11 +6,11 @@ ghost use Rattle.text.specs.Text.{Wrote};
 ghost use Rattle.conformance_cases.specs.Lent.{allAre, alteredText, translationLine, keptAll, ranLine};
 use byte_buffer::equal;
 use conformance_lines::events_end;
-use conformance_lines::least;
 use conformance_lines::put_ran;
 use conformance_lines::put_translated;
 use pitvorgas::RunAnswer;
 use pitvorgas::TranslateAnswer;
+use text::least;
 use text::put;
 
 // What a room is filled with.

@@ -3,6 +3,7 @@ ghost use mathlib.Core.Path.{_≡_};
 ghost use Prim.Native.Nat.{_<_};
 ghost use lib.ListN.{length};
 ghost use Rattle.text.specs.Text.{Wrote};
+ghost use Rattle.conformance_cases.specs.Fields.{runHead};
 ghost use Rattle.conformance_cases.specs.Cases.{malformedText, lineOf, jobLine, newerCase, translateCase, runCase, runSlots, runAnswers};
 
 mod fields;
@@ -58,7 +59,7 @@ fn translate_case(b: &[u8], room: &mut [u8]) -> usize
 }
 
 fn run_answers(program: bool, head: &[u8], slots: &[u8], b: &[u8], room: &mut [u8]) -> usize
-    requires { ⌜ (length (now head) ≡ 42) × (length (now slots) < 65536) ⌝ }
+    requires { ⌜ (length (now head) ≡ runHead) × (length (now slots) < 65536) ⌝ }
     ensures { λ r. ⌜ Wrote (runAnswers program (now (head .entry)) (now (slots .entry)) (now (b .entry))) 0 (now (room .entry)) r (now (room .exit)) ⌝ }
 {
     let end = string_end(b);
@@ -69,7 +70,7 @@ fn run_answers(program: bool, head: &[u8], slots: &[u8], b: &[u8], room: &mut [u
 }
 
 fn run_slots(program: bool, head: &[u8], b: &[u8], room: &mut [u8]) -> usize
-    requires { ⌜ length (now head) ≡ 42 ⌝ }
+    requires { ⌜ length (now head) ≡ runHead ⌝ }
     ensures { λ r. ⌜ Wrote (runSlots program (now (head .entry)) (now (b .entry))) 0 (now (room .entry)) r (now (room .exit)) ⌝ }
 {
     let end = string_end(b);

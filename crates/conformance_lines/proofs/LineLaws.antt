@@ -11,7 +11,8 @@ use lib.Seq.{take-take, take-all}
 use Rattle.text.specs.Text.{Wrote, least}
 use Rattle.text.proofs.TextLaws.{wrote-none, wrote-then}
 use Rattle.rules.specs.Bytes.{Bytes}
-use Rattle.rules.specs.Slots.{slotBytes, slotAt}
+use Rattle.rules.specs.Limits.{limits}
+use Rattle.rules.specs.Slots.{slotBytes, idFrom, imageFrom, digestFrom, slotAt}
 use Rattle.conformance_lines.specs.Lines.{nameText, imageText, slotsText}
 
 module _ (b : Bytes) (at : ℕ) (room : Bytes) where
@@ -40,15 +41,15 @@ take-least m n l = go (leb m n) refl
     go false e = many (leb-false m n e)
 
 module _ (b : Bytes) (k : ℕ) where
-  pub name-part : (x n : ℕ) → x ≡ getD b (slotBytes * k) 0 → n ≡ least x 32 →
-      take (slotBytes * k + 1 + n - (slotBytes * k + 1)) (drop (slotBytes * k + 1) b) ≡ slotAt b k .id
+  pub name-part : (x n : ℕ) → x ≡ getD b (slotBytes * k) 0 → n ≡ least x (limits .identifier) →
+      take (slotBytes * k + idFrom + n - (slotBytes * k + idFrom)) (drop (slotBytes * k + idFrom) b) ≡ slotAt b k .id
   unfolding slotAt
   name-part x n q e =
-      let d : slotBytes * k + 1 + n - (slotBytes * k + 1) ≡ n = omega arith in
-      rw (d, e, q) (sym (take-least (getD b (slotBytes * k) 0) 32 (drop (slotBytes * k + 1) b)))
+      let d : slotBytes * k + idFrom + n - (slotBytes * k + idFrom) ≡ n = omega arith in
+      rw (d, e, q) (sym (take-least (getD b (slotBytes * k) 0) (limits .identifier) (drop (slotBytes * k + idFrom) b)))
 
-  pub digest-part : take (slotBytes * k + 42 + 32 - (slotBytes * k + 42)) (drop (slotBytes * k + 42) b) ≡ slotAt b k .digest
+  pub digest-part : take (slotBytes * k + (imageFrom + digestFrom) + limits .digest - (slotBytes * k + (imageFrom + digestFrom))) (drop (slotBytes * k + (imageFrom + digestFrom)) b) ≡ slotAt b k .digest
   unfolding slotAt
   digest-part =
-      let d : slotBytes * k + 42 + 32 - (slotBytes * k + 42) ≡ 32 = omega arith in
+      let d : slotBytes * k + (imageFrom + digestFrom) + limits .digest - (slotBytes * k + (imageFrom + digestFrom)) ≡ limits .digest = omega arith in
       rw d

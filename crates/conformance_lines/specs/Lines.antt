@@ -5,8 +5,11 @@ use mathlib.Core.Bool.{cond}
 use lib.Dec.{eqb}
 use lib.ListN.{length, getD, take}
 use Rattle.text.specs.Text.{Bytes, ascii, least, hex}
+use Rattle.text.specs.Pieces.{lines}
 use Rattle.rules.specs.Bytes.{spanAt}
+use Rattle.rules.specs.Limits.{limits}
 use Rattle.rules.specs.Slots.{slotBytes, imageFrom, slotAt}
+use Rattle.rules.specs.Step.{eventBytes}
 use Rattle.pitvorgas.specs.declared.CheckAnswer.{CheckAnswer}
 use Rattle.pitvorgas.specs.declared.NewerAnswer.{NewerAnswer}
 use Rattle.pitvorgas.specs.declared.TranslateAnswer.{TranslateAnswer}
@@ -27,12 +30,13 @@ bytesText b = cond (eqb (length b) 0) (ascii "-") (hex b)
 unfoldable pub separator : ℕ → Bytes
 separator k = cond (eqb k 0) [] (ascii ",")
 
-abbrev pub eightPlaces : Bytes
-eightPlaces = ascii " %-%,%-%,%-%,%-%,%-%,%-%,%-%,%-%"
+-- the places of component k, behind a space or a comma
+unfoldable pub placeText : Bytes → ℕ → Bytes
+placeText ids k = format (cond (eqb k 0) (ascii " %-%") (ascii ",%-%")) (getD ids (2 * k) 0 ∷ getD ids (2 * k + 1) 0 ∷ [])
 
--- the places of components, at most eight
+-- of as many components as there may be
 unfoldable pub placesText : Bytes → ℕ → Bytes
-placesText ids components = format (take (4 * least components 8) eightPlaces) ids
+placesText ids components = lines (placeText ids) (least components (limits .components))
 
 -- 1 for a section that is there: it ends past 0
 abbrev pub there : Bytes → ℕ → ℕ
@@ -78,7 +82,7 @@ slotsText b (suc k) = slotsText b k ++ (nameText b k ++ imageText b k)
 
 -- where the events end in the trace
 abbrev pub eventsEnd : ℕ → Bytes → ℕ
-eventsEnd events trace = least (events * 8) (length trace)
+eventsEnd events trace = least (events * eventBytes) (length trace)
 
 unfoldable pub eventsText : ℕ → Bytes → Bytes
 eventsText events trace = ascii " " ++ bytesText (take (eventsEnd events trace) trace) ++ newline

@@ -1,24 +1,30 @@
 // The line of an answer.
 ghost use mathlib.Core.Path.{_≡_};
-ghost use Prim.Native.Nat.{_*_, _/_};
+ghost use Prim.Native.Nat.{_*_, _/_, _<_};
 ghost use lib.ListN.{length, getD};
 ghost use Rattle.text.specs.Text.{Wrote, least as Text·least};
+ghost use Rattle.rules.specs.Limits.{limits};
 ghost use Rattle.rules.specs.Slots.{slotBytes};
+ghost use Rattle.rules.specs.Step.{eventBytes};
 ghost use Rattle.run_slots.specs.Slot.{Holds};
 ghost use Rattle.conformance_lines.specs.Format.{format, piece};
-ghost use Rattle.conformance_lines.specs.Lines.{refusedText, bytesText, placesText, sectionsText, acceptedText, checkedText, newerText, programText, translatedText};
+ghost use Rattle.conformance_lines.specs.Lines.{refusedText, bytesText, placeText, placesText, sectionsText, acceptedText, checkedText, newerText, programText, translatedText};
 ghost use Rattle.conformance_lines.specs.Lines.{nameText, imageText, slotsText, eventsText, endText, ranText, separator as Lines·separator};
 use byte_buffer::wide;
 use pitvorgas::CheckAnswer;
 use pitvorgas::NewerAnswer;
 use pitvorgas::RunAnswer;
 use pitvorgas::TranslateAnswer;
+use rules::controller::Controller;
 use rules::controller::SectionPlaces;
+use rules::event_format::EVENT_BYTES;
+use rules::slot_format::IDENTIFIER;
 use rules::slot_format::IMAGE;
 use rules::slot_format::SLOT_BYTES;
 use rules::slot_format::SLOT_DIGEST;
 use run_slots::slot::capacity;
 use run_slots::slot::size;
+use text::least;
 use text::put;
 use text::put_byte;
 use text::put_decimal;
@@ -27,19 +33,6 @@ use text::put_hex;
 const PERCENT: u8 = 37;
 
 const NEWLINE: u8 = 10;
-
-const COMPONENTS: usize = 8;
-
-const ID_BYTES: usize = 32;
-
-pub fn least(a: usize, b: usize) -> usize
-    ensures { λ r. ⌜ r ≡ Text·least a b ⌝ }
-{
-    if a < b {
-        return a;
-    }
-    b
-}
 
 fn number_at(numbers: &[usize], k: usize) -> usize
     ensures { λ r. ⌜ r ≡ getD (now (numbers .entry)) k 0 ⌝ }
@@ -100,13 +93,29 @@ fn put_separator(room: &mut [u8], at: usize, k: usize) -> usize
     put_byte(room, at, b',')
 }
 
-// At most eight places, with commas between.
+// The places of component k, behind a space or a comma.
+fn put_place(room: &mut [u8], at: usize, ids: &[usize], k: usize) -> usize
+    requires { ⌜ k < limits .components ⌝ }
+    ensures { λ r. ⌜ Wrote (placeText (now (ids .entry)) k) at (now (room .entry)) r (now (room .exit)) ⌝ }
+{
+    let numbers = [number_at(ids, 2 * k), number_at(ids, 2 * k + 1)];
+    if k == 0 {
+        return put_format(room, at, b" %-%", &numbers);
+    }
+    put_format(room, at, b",%-%", &numbers)
+}
+
 fn put_places(room: &mut [u8], at: usize, ids: &[usize], components: usize) -> usize
     ensures { λ r. ⌜ Wrote (placesText (now (ids .entry)) components) at (now (room .entry)) r (now (room .exit)) ⌝ }
 {
-    let end = 4 * least(components, COMPONENTS);
-    let places: &[u8] = b" %-%,%-%,%-%,%-%,%-%,%-%,%-%,%-%";
-    put_format(room, at, &places[..end], ids)
+    let end = least(components, Controller::COMPONENTS);
+    let mut to = at;
+    let mut k = 0;
+    while k < end {
+        to = put_place(room, to, ids, k);
+        k += 1;
+    }
+    to
 }
 
 fn put_sections(room: &mut [u8], at: usize, s: &SectionPlaces) -> usize
@@ -181,8 +190,8 @@ fn put_name(room: &mut [u8], at: usize, slots: &[u8], k: usize) -> usize
     requires { ⌜ Holds (now slots) k ⌝ }
     ensures { λ r. ⌜ Wrote (nameText (now (slots .entry)) k) at (now (room .entry)) r (now (room .exit)) ⌝ }
 {
-    let from = SLOT_BYTES * k + 1;
-    let to = from + least(wide(slots[SLOT_BYTES * k]), ID_BYTES);
+    let from = SLOT_BYTES * k + IDENTIFIER;
+    let to = from + least(wide(slots[SLOT_BYTES * k]), Controller::IDENTIFIER_BYTES);
     let a = put_separator(room, at, k);
     put_bytes(room, a, &slots[from..to])
 }
@@ -197,7 +206,7 @@ fn put_image(room: &mut [u8], at: usize, slots: &[u8], k: usize) -> usize
         size(slots, k),
     ];
     let from = SLOT_BYTES * k + SLOT_DIGEST;
-    let to = from + 32;
+    let to = from + Controller::DIGEST_BYTES;
     let a = put_format(room, at, b":%:%:%:", &numbers);
     put_hex(room, a, &slots[from..to])
 }
@@ -218,12 +227,12 @@ fn put_slots(room: &mut [u8], at: usize, slots: &[u8]) -> usize
 
 // Where the events end in a trace of that length.
 pub fn events_end(events: usize, length: usize) -> usize
-    ensures { λ r. ⌜ r ≡ Text·least (events * 8) length ⌝ }
+    ensures { λ r. ⌜ r ≡ Text·least (events * eventBytes) length ⌝ }
 {
-    if length / 8 < events {
+    if length / EVENT_BYTES < events {
         return length;
     }
-    events * 8
+    events * EVENT_BYTES
 }
 
 fn put_events(room: &mut [u8], at: usize, events: usize, trace: &[u8]) -> usize

@@ -3,6 +3,7 @@ use Prim.Native.Nat.{_-_, _/_, _≤_}
 use mathlib.Core.Path.{_≡_}
 use native.Mathlib.Omega.{arith}
 use lib.ListN.{length}
+use Rattle.rules.specs.Slots.{slotBytes}
 use Rattle.text.specs.Text.{Wrote}
 use Rattle.conformance_lines.specs.Lines.{slotsText}
 use Rattle.text.proofs.TextLaws.{wrote-length}
@@ -36,7 +37,7 @@ returns : tie.Need-returns Inv-loop μ-loop
 returns c =
     let loop = c .before in
     let start = loop .before .before .before in
-    let e : loop .loop .k ≡ length (start .args .slots .now) / 74 = omega arith in rw e at (loop .loop .inv .1)
+    let e : loop .loop .k ≡ length (start .args .slots .now) / slotBytes = omega arith in rw e at (loop .loop .inv .1)
 
 pub put-slots-spec : {M : Type 1} → statement M
 put-slots-spec = tie.close (tie.spec Inv-loop μ-loop loop-holds (λ c κs. search needs) (λ c κs. search needs) (λ c. search needs) (λ c. search needs) loop-again same-length returns)

@@ -3,15 +3,16 @@ use Prim.Native.Nat.{_-_, _≤_}
 use mathlib.Core.Path.{_≡_, refl, _∙_}
 use native.Mathlib.Omega.{arith}
 use lib.ListN.{length}
+use Rattle.rules.specs.Limits.{limits}
 use Rattle.byte_buffer.proofs.ByteLoops.{copied, copy-start, copy-next, copy-end}
 use Rattle.conformance_cases.proofs.fields.sixteen.Statement.{statement}
 use Rattle.conformance_cases.proofs.fields.sixteen.Tie as tie
 
 abbrev Inv-loop : tie.InvT-loop
-Inv-loop b at id₀ k₀ id k = (k ≤ 16) × (length id₀ ≡ 16) × (id ≡ copied b at id₀ k)
+Inv-loop b at id₀ k₀ id k = (k ≤ limits .class) × (length id₀ ≡ limits .class) × (id ≡ copied b at id₀ k)
 
 abbrev μ-loop : tie.MeasureT-loop
-μ-loop b at id₀ k₀ id k = 16 - k
+μ-loop b at id₀ k₀ id k = limits .class - k
 
 loop-holds : tie.Need-loop-holds Inv-loop μ-loop
 loop-holds c = (omega arith, refl, copy-start _ _ _)
@@ -24,7 +25,7 @@ loop-again c =
 returns : tie.Need-returns Inv-loop μ-loop
 returns c =
     let loop = c .before in
-    let full : loop .loop .k ≡ 16 = omega arith in loop .loop .inv .2 ∙ copy-end _ _ _ _ (omega arith) ∙ rw full
+    let full : loop .loop .k ≡ limits .class = omega arith in loop .loop .inv .2 ∙ copy-end _ _ _ _ (omega arith) ∙ rw full
 
 pub sixteen-spec : {M : Type 1} → statement M
 sixteen-spec = tie.close (tie.spec Inv-loop μ-loop loop-holds (λ c. omega arith) (λ c. omega arith) (λ c. omega arith) (λ c. omega arith) (λ c. omega arith) loop-again returns)
