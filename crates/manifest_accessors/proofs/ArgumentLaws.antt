@@ -11,12 +11,12 @@ use Rattle.rules.specs.Limits.{limits}
 use Rattle.rules.specs.Bytes.{Bytes, part}
 use Rattle.rules.specs.Got.{got, found}
 use Rattle.rules.specs.Cbor.{BYTES, MAP, NIL, item}
-use Rattle.rules.specs.Commands.{Op, Params, sixteen, nil, below, parameters, Row, commands, rowOf, isAllowed}
+use Rattle.rules.specs.Commands.{Op, Params, Form, sixteen, nil, below, alternatives, parameters, sequence, Row, commands, rowOf, isAllowed}
 use Rattle.rules.specs.Manifest.{Seq, Cmd, one}
 use Rattle.rules.specs.Check.{Read, nothing, number, entries, argument, command, sequenceAt}
-use Rattle.rules.proofs.TableLaws.{each-row, _&_}
 use Rattle.rules.proofs.GotLaws.{passed, both, split, split₂, found-is}
 use Rattle.manifest_accessors.specs.Arguments.{ArgumentAt}
+use Rattle.manifest_accessors.proofs.KindLaws.{CodesOf, codes-of}
 
 pub form-of : (c : ℕ) (r x : Row) → rowOf c commands ≡ some r → rowOf c commands ≡ some x → r .form ≡ x .form
 form-of c r x p q = let same : r ≡ x = cc in rw same
@@ -69,11 +69,15 @@ module _ (s : Bytes) where
         (op (g .params), g .coerce, sym (both q₂ .0))
 
     one-row : (c : ℕ) (r : Row) → rowOf c commands ≡ some r → (c ≡ 30 → ⊥) → (c ≡ 15 → ⊥) → argument s deeper n m place (r .form) e at ≡ got (cmd, to) → IsOne
-    one-row c r =
-        each-row (λ c r. (c ≡ 30 → ⊥) → (c ≡ 15 → ⊥) → argument s deeper n m place (r .form) e at ≡ got (cmd, to) → IsOne) commands c r
-        ((λ a b. sixteen-one _) & (λ a b. sixteen-one _) & (λ a b. nil-one _) & (λ a b. below-one _) & (λ a b. nil-one _)
-        & (λ a b q. absurd (b refl)) & (λ a b. parameters-one _) & (λ a b. parameters-one _) & (λ a b. nil-one _) & (λ a b. nil-one _)
-        & (λ a b. nil-one _) & (λ a b q. absurd (a refl)) & (λ a b. nil-one _) & tt)
+    one-row c r listed a b = go (r .form) (codes-of c r listed)
+      where
+        go : (f : Form) → CodesOf f c → argument s deeper n m place f e at ≡ got (cmd, to) → IsOne
+        go (sixteen op) k = sixteen-one op
+        go (nil op) k = nil-one op
+        go (below op) k = below-one op
+        go alternatives k = absurd (b k)
+        go (parameters op) k = parameters-one op
+        go sequence k = absurd (a k)
 
   module _ (n section depth m e at : ℕ) (cmd : Cmd) (to : ℕ) (f : e ≤ length s)
       (q₀ : command s (sequenceAt s n section depth) n section m e at ≡ got (cmd, to)) where

@@ -1,4 +1,5 @@
 pub mod HeadLaws
+pub mod KindLaws
 pub mod ArgumentLaws
 pub mod EntryLaws
 pub mod OneLaws

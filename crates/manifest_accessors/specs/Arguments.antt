@@ -8,7 +8,6 @@ use lib.ListN.{length}
 use Rattle.rules.specs.Bytes.{Bytes}
 use Rattle.rules.specs.Got.{got}
 use Rattle.rules.specs.Cbor.{TRUE}
-use Rattle.rules.specs.Limits.{limits}
 use Rattle.rules.specs.declared.tables.Parameter.{Parameter}
 use Rattle.rules.specs.Commands.{Op, setIndex, code, component, Row, rowOf, commands, orElse, over, params, paramOf}
 use Rattle.rules.specs.Manifest.{Seq, one}
@@ -16,7 +15,7 @@ use Rattle.rules.specs.Check.{Read, Given, parameter, entries, nothing, argumen
 use Rattle.manifest_accessors.specs.declared.arguments.Args.{Args}
 use Rattle.run_slots.specs.declared.params.Params.{Params}
 use Rattle.run_slots.specs.Params.{optional, meaning, Fit}
-use Rattle.run_commands.specs.Op.{opOf}
+use Rattle.run_commands.specs.Op.{opOf, SixteenAt}
 
 abbrev pub paramsOf : Args → Params
 paramsOf a = a .params
@@ -110,6 +109,6 @@ pub record ArgumentRead (s : Bytes) (c at : ℕ) (x : ArgumentAt s c at) (a : Ar
   pub next : a .next ≡ x .to
   pub fit : Fit s (x .n) (paramsOf a)
   pub within : Within s (paramsOf a)
-  pub sixteen : c < 3 → a .value + limits .class ≤ length s
+  pub sixteen : SixteenAt s c (a .value)
   pub inside : (i : ℕ) → i < x .n → component (x .op) i < x .n
   pub component : (i : ℕ) → component (x .op) i ≡ componentOf c (a .value) i

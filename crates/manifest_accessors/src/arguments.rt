@@ -102,7 +102,7 @@ fn entry(s: &[u8], key: usize, at: usize, a: Args) -> Args
 }
 
 // k entries of a map of parameters.
-pub fn read_entries(s: &[u8], k: usize, at: usize) -> Args
+fn read_entries(s: &[u8], k: usize, at: usize) -> Args
     requires { ⌜ Entries (now s) k at ⌝ }
     ensures { λ r. ⌜ ((x : Entries (now (s .entry)) k at) → (givenOf (now (s .entry)) r ≡ x .given) × (r .next ≡ x .to) × Fit (now (s .entry)) (x .n) (paramsOf r) × Within (now (s .entry)) (paramsOf r)) ⌝ }
 {

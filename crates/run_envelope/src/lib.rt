@@ -15,11 +15,12 @@ use rules::controller::SectionPlaces;
 use run_admission::admit::admit;
 use run_admission::answer::Answer;
 use run_admission::answer::Outcome;
+use run_admission::answer::refused;
 use run_admission::ending::ended;
 use run_admission::ending::number_after;
 use sections::run_sections;
 
-pub mod sections;
+mod sections;
 
 // The run of an envelope that check has accepted, by what check reported.
 fn run_checked(
@@ -53,10 +54,7 @@ fn run_checked(
         &mut assigned,
     );
     if refusal != 0 {
-        return Outcome {
-            answer: Answer::Refused(Refusal::of(refusal), 0),
-            number: device.number,
-        };
+        return refused(Refusal::of(refusal), 0, device);
     }
     let vendor = device.vendor;
     let class = device.class;
@@ -94,10 +92,7 @@ pub fn run(
     let report = check(s);
     let answer = report.answer;
     match answer {
-        Checked::Refused(refusal, at) => Outcome {
-            answer: Answer::Refused(refusal, at),
-            number: device.number,
-        },
+        Checked::Refused(refusal, at) => refused(refusal, at, device),
         Checked::Accepted => {
             let ids = report.ids;
             let sections = report.sections;

@@ -61,7 +61,7 @@ fn run_section(
 }
 
 // The sections of the group, from the places that check reported, until one does not finish.
-pub fn run_sections(
+pub(crate) fn run_sections(
     s: &[u8],
     group: Group,
     sections: &SectionPlaces,

@@ -9,8 +9,9 @@ use lib.Dec.{eqb}
 use lib.ListN.{length}
 use Rattle.rules.specs.Bytes.{Bytes}
 use Rattle.rules.specs.Commands as Rules
+use Rattle.rules.specs.Limits.{limits}
 use Rattle.rules.specs.Manifest.{one}
-use Rattle.rules.specs.Step.{Env, State, step}
+use Rattle.rules.specs.Step.{Env, State, eventBytes, step}
 use Rattle.rules.specs.Run.{runSeq, runCmd}
 use Rattle.manifest_accessors.specs.declared.arguments.Args.{Args}
 use Rattle.run_sequence.specs.declared.Run.{Run}
@@ -18,7 +19,7 @@ use Rattle.run_commands.specs.declared.Progress.{Progress}
 use Rattle.run_slots.specs.Params.{FitAll}
 use Rattle.run_commands.specs.Op.{opOf, IsCode}
 use Rattle.run_commands.specs.Machine.{stateAt, outAt}
-use Rattle.manifest_accessors.specs.Arguments.{paramsOf, ArgumentRead}
+use Rattle.manifest_accessors.specs.Arguments.{paramsOf, componentOf, ArgumentRead}
 use Rattle.run_sequence.specs.Cycle.{LeafJob, CommandRan}
 use Rattle.manifest_accessors.proofs.OneLaws.{one-plain, coerce-after}
 
@@ -28,20 +29,20 @@ run-one env p op b i st = refl
 
 module _ (s : Bytes) (code at : ℕ) (run : Run) (vendor class : Bytes) (assigned : List ℕ) (answers slots : Bytes) (params : List ℕ) (trace : Bytes)
     (j : LeafJob s code at run vendor class assigned answers slots params trace) (a : Args) (r : ArgumentRead s code at (j .argument) a)
-    (i : ℕ) (e : i ≡ cond (eqb code 12) (a .value) (run .index)) where
+    (i : ℕ) (e : i ≡ componentOf code (a .value) (run .index)) where
   pub leaf-component : i ≡ Rules.component (j .argument .op) (run .index)
   leaf-component = e ∙ sym (r .component (run .index))
 
   pub leaf-inside : i < length (j .ready .env .ids)
   leaf-inside = omega (arith, leaf-component, r .inside (run .index) (omega (arith, j .among, j .ready .inside)), j .among)
 
-  pub leaf-fit : FitAll s 8 params
+  pub leaf-fit : FitAll s (limits .components) params
   leaf-fit k h = record { source = omega (arith, j .ready .lent .fit k h .source, j .ready .lent .host .few); digest = j .ready .lent .fit k h .digest }
 
   pub leaf-code : IsCode s code (a .value) (paramsOf a)
   leaf-code = rw (r .op) (one-plain s code at (j .argument) .0)
 
-  pub leaf-room : 8 * run .events + 8 ≤ length trace
+  pub leaf-room : eventBytes * run .events + eventBytes ≤ length trace
   leaf-room = omega (arith, j .few, j .ready .lent .room)
 
   pub leaf-ran : (d : Progress) (slots′ : Bytes) (params′ : List ℕ) (trace′ : Bytes) → d .events ≡ run .events + 1 →

@@ -156,7 +156,7 @@ fn caught(run: Run, coercible: bool, coerce: usize) -> Run
 }
 
 // The command at run.next; the sequences that it holds may be `depth` deep.
-pub fn run_command(
+fn run_command(
     s: &[u8],
     depth: usize,
     run: Run,

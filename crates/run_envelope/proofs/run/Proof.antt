@@ -8,7 +8,7 @@ run-requires : tie.Need-run-checked-requires
 run-requires c κs = accepted _ _ (c .before .before .before .before .before .before .before .before .check .ensures .0) (c .before .before .before .before .before .before .enum-told .given .1)
 
 refused : tie.Need-returns
-refused c = refused-check _ _ (c .before .before .before .check .ensures .0) _ _ (c .before .answer .given .1) _ _
+refused c = rw (c .refused .ensures) (refused-check _ _ (c .before .before .before .before .check .ensures .0) _ _ (c .before .before .answer .given .1) _ _)
 
 pub run-spec : {M : Type 1} → statement M
 run-spec =
@@ -16,6 +16,7 @@ run-spec =
     (tie.spec
     (λ c κs. search needs)
     (λ c. search needs)
+    (λ c κs. search needs)
     (λ c. search needs)
     run-requires
     refused

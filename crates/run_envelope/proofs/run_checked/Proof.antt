@@ -9,7 +9,7 @@ admit-requires : tie.Need-admit-requires
 admit-requires c κs = (few _ _ _ _ _ (c .before .before .before .before .before .before .before .pre), inside _ _ _ _ _ (c .before .before .before .before .before .before .before .pre))
 
 refused : tie.Need-returns
-refused c = refused-answer _ _ _ _ _ (c .before .before .before .before .before .before .before .before .before .before .pre) _ _ _ (c .before .before .admit .ensures .0) (c .before .if1 .taken) _ (c .of .ensures)
+refused c = rw (c .refused .ensures) (refused-answer _ _ _ _ _ (c .before .before .before .before .before .before .before .before .before .before .before .pre) _ _ _ (c .before .before .before .admit .ensures .0) (c .before .before .if1 .taken) _ (c .before .of .ensures))
 
 sections-requires : tie.Need-run-sections-requires
 sections-requires c κs = job _ _ _ _ _ (c .before .before .before .before .before .before .before .before .before .before .before .before .before .before .before .before .before .pre) _ _ _ (c .before .before .before .before .before .before .before .before .before .admit .ensures .0) (c .before .before .before .before .before .before .before .before .if1 .left) _ (c .before .before .before .before .before .before .before .before .before .admit .ensures .1 (c .before .before .before .before .before .before .before .before .if1 .left))
@@ -29,6 +29,7 @@ run-checked-spec =
     tie.close
     (tie.spec
     admit-requires
+    (λ c κs. search needs)
     (λ c κs. search needs)
     (λ c. search needs)
     (λ c. search needs)
