@@ -1,6 +1,7 @@
 // Runs on a described device.
 ghost use mathlib.Core.Path.{_≡_};
 ghost use lib.ListN.{length};
+ghost use Rattle.rules.specs.Limits.{limits};
 use crate::files::load;
 use crate::pages::group_word;
 use crate::pages::page;
@@ -15,6 +16,9 @@ use pitvorgas::Device;
 use pitvorgas::RunAnswer;
 use pitvorgas::pitvorgas_run;
 use pitvorgas::pitvorgas_run_program;
+use rules::controller::Controller;
+use rules::slot_format::IMAGE_BYTES;
+use rules::slot_format::SLOT_BYTES;
 
 // What is run. A program has its group in itself.
 enum Run {
@@ -23,10 +27,15 @@ enum Run {
     Program,
 }
 
-fn trace_room() -> [u8; 2048]
-    ensures { λ r. ⌜ 2048 ≡ length r ⌝ }
+// There is room for twice as many slots as a run takes, so that the run tells of too many, and for 64 answers.
+const SLOTS_ROOM: usize = 2 * Controller::SLOTS * SLOT_BYTES;
+
+const ANSWERS_ROOM: usize = 64 * IMAGE_BYTES;
+
+fn trace_room() -> [u8; Controller::TRACE_BYTES]
+    ensures { λ r. ⌜ limits .trace ≡ length r ⌝ }
 {
-    [0; 2048]
+    [0; Controller::TRACE_BYTES]
 }
 
 fn device_of(d: Scenario) -> Device {
@@ -65,11 +74,10 @@ fn run_bytes(bytes: &[u8], what: Run, d: Scenario, slots: &mut [u8], answers: &[
     print(&text, to);
 }
 
-// Reads the description, and runs on the device that it describes. There is room for twice as many slots as a run takes, so that the run tells of too
-// many, and for 64 answers.
+// Reads the description, and runs on the device that it describes.
 fn run_described(bytes: &[u8], what: Run, description: &[u8]) {
-    let mut slots = [0u8; 1184];
-    let mut answers = [0u8; 2368];
+    let mut slots = [0u8; SLOTS_ROOM];
+    let mut answers = [0u8; ANSWERS_ROOM];
     let d = describe(description, &mut slots, &mut answers);
     let refused = d.refused;
     if refused != 0 {
