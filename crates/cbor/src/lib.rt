@@ -97,7 +97,7 @@ fn long_head(s: &[u8], end: usize, at: usize, first: usize) -> HeadRead
 }
 
 // The head at `at`, in a container that ends at `end`.
-pub fn read_head(s: &[u8], end: usize, at: usize) -> HeadRead
+pub(crate) fn read_head(s: &[u8], end: usize, at: usize) -> HeadRead
     requires { ⌜ end ≤ length (now s) ⌝ }
     ensures { λ r. ⌜ headMeans r ≡ head (now (s .entry)) end at ⌝ }
 {

@@ -12,7 +12,7 @@ use rules::controller::Controller;
 use rules::controller::Sixteen;
 
 // The end of the string at the start of b, or 0.
-pub fn string_end(b: &[u8]) -> usize
+pub(crate) fn string_end(b: &[u8]) -> usize
     ensures { λ r. ⌜ StringAt (now (b .entry)) r ⌝ }
 {
     if b.len() < 2 {
@@ -39,7 +39,7 @@ fn sixteen(b: &[u8], at: usize) -> Sixteen
 }
 
 // The device in the head of a run (specs/Cases.antt has the layout).
-pub fn device_of(head: &[u8]) -> Device
+pub(crate) fn device_of(head: &[u8]) -> Device
     requires { ⌜ length (now head) ≡ runHead ⌝ }
     ensures { λ r. ⌜ r ≡ deviceOf (now (head .entry)) ⌝ }
 {

@@ -25,13 +25,13 @@ use pitvorgas::pitvorgas_run_program;
 use pitvorgas::pitvorgas_translate;
 use text::put;
 
-pub fn check_line(envelope: &[u8], room: &mut [u8]) -> usize
+pub(crate) fn check_line(envelope: &[u8], room: &mut [u8]) -> usize
     ensures { λ r. ⌜ Wrote (checkLine (now (envelope .entry))) 0 (now (room .entry)) r (now (room .exit)) ⌝ }
 {
     put_checked(room, 0, pitvorgas_check(envelope))
 }
 
-pub fn newer_line(first: &[u8], second: &[u8], room: &mut [u8]) -> usize
+pub(crate) fn newer_line(first: &[u8], second: &[u8], room: &mut [u8]) -> usize
     ensures { λ r. ⌜ Wrote (newerLine (now (first .entry)) (now (second .entry))) 0 (now (room .entry)) r (now (room .exit)) ⌝ }
 {
     put_newer(room, 0, pitvorgas_newer(first, second))
@@ -46,7 +46,7 @@ fn translate_into(envelope: &[u8], boot: bool, lent: &mut [u8], room: &mut [u8])
     put_translation(room, answer, lent)
 }
 
-pub fn translate_line(envelope: &[u8], boot: bool, n: usize, room: &mut [u8]) -> usize
+pub(crate) fn translate_line(envelope: &[u8], boot: bool, n: usize, room: &mut [u8]) -> usize
     requires { ⌜ n < 65536 ⌝ }
     ensures { λ r. ⌜ Wrote (translateLine (now (envelope .entry)) boot n) 0 (now (room .entry)) r (now (room .exit)) ⌝ }
 {
@@ -96,7 +96,7 @@ fn run_with(
     put_run(room, answer, before, slots, x, trace)
 }
 
-pub fn run_line(
+pub(crate) fn run_line(
     program: bool,
     head: &[u8],
     before: &[u8],

@@ -17,13 +17,13 @@ use text::put;
 pub const ROOM_FILL: u8 = 160;
 
 // Bytes for a length of two bytes; what they are does not matter.
-pub fn memory() -> [u8; 65536]
+pub(crate) fn memory() -> [u8; 65536]
     ensures { λ r. ⌜ 65536 ≡ length r ⌝ }
 {
     [0; 65536]
 }
 
-pub fn fill(b: &mut [u8], x: u8)
+pub(crate) fn fill(b: &mut [u8], x: u8)
     ensures { λ _. ⌜ now (b .exit) ≡ replicate (length (now (b .entry))) x ⌝ }
 {
     let mut i = 0;
@@ -34,7 +34,7 @@ pub fn fill(b: &mut [u8], x: u8)
 }
 
 // Whether every byte from `at` on is x.
-pub fn all_are(b: &[u8], at: usize, x: u8) -> bool
+pub(crate) fn all_are(b: &[u8], at: usize, x: u8) -> bool
     ensures { λ r. ⌜ r ≡ allAre x (drop at (now (b .entry))) ⌝ }
 {
     let mut i = at;
@@ -47,7 +47,7 @@ pub fn all_are(b: &[u8], at: usize, x: u8) -> bool
     true
 }
 
-pub fn same(a: &[u8], b: &[u8]) -> bool
+pub(crate) fn same(a: &[u8], b: &[u8]) -> bool
     ensures { λ r. ⌜ r ≡ Bytes·same (now (a .entry)) (now (b .entry)) ⌝ }
 {
     if a.len() != b.len() {
@@ -65,7 +65,7 @@ fn put_altered(room: &mut [u8], at: usize, kept: bool) -> usize
     put(room, at, b"altered\n")
 }
 
-pub fn put_translation(room: &mut [u8], answer: TranslateAnswer, lent: &[u8]) -> usize
+pub(crate) fn put_translation(room: &mut [u8], answer: TranslateAnswer, lent: &[u8]) -> usize
     ensures { λ r. ⌜ Wrote (translationLine answer (now (lent .entry))) 0 (now (room .entry)) r (now (room .exit)) ⌝ }
 {
     let end = least(answer.length, lent.len());
@@ -87,7 +87,7 @@ fn kept_all(answer: RunAnswer, before: &[u8], slots: &[u8], fill: u8, trace: &[u
     same(before, slots)
 }
 
-pub fn put_run(
+pub(crate) fn put_run(
     room: &mut [u8],
     answer: RunAnswer,
     before: &[u8],

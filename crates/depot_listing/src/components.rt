@@ -37,7 +37,7 @@ fn put_component(room: &mut [u8], at: usize, n: usize, s: &[u8]) -> usize
     put(room, c, b"\n")
 }
 
-pub fn put_components(room: &mut [u8], at: usize, s: &[u8], count: usize) -> usize
+pub(crate) fn put_components(room: &mut [u8], at: usize, s: &[u8], count: usize) -> usize
     ensures { λ r. ⌜ Wrote (componentsText count (now (s .entry))) at (now (room .entry)) r (now (room .exit)) ⌝ }
 {
     let mut to = at;
@@ -56,7 +56,7 @@ pub fn put_components(room: &mut [u8], at: usize, s: &[u8], count: usize) -> usi
 }
 
 // What follows the components, nothing if one is missing.
-pub fn after_components(s: &[u8], count: usize) -> &[u8]
+pub(crate) fn after_components(s: &[u8], count: usize) -> &[u8]
     ensures { λ r. ⌜ now r ≡ afterComponents count (now (s .entry)) ⌝ }
 {
     let mut rest = s;

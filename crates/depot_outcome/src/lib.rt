@@ -41,7 +41,7 @@ fn put_counts(room: &mut [u8], at: usize, events: usize, used: usize) -> usize
 }
 
 // The end of a run that was not refused.
-pub fn put_ran(room: &mut [u8], at: usize, answer: RunAnswer) -> usize
+pub(crate) fn put_ran(room: &mut [u8], at: usize, answer: RunAnswer) -> usize
     ensures { λ r. ⌜ Wrote (ranText answer) at (now (room .entry)) r (now (room .exit)) ⌝ }
 {
     let a = put_end(room, at, answer.end, answer.place);
@@ -91,7 +91,7 @@ fn put_slot(room: &mut [u8], at: usize, slots: &[u8], k: usize) -> usize
 }
 
 // The slots, as many as are whole.
-pub fn put_slots(room: &mut [u8], at: usize, slots: &[u8]) -> usize
+pub(crate) fn put_slots(room: &mut [u8], at: usize, slots: &[u8]) -> usize
     ensures { λ r. ⌜ Wrote (slotsText (now (slots .entry))) at (now (room .entry)) r (now (room .exit)) ⌝ }
 {
     let n = slots.len() / SLOT_BYTES;

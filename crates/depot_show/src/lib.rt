@@ -97,7 +97,7 @@ pub fn put_parts(
 }
 
 // The manifest of an envelope that check has accepted, by check's report.
-pub fn put_manifest(room: &mut [u8], at: usize, s: &[u8], report: Report) -> usize
+pub(crate) fn put_manifest(room: &mut [u8], at: usize, s: &[u8], report: Report) -> usize
     ensures { λ r. ⌜ Wrote (manifestText (now (s .entry)) report) at (now (room .entry)) r (now (room .exit)) ⌝ }
 {
     let ids = report.ids;

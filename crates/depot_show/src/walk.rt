@@ -168,7 +168,14 @@ fn put_commands(
 }
 
 // The sequence at `at`, in a container that ends at `e`; it and those in it may be `depth` deep.
-pub fn put_sequence(room: &mut [u8], to: usize, s: &[u8], depth: usize, e: usize, at: usize) -> Put
+pub(crate) fn put_sequence(
+    room: &mut [u8],
+    to: usize,
+    s: &[u8],
+    depth: usize,
+    e: usize,
+    at: usize,
+) -> Put
     ensures { λ r. ⌜ Shows (sequenceShown (now (s .entry)) depth e at) to (now (room .entry)) r (now (room .exit)) ⌝ }
 {
     if depth == 0 {

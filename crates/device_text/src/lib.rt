@@ -16,7 +16,7 @@ const SPACE: u8 = 32;
 const RETURN: u8 = 13;
 
 // Where b first stands in s; the length of s, if it does not.
-pub fn until(s: &[u8], b: u8) -> usize
+pub(crate) fn until(s: &[u8], b: u8) -> usize
     ensures { λ r. ⌜ (r ≡ Words.until b (now (s .entry))) × (r ≤ length (now (s .entry))) ⌝ }
 {
     let mut i = 0;
@@ -67,7 +67,7 @@ fn blank(x: u8) -> bool
 }
 
 // How long a line is without the blanks at its end.
-pub fn trimmed(s: &[u8]) -> usize
+pub(crate) fn trimmed(s: &[u8]) -> usize
     ensures { λ r. ⌜ (r ≤ length (now (s .entry))) × (take r (now (s .entry)) ≡ Words.trim (now (s .entry))) ⌝ }
 {
     let mut n = s.len();

@@ -46,7 +46,7 @@ pub fn decimal(w: &[u8]) -> usize
 }
 
 // The value of a digit in hexadecimal; 16 is none.
-pub fn digit(b: u8) -> usize
+pub(crate) fn digit(b: u8) -> usize
     ensures { λ r. ⌜ r ≡ Words.digit b ⌝ }
 {
     let n = wide(b);
@@ -97,7 +97,7 @@ pub fn is_bytes(n: usize, w: &[u8]) -> bool
     all_digits(w)
 }
 
-pub fn up_to_bytes(n: usize, w: &[u8]) -> bool
+pub(crate) fn up_to_bytes(n: usize, w: &[u8]) -> bool
     ensures { λ r. ⌜ r ≡ Words.upToBytes n (now (w .entry)) ⌝ }
 {
     if w.len() % 2 != 0 {

@@ -51,7 +51,7 @@ pub fn is_slot(t: &[u8]) -> bool
 }
 
 // The status of an answer: good, bad or a number.
-pub fn status(w: &[u8]) -> usize
+pub(crate) fn status(w: &[u8]) -> usize
     ensures { λ r. ⌜ r ≡ Rule.status (now (w .entry)) ⌝ }
 {
     if is(w, b"good") {

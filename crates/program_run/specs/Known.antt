@@ -1,4 +1,4 @@
--- What the program test assigned in a program that it accepted.
+-- What the program test found in a program that it accepted.
 use mathlib.Core.Path.{_≡_}
 use Rattle.rules.specs.Bytes.{Bytes}
 use Rattle.rules.specs.Got.{got}

@@ -19,7 +19,7 @@ use step::run_records;
 mod jump;
 mod step;
 
-// The run of a program that the test has accepted, by what the test assigned.
+// The run of a program that the test has accepted, by what the test found.
 fn run_tested(
     p: &[u8],
     t: Tested,

@@ -289,7 +289,7 @@ pub fn look_up_parameter(table: &Table, key: usize) -> Known
 }
 
 // For a tool that looks up once.
-pub fn command_of(code: usize) -> Listed
+pub(crate) fn command_of(code: usize) -> Listed
     ensures { λ r. ⌜ r ≡ listed (rowOf code commands) ⌝ }
 {
     look_up(&tables(), code)

@@ -109,7 +109,7 @@ module _ (s : Bytes) (n : ℕ) where
       go true e = let q : j ≡ i = eqb-true j i e in rw (q, params-same w i p l h) g
       go false e = rw (params-other w i p j (eqb-false j i e)) (f j k)
 
--- all params 0: nothing is set
+-- all numbers 0: nothing is set
 zeros : (m j : ℕ) → _≡_ {A = ℕ} (getD (replicate m 0) j 0) 0
 zeros zero j = refl
 zeros (suc m) zero = refl

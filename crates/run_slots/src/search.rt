@@ -1,4 +1,4 @@
-// Slots are assigned by identifier, never by position.
+// Slots are found by identifier, never by position.
 ghost use mathlib.Core.Path.{_≡_};
 ghost use mathlib.Core.Bool.{true};
 ghost use Prim.Native.Nat.{ℕ, _+_, _-_, _*_, _≤_, _<_};

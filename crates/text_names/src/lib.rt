@@ -92,7 +92,7 @@ const ENDS: [u8; 10] = [
 ];
 
 // A word, and spaces up to a width.
-pub fn put_wide(room: &mut [u8], at: usize, word: &[u8], width: usize) -> usize
+pub(crate) fn put_wide(room: &mut [u8], at: usize, word: &[u8], width: usize) -> usize
     ensures { λ r. ⌜ Wrote (wide width (now (word .entry))) at (now (room .entry)) r (now (room .exit)) ⌝ }
 {
     let to = put(room, at, word);
