@@ -11,7 +11,7 @@ use Rattle.rules.specs.Limits.{limits}
 use Rattle.rules.specs.Bytes.{Bytes, part}
 use Rattle.rules.specs.Got.{got, found}
 use Rattle.rules.specs.Cbor.{BYTES, MAP, NIL, item}
-use Rattle.rules.specs.Commands.{Op, Params, Form, sixteen, nil, below, alternatives, parameters, sequence, Row, commands, rowOf, isAllowed}
+use Rattle.rules.specs.Commands.{Op, Params, Form, sixteen, nil, below, alternatives, parameters, sequence, Row, commands, rowOf, isAllowed, tryEachCode, runSequenceCode}
 use Rattle.rules.specs.Manifest.{Seq, Cmd, one}
 use Rattle.rules.specs.Check.{Read, nothing, number, entries, argument, command, sequenceAt}
 use Rattle.rules.proofs.GotLaws.{passed, both, split, split₂, found-is}
@@ -68,7 +68,7 @@ module _ (s : Bytes) where
         split₂ _ (entries s n (h .num) 0 nothing e (h .next)) _ (cmd, to) q₁ λ g next qg q₂.
         (op (g .params), g .coerce, sym (both q₂ .0))
 
-    one-row : (c : ℕ) (r : Row) → rowOf c commands ≡ some r → (c ≡ 30 → ⊥) → (c ≡ 15 → ⊥) → argument s deeper n m place (r .form) e at ≡ got (cmd, to) → IsOne
+    one-row : (c : ℕ) (r : Row) → rowOf c commands ≡ some r → (c ≡ runSequenceCode → ⊥) → (c ≡ tryEachCode → ⊥) → argument s deeper n m place (r .form) e at ≡ got (cmd, to) → IsOne
     one-row c r listed a b = go (r .form) (codes-of c r listed)
       where
         go : (f : Form) → CodesOf f c → argument s deeper n m place f e at ≡ got (cmd, to) → IsOne
@@ -81,7 +81,7 @@ module _ (s : Bytes) where
 
   module _ (n section depth m e at : ℕ) (cmd : Cmd) (to : ℕ) (f : e ≤ length s)
       (q₀ : command s (sequenceAt s n section depth) n section m e at ≡ got (cmd, to)) where
-    pub command-one : (c p : ℕ) → number s e at ≡ got (c, p) → (c ≡ 30 → ⊥) → (c ≡ 15 → ⊥) →
+    pub command-one : (c p : ℕ) → number s e at ≡ got (c, p) → (c ≡ runSequenceCode → ⊥) → (c ≡ tryEachCode → ⊥) →
         (x : ArgumentAt s c p) × (x .n ≡ n) × (cmd ≡ one at (x .op) (x .coerce)) × (x .to ≡ to) × (m < limits .commands)
     command-one c p qn a b =
         let x = command-coded (sequenceAt s n section depth) n section m e at cmd to q₀ c p qn in

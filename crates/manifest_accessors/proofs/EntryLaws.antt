@@ -16,7 +16,7 @@ use Rattle.rules.specs.Limits.{limits}
 use Rattle.rules.specs.Bytes.{Bytes, part}
 use Rattle.rules.specs.Got.{got, found}
 use Rattle.rules.specs.Cbor.{BYTES, TEXT, FALSE, TRUE, Head, after, item, oneOf}
-use Rattle.rules.specs.Commands.{ParamRow, params, paramOf}
+use Rattle.rules.specs.Commands.{ParamRow, params, paramOf, coerceKey, uriKey, sourceKey, digestKey}
 use Rattle.rules.specs.Check.{Given, give, nothing, number, parameter, entries}
 use Rattle.rules.proofs.GotLaws.{passed, both, split, split₂, found-is}
 use Rattle.rules.proofs.TableLaws.{_&_}
@@ -132,12 +132,12 @@ module _ (s : Bytes) (n e at : ℕ) (f : e ≤ length s) (v : Given) (q : ℕ) w
       let (u, m, l) = number-law s e at k next qk in
       record { headed = number-headed s e at k next f qk; given = sym ev; to = sym eq; small = l }
 
-  headed-read : (key : ℕ) (what : Parameter) → paramOf key params ≡ some what → (key ≡ 2 → ⊥) → parameter s n what e at ≡ got (v, q) → HeadAt s at
+  headed-read : (key : ℕ) (what : Parameter) → paramOf key params ≡ some what → (key ≡ coerceKey → ⊥) → parameter s n what e at ≡ got (v, q) → HeadAt s at
   headed-read key what =
       param-of (λ k x. (k ≡ 2 → ⊥) → parameter s n x e at ≡ got (v, q) → HeadAt s at) params key what
       ((λ n q. absurd (n refl)) & (λ n q. uri-read q .headed) & (λ n q. source-read q .headed) & (λ n q. digest-read q .headed) & (λ n q. size-read q .headed) & tt)
 
-is-size : (key : ℕ) (what : Parameter) → paramOf key params ≡ some what → (key ≡ 2 → ⊥) → (key ≡ 6 → ⊥) → (key ≡ 10 → ⊥) → (key ≡ 11 → ⊥) → what ≡ Size
+is-size : (key : ℕ) (what : Parameter) → paramOf key params ≡ some what → (key ≡ coerceKey → ⊥) → (key ≡ uriKey → ⊥) → (key ≡ sourceKey → ⊥) → (key ≡ digestKey → ⊥) → what ≡ Size
 is-size key what =
     param-of (λ k x. (k ≡ 2 → ⊥) → (k ≡ 6 → ⊥) → (k ≡ 10 → ⊥) → (k ≡ 11 → ⊥) → x ≡ Size) params key what
     ((λ a b c d. absurd (a refl)) & (λ a b c d. absurd (b refl)) & (λ a b c d. absurd (c refl)) & (λ a b c d. absurd (d refl)) & (λ a b c d. refl) & tt)
@@ -149,22 +149,22 @@ module _ (s : Bytes) (key at : ℕ) (x : EntryAt s key at) where
   reads-as : (y : Parameter) → x .what ≡ y → parameter s (x .n) y (x .e) at ≡ got (x .given, x .to)
   reads-as y e = rw e at (x .reads)
 
-  pub entry-coerce : key ≡ 2 → (at < length s) × (x .to ≡ at + 1) × (x .given ≡ give (some (eqb (getD s at 0) trueByte)) none none none none)
+  pub entry-coerce : key ≡ coerceKey → (at < length s) × (x .to ≡ at + 1) × (x .given ≡ give (some (eqb (getD s at 0) trueByte)) none none none none)
   entry-coerce k = coerce-read s (x .n) (x .e) at (x .fits) (x .given) (x .to) (reads-as Coerce (what-is key (x .what) Coerce (x .known) (rw k)))
 
-  pub entry-uri : key ≡ 6 → UriAt s (x .n) (x .e) at (x .fits) (x .given) (x .to)
+  pub entry-uri : key ≡ uriKey → UriAt s (x .n) (x .e) at (x .fits) (x .given) (x .to)
   entry-uri k = uri-read s (x .n) (x .e) at (x .fits) (x .given) (x .to) (reads-as Uri (what-is key (x .what) Uri (x .known) (rw k)))
 
-  pub entry-source : key ≡ 10 → SourceAt s (x .n) (x .e) at (x .fits) (x .given) (x .to)
+  pub entry-source : key ≡ sourceKey → SourceAt s (x .n) (x .e) at (x .fits) (x .given) (x .to)
   entry-source k = source-read s (x .n) (x .e) at (x .fits) (x .given) (x .to) (reads-as Source (what-is key (x .what) Source (x .known) (rw k)))
 
-  pub entry-digest : key ≡ 11 → DigestAt s (x .n) (x .e) at (x .fits) (x .given) (x .to)
+  pub entry-digest : key ≡ digestKey → DigestAt s (x .n) (x .e) at (x .fits) (x .given) (x .to)
   entry-digest k = digest-read s (x .n) (x .e) at (x .fits) (x .given) (x .to) (reads-as Digest (what-is key (x .what) Digest (x .known) (rw k)))
 
-  pub entry-size : (key ≡ 2 → ⊥) → (key ≡ 6 → ⊥) → (key ≡ 10 → ⊥) → (key ≡ 11 → ⊥) → SizeAt s (x .n) (x .e) at (x .fits) (x .given) (x .to)
+  pub entry-size : (key ≡ coerceKey → ⊥) → (key ≡ uriKey → ⊥) → (key ≡ sourceKey → ⊥) → (key ≡ digestKey → ⊥) → SizeAt s (x .n) (x .e) at (x .fits) (x .given) (x .to)
   entry-size a b c d = size-read s (x .n) (x .e) at (x .fits) (x .given) (x .to) (reads-as Size (is-size key (x .what) (x .known) a b c d))
 
-  pub entry-headed : (key ≡ 2 → ⊥) → HeadAt s at
+  pub entry-headed : (key ≡ coerceKey → ⊥) → HeadAt s at
   entry-headed n = headed-read s (x .n) (x .e) at (x .fits) (x .given) (x .to) key (x .what) (x .known) n (x .reads)
 
 -- the head at `at` has that number and that next place
@@ -177,7 +177,7 @@ coerce-is false = refl
 
 -- each parameter put over those of a
 module _ (s : Bytes) (key at : ℕ) (x : EntryAt s key at) (a : Args) where
-  pub put-coerce : key ≡ 2 → (b : ℕ) → b ≡ flagOf (getD s at 0) → (next : ℕ) → next ≡ at + 1 →
+  pub put-coerce : key ≡ coerceKey → (b : ℕ) → b ≡ flagOf (getD s at 0) → (next : ℕ) → next ≡ at + 1 →
       EntryPut s key at x a
       (record { value = a .value; params = record { uri = a .params .uri; length = a .params .length; source = a .params .source; digest = a .params .digest; size = a .params .size }; coerce = b; next = next })
   put-coerce k b e next n =
@@ -185,7 +185,7 @@ module _ (s : Bytes) (key at : ℕ) (x : EntryAt s key at) (a : Args) where
       record { given = rw (given, e, coerce-is (eqb (getD s at 0) trueByte)); next = omega arith; fit = λ f. record { source = f .source; digest = f .digest }; within = λ w. record { inside = w .inside; short = w .short } }
 
   module _ (value next : ℕ) (o : Opens s at value next) where
-    pub put-uri : key ≡ 6 →
+    pub put-uri : key ≡ uriKey →
         EntryPut s key at x a
         (record { value = a .value; params = record { uri = next; length = value; source = a .params .source; digest = a .params .digest; size = a .params .size }; coerce = a .coerce; next = next + value })
     unfolding meaning
@@ -199,7 +199,7 @@ module _ (s : Bytes) (key at : ℕ) (x : EntryAt s key at) (a : Args) where
           within = λ w. record { inside = λ l. omega (arith, y .to, y .fits); short = omega (arith, y .short) };
         }
 
-    pub put-source : key ≡ 10 →
+    pub put-source : key ≡ sourceKey →
         EntryPut s key at x a
         (record { value = a .value; params = record { uri = a .params .uri; length = a .params .length; source = value + 1; digest = a .params .digest; size = a .params .size }; coerce = a .coerce; next = next })
     unfolding meaning
@@ -214,7 +214,7 @@ module _ (s : Bytes) (key at : ℕ) (x : EntryAt s key at) (a : Args) where
           within = λ w. record { inside = w .inside; short = w .short };
         }
 
-    pub put-digest : key ≡ 11 →
+    pub put-digest : key ≡ digestKey →
         EntryPut s key at x a
         (record { value = a .value; params = record { uri = a .params .uri; length = a .params .length; source = a .params .source; digest = next; size = a .params .size }; coerce = a .coerce; next = next + limits .digest })
     unfolding meaning
@@ -228,7 +228,7 @@ module _ (s : Bytes) (key at : ℕ) (x : EntryAt s key at) (a : Args) where
           within = λ w. record { inside = w .inside; short = w .short };
         }
 
-    pub put-size : (key ≡ 2 → ⊥) → (key ≡ 6 → ⊥) → (key ≡ 10 → ⊥) → (key ≡ 11 → ⊥) →
+    pub put-size : (key ≡ coerceKey → ⊥) → (key ≡ uriKey → ⊥) → (key ≡ sourceKey → ⊥) → (key ≡ digestKey → ⊥) →
         EntryPut s key at x a
         (record { value = a .value; params = record { uri = a .params .uri; length = a .params .length; source = a .params .source; digest = a .params .digest; size = value + 1 }; coerce = a .coerce; next = next })
     unfolding meaning

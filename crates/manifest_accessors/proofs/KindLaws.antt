@@ -5,16 +5,16 @@ use mathlib.Core.List.{[], _∷_}
 use mathlib.Core.Bool.{false}
 use mathlib.Core.Logic.{_⊎_, inl, inr}
 use mathlib.Core.Option.{some}
-use Rattle.rules.specs.Commands.{Form, sixteen, nil, below, alternatives, parameters, sequence, Row, commands, rowOf, among}
+use Rattle.rules.specs.Commands.{Form, sixteen, nil, below, alternatives, parameters, sequence, Row, commands, rowOf, among, vendorCode, classCode, setIndexCode, tryEachCode, setParametersCode, overrideCode, runSequenceCode}
 use Rattle.rules.proofs.TableLaws.{each-row, _&_}
 
 abbrev pub CodesOf : Form → ℕ → Type 0
-CodesOf (sixteen op) c = (c ≡ 1) ⊎ (c ≡ 2)
+CodesOf (sixteen op) c = (c ≡ vendorCode) ⊎ (c ≡ classCode)
 CodesOf (nil op) c = among c (1 ∷ 2 ∷ 12 ∷ 15 ∷ 19 ∷ 20 ∷ 30 ∷ []) ≡ false
-CodesOf (below op) c = c ≡ 12
-CodesOf alternatives c = c ≡ 15
-CodesOf (parameters op) c = (c ≡ 19) ⊎ (c ≡ 20)
-CodesOf sequence c = c ≡ 30
+CodesOf (below op) c = c ≡ setIndexCode
+CodesOf alternatives c = c ≡ tryEachCode
+CodesOf (parameters op) c = (c ≡ setParametersCode) ⊎ (c ≡ overrideCode)
+CodesOf sequence c = c ≡ runSequenceCode
 
 pub codes-of : (c : ℕ) (r : Row) → rowOf c commands ≡ some r → CodesOf (r .form) c
 codes-of c r =

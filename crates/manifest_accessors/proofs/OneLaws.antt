@@ -13,7 +13,7 @@ use Rattle.rules.specs.Limits.{limits}
 use Rattle.rules.specs.Bytes.{Bytes, part}
 use Rattle.rules.specs.Got.{got}
 use Rattle.rules.specs.Cbor.{BYTES, ARRAY, MAP, NIL, item}
-use Rattle.rules.specs.Commands.{Op, vendor, class, imageMatch, setIndex, abort, setParams, overrideParams, fetch, copy, run, swap, Params, Form, sixteen, nil, below, alternatives, parameters, sequence, Row, commands, rowOf, code, component}
+use Rattle.rules.specs.Commands.{Op, vendor, class, imageMatch, setIndex, abort, setParams, overrideParams, fetch, copy, run, swap, Params, Form, sixteen, nil, below, alternatives, parameters, sequence, Row, commands, rowOf, code, component, vendorCode, classCode, setIndexCode, setParametersCode, overrideCode}
 use Rattle.rules.specs.Manifest.{Seq, one}
 use Rattle.rules.specs.Check.{Read, Given, nothing, number, inBytes, entries, alternativesAt, argument}
 use Rattle.rules.proofs.GotLaws.{passed, both, split, split₂}
@@ -138,7 +138,7 @@ module _ (s : Bytes) (deeper : ℕ → Read Seq) (n m place e at : ℕ) (op : Op
 
   -- its code, and its component unless it sets the index
   abbrev Plain : ℕ → Type 0
-  Plain c = (code op ≡ c) × ((c ≡ 12 → ⊥) → (i : ℕ) → component op i ≡ i)
+  Plain c = (code op ≡ c) × ((c ≡ setIndexCode → ⊥) → (i : ℕ) → component op i ≡ i)
 
   plain-nil : (make : Op) (c : ℕ) → code make ≡ c → ((i : ℕ) → component make i ≡ i) → Reads (nil make) → Plain c
   plain-nil make c k h q = let y = nil-read make q in (rw (y .op-is) k, λ n i. rw (y .op-is) (h i))
@@ -168,10 +168,10 @@ module _ (s : Bytes) (deeper : ℕ → Read Seq) (n m place e at : ℕ) (op : Op
   rest-nil : (make : Op) (c : ℕ) → ((v : ℕ) (p : Words.Params) → opOf s c v p ≡ make) → Reads (nil make) → Rest c
   rest-nil make c k q = let y = nil-read make q in ((λ v p. k v p ∙ sym (y .op-is)), y .coerce-is, y .to-is, y .fits)
 
-  rest : (c : ℕ) (r : Row) → rowOf c commands ≡ some r → (1 ≤ c → 3 ≤ c) → (c ≡ 12 → ⊥) → (19 ≤ c → 21 ≤ c) → Reads (r .form) → Rest c
+  rest : (c : ℕ) (r : Row) → rowOf c commands ≡ some r → (1 ≤ c → 3 ≤ c) → (c ≡ setIndexCode → ⊥) → (19 ≤ c → 21 ≤ c) → Reads (r .form) → Rest c
   unfolding opOf
   rest c r =
-      each-row (λ c r. (1 ≤ c → 3 ≤ c) → (c ≡ 12 → ⊥) → (19 ≤ c → 21 ≤ c) → Reads (r .form) → Rest c) commands c r
+      each-row (λ c r. (1 ≤ c → 3 ≤ c) → (c ≡ setIndexCode → ⊥) → (19 ≤ c → 21 ≤ c) → Reads (r .form) → Rest c) commands c r
       ((λ i j k q. absurd (omega (arith, i (omega arith))))
       & (λ i j k q. absurd (omega (arith, i (omega arith))))
       & (λ i j k q. rest-nil imageMatch 3 (λ v p. refl) q)
@@ -188,23 +188,23 @@ module _ (s : Bytes) (deeper : ℕ → Read Seq) (n m place e at : ℕ) (op : Op
       & tt)
 
 module _ (s : Bytes) (c v : ℕ) (p : Words.Params) where
-  op-1 : c ≡ 1 → opOf s c v p ≡ vendor (part s v (limits .class))
+  op-1 : c ≡ vendorCode → opOf s c v p ≡ vendor (part s v (limits .class))
   unfolding opOf
   op-1 k = rw k
 
-  op-2 : c ≡ 2 → opOf s c v p ≡ class (part s v (limits .class))
+  op-2 : c ≡ classCode → opOf s c v p ≡ class (part s v (limits .class))
   unfolding opOf
   op-2 k = rw k
 
-  op-12 : c ≡ 12 → opOf s c v p ≡ setIndex v
+  op-12 : c ≡ setIndexCode → opOf s c v p ≡ setIndex v
   unfolding opOf
   op-12 k = rw k
 
-  op-19 : c ≡ 19 → opOf s c v p ≡ setParams (meaning s p)
+  op-19 : c ≡ setParametersCode → opOf s c v p ≡ setParams (meaning s p)
   unfolding opOf
   op-19 k = rw k
 
-  op-20 : c ≡ 20 → opOf s c v p ≡ overrideParams (meaning s p)
+  op-20 : c ≡ overrideCode → opOf s c v p ≡ overrideParams (meaning s p)
   unfolding opOf
   op-20 k = rw k
 
@@ -216,10 +216,10 @@ module _ (s : Bytes) (c at : ℕ) (x : ArgumentAt s c at) where
   as-form : (k : ℕ) → c ≡ k → (r : Row) → rowOf k commands ≡ some r → AsForm (r .form)
   as-form k e r q = rw (form-of c (x .row) r (x .listed) (rw e q)) at (x .reads)
 
-  pub one-plain : (code (x .op) ≡ c) × ((c ≡ 12 → ⊥) → (i : ℕ) → component (x .op) i ≡ i)
+  pub one-plain : (code (x .op) ≡ c) × ((c ≡ setIndexCode → ⊥) → (i : ℕ) → component (x .op) i ≡ i)
   one-plain = plain s (x .deeper) (x .n) (x .m) (x .place) (x .e) at (x .op) (x .coerce) (x .to) (x .fits) c (x .row) (x .listed) (x .reads)
 
-  pub one-rest : (1 ≤ c → 3 ≤ c) → (c ≡ 12 → ⊥) → (19 ≤ c → 21 ≤ c) →
+  pub one-rest : (1 ≤ c → 3 ≤ c) → (c ≡ setIndexCode → ⊥) → (19 ≤ c → 21 ≤ c) →
       ((v : ℕ) (p : Words.Params) → opOf s c v p ≡ x .op) × (x .coerce ≡ none) × (x .to ≡ at + 1) × (at < length s)
   one-rest i j k =
       rest s (x .deeper) (x .n) (x .m) (x .place) (x .e) at (x .op) (x .coerce) (x .to) (x .fits) c (x .row) (x .listed) i j k (x .reads)
@@ -231,7 +231,7 @@ module _ (s : Bytes) (c at : ℕ) (x : ArgumentAt s c at) where
     pub to-is : x .to ≡ headed .head .next + limits .class
     pub fits : x .to ≤ length s
 
-  pub one-sixteen : (c ≡ 1) ⊎ (c ≡ 2) → Sixteen
+  pub one-sixteen : (c ≡ vendorCode) ⊎ (c ≡ classCode) → Sixteen
   one-sixteen (inl k) =
       let y = sixteen-read s (x .deeper) (x .n) (x .m) (x .place) (x .e) at (x .op) (x .coerce) (x .to) (x .fits) vendor (as-form 1 k _ refl) in
       record { headed = y .headed; op-is = λ p. op-1 s c _ p k ∙ sym (y .op-is); coerce-is = y .coerce-is; to-is = y .to-is; fits = y .fits }
@@ -246,7 +246,7 @@ module _ (s : Bytes) (c at : ℕ) (x : ArgumentAt s c at) where
     pub to-is : x .to ≡ headed .head .next
     pub inside : headed .head .num < x .n
 
-  pub one-index : c ≡ 12 → Index
+  pub one-index : c ≡ setIndexCode → Index
   one-index k =
       let y = index-read s (x .deeper) (x .n) (x .m) (x .place) (x .e) at (x .op) (x .coerce) (x .to) (x .fits) setIndex (as-form 12 k _ refl) in
       record { headed = y .headed; op-is = y .op-is; coerce-is = y .coerce-is; to-is = y .to-is; inside = y .inside }
@@ -258,7 +258,7 @@ module _ (s : Bytes) (c at : ℕ) (x : ArgumentAt s c at) where
     pub op-is : (v : ℕ) (p : Words.Params) → meaning s p ≡ given .params → opOf s c v p ≡ x .op
     pub coerce-is : x .coerce ≡ given .coerce
 
-  pub one-map : (c ≡ 19) ⊎ (c ≡ 20) → Map
+  pub one-map : (c ≡ setParametersCode) ⊎ (c ≡ overrideCode) → Map
   one-map (inl k) =
       let y = params-read s (x .deeper) (x .n) (x .m) (x .place) (x .e) at (x .op) (x .coerce) (x .to) (x .fits) setParams (as-form 19 k _ refl) in
       record {
@@ -280,24 +280,24 @@ module _ (s : Bytes) (c at : ℕ) (x : ArgumentAt s c at) where
 
   -- what was read, from its parts
   abbrev New : ℕ → Type 0
-  New v = c ≡ 12 → ((i : ℕ) → component (x .op) i ≡ v) × (v < x .n)
+  New v = c ≡ setIndexCode → ((i : ℕ) → component (x .op) i ≡ v) × (v < x .n)
 
-  component-at : (v : ℕ) → New v → (i : ℕ) → component (x .op) i ≡ cond (eqb c 12) v i
-  component-at v new i = go (eqb c 12) refl
+  component-at : (v : ℕ) → New v → (i : ℕ) → component (x .op) i ≡ cond (eqb c setIndexCode) v i
+  component-at v new i = go (eqb c setIndexCode) refl
     where
-      go : (b : Bool) → eqb c 12 ≡ b → component (x .op) i ≡ cond b v i
+      go : (b : Bool) → eqb c setIndexCode ≡ b → component (x .op) i ≡ cond b v i
       go true e = new (eqb-true _ _ e) .0 i
       go false e = one-plain .1 (eqb-false _ _ e) i
 
   component-in : (v : ℕ) → New v → (i : ℕ) → i < x .n → component (x .op) i < x .n
-  component-in v new i l = go (eqb c 12) refl
+  component-in v new i l = go (eqb c setIndexCode) refl
     where
-      go : (b : Bool) → eqb c 12 ≡ b → component (x .op) i < x .n
+      go : (b : Bool) → eqb c setIndexCode ≡ b → component (x .op) i < x .n
       go true e = let (q, h) = new (eqb-true _ _ e) in omega (arith, q i)
       go false e = omega (arith, one-plain .1 (eqb-false _ _ e) i)
 
   module _ (value next : ℕ) (o : Opens s at value next) where
-    pub read-sixteen : (c ≡ 1) ⊎ (c ≡ 2) → ArgumentRead s c at x (bareAt next (next + limits .class))
+    pub read-sixteen : (c ≡ vendorCode) ⊎ (c ≡ classCode) → ArgumentRead s c at x (bareAt next (next + limits .class))
     read-sixteen k =
         let y = one-sixteen k in
         let (ev, en) = o (y .headed) in
@@ -313,7 +313,7 @@ module _ (s : Bytes) (c at : ℕ) (x : ArgumentAt s c at) where
           component = component-at _ new;
         }
 
-    pub read-index : c ≡ 12 → ArgumentRead s c at x (bareAt value next)
+    pub read-index : c ≡ setIndexCode → ArgumentRead s c at x (bareAt value next)
     read-index k =
         let y = one-index k in
         let (ev, en) = o (y .headed) in
@@ -329,7 +329,7 @@ module _ (s : Bytes) (c at : ℕ) (x : ArgumentAt s c at) where
           component = component-at _ new;
         }
 
-    abbrev pub map-entries : (c ≡ 19) ⊎ (c ≡ 20) → Entries s value next
+    abbrev pub map-entries : (c ≡ setParametersCode) ⊎ (c ≡ overrideCode) → Entries s value next
     map-entries k =
         let y = one-map k in
         record {
@@ -341,7 +341,7 @@ module _ (s : Bytes) (c at : ℕ) (x : ArgumentAt s c at) where
           reads = rw (o (y .headed) .0, o (y .headed) .1) (y .reads);
         }
 
-    pub read-map : (k : (c ≡ 19) ⊎ (c ≡ 20)) (a : Args) →
+    pub read-map : (k : (c ≡ setParametersCode) ⊎ (c ≡ overrideCode)) (a : Args) →
         (givenOf s a ≡ map-entries k .given) × (a .next ≡ x .to) × Fit s (x .n) (paramsOf a) × Within s (paramsOf a) → ArgumentRead s c at x a
     read-map k a (g, n, f, w) =
         let y = one-map k in
@@ -357,7 +357,7 @@ module _ (s : Bytes) (c at : ℕ) (x : ArgumentAt s c at) where
           component = component-at _ new;
         }
 
-  pub read-rest : (1 ≤ c → 3 ≤ c) → (c ≡ 12 → ⊥) → (19 ≤ c → 21 ≤ c) → ArgumentRead s c at x (bareAt 0 (at + 1))
+  pub read-rest : (1 ≤ c → 3 ≤ c) → (c ≡ setIndexCode → ⊥) → (19 ≤ c → 21 ≤ c) → ArgumentRead s c at x (bareAt 0 (at + 1))
   read-rest i j k =
       let (op-is, coerce-is, to-is, fits) = one-rest i j k in
       let new : New 0 = λ q. absurd (j q) in

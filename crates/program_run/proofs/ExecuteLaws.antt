@@ -15,7 +15,7 @@ use Rattle.rules.specs.ProgramTest.{nonJumps}
 use Rattle.rules.specs.Step.{State, Out, out, step, eventBytes}
 use Rattle.run_slots.specs.declared.params.Params.{Params}
 use Rattle.run_slots.specs.Params.{FitAll}
-use Rattle.run_commands.specs.declared.Progress.{Progress}
+use Rattle.run_actions.specs.declared.Progress.{Progress}
 use Rattle.run_commands.specs.Machine.{stateAt, outAt}
 use Rattle.run_commands.specs.Op.{opOf, IsCode, SixteenAt}
 use Rattle.run_commands.proofs.LentLaws.{moves-step, lent-after}
@@ -26,6 +26,7 @@ use Rattle.program_records.proofs.FormLaws.{op-code}
 use Rattle.program_records.proofs.ReadRecord.{Commands}
 use Rattle.program_run.proofs.GivenLaws.{argument-sixteen}
 use Rattle.rules_theorems.proofs.RunLaws.{exec-does}
+use Rattle.rules.specs.Commands.{setIndexCode}
 
 module _ (p : Bytes) (components : ℕ) (current : ProgramState) (vendor class : Bytes) (assigned : List ℕ) (answers slots : Bytes) (params : List ℕ) (trace : Bytes)
     (j : ExecJob p components current vendor class assigned answers slots params trace) where
@@ -90,7 +91,7 @@ module _ (p : Bytes) (components : ℕ) (current : ProgramState) (vendor class :
     module _ (v : ℕ) (ev : v ≡ valueOf code i (at + recordSize)) (w : Params) (g : GivenAs p components code (at + recordSize) (at + recordSize + size) argument-here w) where
       pub execute-sixteen : SixteenAt p code v
       execute-sixteen l =
-          let e : v ≡ at + recordSize = ev ∙ rw (ne-eqb code 12 (λ q. omega arith)) in
+          let e : v ≡ at + recordSize = ev ∙ rw (ne-eqb code setIndexCode (λ q. omega arith)) in
           omega (arith, argument-sixteen p components code (at + recordSize) (at + recordSize + size) argument-here l)
 
       pub execute-code : IsCode p code v w

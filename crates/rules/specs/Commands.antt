@@ -26,6 +26,61 @@ over a b =
       size = orElse (a .size) (b .size);
     }
 
+-- the codes of the commands, and the keys of the parameters
+abbrev pub vendorCode : ℕ
+vendorCode = 1
+
+abbrev pub classCode : ℕ
+classCode = 2
+
+abbrev pub imageMatchCode : ℕ
+imageMatchCode = 3
+
+abbrev pub setIndexCode : ℕ
+setIndexCode = 12
+
+abbrev pub abortCode : ℕ
+abortCode = 14
+
+abbrev pub tryEachCode : ℕ
+tryEachCode = 15
+
+abbrev pub setParametersCode : ℕ
+setParametersCode = 19
+
+abbrev pub overrideCode : ℕ
+overrideCode = 20
+
+abbrev pub fetchCode : ℕ
+fetchCode = 21
+
+abbrev pub copyCode : ℕ
+copyCode = 22
+
+abbrev pub runCode : ℕ
+runCode = 23
+
+abbrev pub runSequenceCode : ℕ
+runSequenceCode = 30
+
+abbrev pub swapCode : ℕ
+swapCode = 32
+
+abbrev pub coerceKey : ℕ
+coerceKey = 2
+
+abbrev pub uriKey : ℕ
+uriKey = 6
+
+abbrev pub sourceKey : ℕ
+sourceKey = 10
+
+abbrev pub digestKey : ℕ
+digestKey = 11
+
+abbrev pub sizeKey : ℕ
+sizeKey = 12
+
 -- the eleven commands that write an event, with their arguments
 pub data Op : Type 0 where
   vendor : Bytes → Op
@@ -41,17 +96,17 @@ pub data Op : Type 0 where
   swap : Op
 
 abbrev pub code : Op → ℕ
-code (vendor b) = 1
-code (class b) = 2
-code imageMatch = 3
-code (setIndex k) = 12
-code abort = 14
-code (setParams p) = 19
-code (overrideParams p) = 20
-code fetch = 21
-code copy = 22
-code run = 23
-code swap = 32
+code (vendor b) = vendorCode
+code (class b) = classCode
+code imageMatch = imageMatchCode
+code (setIndex k) = setIndexCode
+code abort = abortCode
+code (setParams p) = setParametersCode
+code (overrideParams p) = overrideCode
+code fetch = fetchCode
+code copy = copyCode
+code run = runCode
+code swap = swapCode
 
 -- the component in a command's event and record (for 12 the new one); it is also the index after the command
 abbrev pub component : Op → ℕ → ℕ
@@ -116,19 +171,19 @@ directive n f a = record { number = n; condition = false; form = f; allowed = a 
 -- the command table
 abbrev pub commands : List Row
 commands =
-    condition 1 (sixteen vendor) anywhere
-    ∷ condition 2 (sixteen class) anywhere
-    ∷ condition 3 (nil imageMatch) anywhere
-    ∷ directive 12 (below setIndex) anywhere
-    ∷ directive 14 (nil abort) anywhere
-    ∷ directive 15 alternatives anywhere
-    ∷ directive 19 (parameters setParams) anywhere
-    ∷ directive 20 (parameters overrideParams) anywhere
-    ∷ directive 21 (nil fetch) (only (PAYLOAD_FETCH ∷ INSTALL ∷ []))
-    ∷ directive 22 (nil copy) (only (PAYLOAD_FETCH ∷ INSTALL ∷ LOAD ∷ []))
-    ∷ directive 23 (nil run) (only (RUN ∷ []))
-    ∷ directive 30 sequence anywhere
-    ∷ directive 32 (nil swap) (only (PAYLOAD_FETCH ∷ INSTALL ∷ LOAD ∷ []))
+    condition vendorCode (sixteen vendor) anywhere
+    ∷ condition classCode (sixteen class) anywhere
+    ∷ condition imageMatchCode (nil imageMatch) anywhere
+    ∷ directive setIndexCode (below setIndex) anywhere
+    ∷ directive abortCode (nil abort) anywhere
+    ∷ directive tryEachCode alternatives anywhere
+    ∷ directive setParametersCode (parameters setParams) anywhere
+    ∷ directive overrideCode (parameters overrideParams) anywhere
+    ∷ directive fetchCode (nil fetch) (only (PAYLOAD_FETCH ∷ INSTALL ∷ []))
+    ∷ directive copyCode (nil copy) (only (PAYLOAD_FETCH ∷ INSTALL ∷ LOAD ∷ []))
+    ∷ directive runCode (nil run) (only (RUN ∷ []))
+    ∷ directive runSequenceCode sequence anywhere
+    ∷ directive swapCode (nil swap) (only (PAYLOAD_FETCH ∷ INSTALL ∷ LOAD ∷ []))
     ∷ []
 
 abbrev pub rowOf : ℕ → List Row → Option Row
@@ -159,11 +214,11 @@ pub record ParamRow : Type 0 where
 
 abbrev pub params : List ParamRow
 params =
-    record { number = 2; param = Coerce }
-    ∷ record { number = 6; param = Uri }
-    ∷ record { number = 10; param = Source }
-    ∷ record { number = 11; param = Digest }
-    ∷ record { number = 12; param = Size }
+    record { number = coerceKey; param = Coerce }
+    ∷ record { number = uriKey; param = Uri }
+    ∷ record { number = sourceKey; param = Source }
+    ∷ record { number = digestKey; param = Digest }
+    ∷ record { number = sizeKey; param = Size }
     ∷ []
 
 abbrev pub paramOf : ℕ → List ParamRow → Option Parameter

@@ -3,7 +3,7 @@ use Rattle.rules.specs.Base.{ℕ, _+_, List, [], _∷_, _++_, map, Bool,
 use Rattle.rules.specs.Answers.{groupNumber}
 use Rattle.rules.specs.Bytes.{Bytes, be2, be4, flat}
 use Rattle.rules.specs.Got.{Got, got, need, _>>=_}
-use Rattle.rules.specs.Commands.{Op, vendor, class, imageMatch, setIndex, abort, setParams, overrideParams, fetch, copy, run, swap, Params, code, component, isCondition}
+use Rattle.rules.specs.Commands.{Op, vendor, class, imageMatch, setIndex, abort, setParams, overrideParams, fetch, copy, run, swap, Params, code, component, isCondition, uriKey, sourceKey, digestKey, sizeKey}
 use Rattle.rules.specs.Manifest.{Seq, end, then, Cmd, one, sub, try, Alts, last, or, Manifest, names}
 use Rattle.rules.specs.Check.{check}
 use Rattle.rules.specs.ProgramFormat.{mark, START, NAME, JUMP, NONE}
@@ -73,7 +73,7 @@ entry k f (some a) = k ∷ length (f a) ∷ f a
 
 abbrev pub paramBytes : Params → Bytes
 paramBytes p =
-    flat (entry 6 (λ b. b) (p .uri) ∷ entry 10 (λ n. n ∷ []) (p .source) ∷ entry 11 (λ b. b) (p .digest) ∷ entry 12 be4 (p .size) ∷ [])
+    flat (entry uriKey (λ b. b) (p .uri) ∷ entry sourceKey (λ n. n ∷ []) (p .source) ∷ entry digestKey (λ b. b) (p .digest) ∷ entry sizeKey be4 (p .size) ∷ [])
 
 -- 'Arguments: 1 and 2, the 16 bytes; 19 and 20, [the parameters]; other codes none'
 abbrev pub argBytes : Op → Bytes

@@ -4,7 +4,7 @@ use Rattle.rules.specs.Limits.{limits}
 use Rattle.rules.specs.Bytes.{Bytes, part, num, same, repeats}
 use Rattle.rules.specs.Got.{Got, refused, got, found, _>>=_}
 use Rattle.rules.specs.Got as G
-use Rattle.rules.specs.Commands.{Op, Params, Form, sixteen, nil, below, alternatives, parameters, sequence, Allowed, anywhere, only, commands, rowOf, among}
+use Rattle.rules.specs.Commands.{Op, Params, Form, sixteen, nil, below, alternatives, parameters, sequence, Allowed, anywhere, only, commands, rowOf, among, uriKey, sourceKey, digestKey, sizeKey}
 use Rattle.rules.specs.Run.{sectionsOf}
 use Rattle.rules.specs.ProgramFormat.{mark, START, NAME, JUMP, NONE, codeFrom, groupFrom, numberFrom, componentsFrom, recordsFrom, startSize, lengthFrom, nameSize, componentFrom, placeFrom, targetFrom, argumentFrom, recordSize, sourceBytes, sizeBytes}
 use Rattle.rules.specs.Program.{Rec, does, jump, Program, targetOf}
@@ -38,10 +38,10 @@ isBelow (some k) n = ltb k n
 -- the argument of 19 or 20, for n components: 'parameter keys ascend (there may be none)'
 unfoldable pub paramsIn : ℕ → Bytes → Got Params
 paramsIn n p = do
-  (uri, p₁) ← optional 6 1 (limits .uri) (λ b. b) p
-  (source, p₂) ← optional 10 sourceBytes sourceBytes num p₁
-  (digest, p₃) ← optional 11 (limits .digest) (limits .digest) (λ b. b) p₂
-  (size, p₄) ← optional 12 sizeBytes sizeBytes num p₃
+  (uri, p₁) ← optional uriKey 1 (limits .uri) (λ b. b) p
+  (source, p₂) ← optional sourceKey sourceBytes sourceBytes num p₁
+  (digest, p₃) ← optional digestKey (limits .digest) (limits .digest) (λ b. b) p₂
+  (size, p₄) ← optional sizeKey sizeBytes sizeBytes num p₃
   _ ← need (same p₄ [])
   _ ← need (isBelow source n)
   got (record { uri = uri; source = source; digest = digest; size = size })

@@ -10,7 +10,7 @@ use lib.Dec.{eqb}
 use borrow.Author.Tests.{eqb-true}
 use Rattle.rules.specs.declared.tables.Argument.{Argument}
 use Rattle.rules.specs.declared.tables.Argument.the-variants.{Sixteen, Nil, Index, Alternatives, Parameters, Sequence}
-use Rattle.rules.specs.Commands.{Row, commands, rowOf, among}
+use Rattle.rules.specs.Commands.{Row, commands, rowOf, among, vendorCode, classCode, setParametersCode, overrideCode}
 use Rattle.rules.specs.Tables as Tables
 use Rattle.rules.proofs.TableLaws.{rows-agree, Each, each-row}
 use Rattle.rules_tables.specs.Kinds.{kindOf}
@@ -80,10 +80,10 @@ neither c h = (λ l. omega (arith, is-not 1 (λ e. rw e), is-not 2 (λ e. rw e))
     is-not k f e = no (sym h ∙ f e)
 
 module _ (c : ℕ) where
-  pub sixteen-codes : kindOf c ≡ Sixteen → (c ≡ 1) ⊎ (c ≡ 2)
+  pub sixteen-codes : kindOf c ≡ Sixteen → (c ≡ vendorCode) ⊎ (c ≡ classCode)
   sixteen-codes e = either c 1 2 (rw e at (tested c))
 
-  pub parameter-codes : kindOf c ≡ Parameters → (c ≡ 19) ⊎ (c ≡ 20)
+  pub parameter-codes : kindOf c ≡ Parameters → (c ≡ setParametersCode) ⊎ (c ≡ overrideCode)
   parameter-codes e = either c 19 20 (rw e at (tested c))
 
   pub nil-codes : kindOf c ≡ Nil → Other c

@@ -9,7 +9,7 @@ use lib.Dec.{eqb}
 use lib.ListN.{length, length-append}
 use Rattle.rules.specs.Limits.{limits}
 use Rattle.rules.specs.Bytes.{Bytes, be4}
-use Rattle.rules.specs.Commands.{Params, unset, orElse, over, Op, vendor, class, imageMatch, setIndex, abort, setParams, overrideParams, fetch, copy, run, swap, code, component, Form, sixteen, nil, below, alternatives, parameters, sequence, Allowed, anywhere, only, Row, commands, rowOf}
+use Rattle.rules.specs.Commands.{Params, unset, orElse, over, Op, vendor, class, imageMatch, setIndex, abort, setParams, overrideParams, fetch, copy, run, swap, code, component, Form, sixteen, nil, below, alternatives, parameters, sequence, Allowed, anywhere, only, Row, commands, rowOf, uriKey, sourceKey, digestKey, sizeKey}
 use Rattle.rules.specs.Program.{entry, paramBytes, argBytes}
 use Rattle.rules.specs.ProgramFormat.{JUMP, entrySize, sizeBytes}
 use Rattle.rules.proofs.TableLaws.{_&_}
@@ -56,7 +56,7 @@ abbrev pub weight : Params → ℕ
 weight p = length (paramBytes p)
 
 pub weight-is : (p : Params) → weight p ≡
-    length (entry 6 (λ b. b) (p .uri)) + (length (entry 10 (λ (n : ℕ). n ∷ []) (p .source)) + (length (entry 11 (λ b. b) (p .digest)) + length (entry 12 be4 (p .size))))
+    length (entry uriKey (λ b. b) (p .uri)) + (length (entry sourceKey (λ (n : ℕ). n ∷ []) (p .source)) + (length (entry digestKey (λ b. b) (p .digest)) + length (entry sizeKey be4 (p .size))))
 weight-is p = simp (length-append) (omega arith)
 
 entry-le : {A : Type 0} (k : ℕ) (f : A → Bytes) (a b : Option A) → length (entry k f (orElse a b)) ≤ length (entry k f a) + length (entry k f b)

@@ -15,7 +15,7 @@ use Rattle.rules.specs.Bytes.{Bytes, part, num, same, allIn, repeats}
 use Rattle.rules.specs.Limits.{limits}
 use Rattle.rules.specs.Got as Got
 use Rattle.rules.specs.Got.{Got, refused, got, found, _>>=_}
-use Rattle.rules.specs.Commands.{commands, rowOf, Form, sixteen, nil, below, alternatives, parameters, sequence}
+use Rattle.rules.specs.Commands.{commands, rowOf, Form, sixteen, nil, below, alternatives, parameters, sequence, uriKey, sourceKey, digestKey, sizeKey}
 use Rattle.rules.specs.ProgramTest.{need, marked, optional, isBelow, paramsIn, opIn, groupAllows, recordIn, recordsIn, idsIn, nonJumps, groupIn, programIn}
 use Rattle.rules.specs.Program.{Program, targetOf}
 use Rattle.rules.specs.ProgramRun.{exec, runProgram}
@@ -55,10 +55,10 @@ optional97 k lo hi f (x ∷ n ∷ p) =
 params97 : (n : ℕ) (p : Bytes) → Only97 (paramsIn n p)
 unfolding paramsIn
 params97 n p =
-    then97 (optional 6 1 (limits .uri) (λ b. b) p) _ (optional97 6 1 (limits .uri) (λ b. b) p) λ a.
-    then97 (optional 10 sourceBytes sourceBytes num (a .1)) _ (optional97 10 sourceBytes sourceBytes num (a .1)) λ b.
-    then97 (optional 11 (limits .digest) (limits .digest) (λ b. b) (b .1)) _ (optional97 11 (limits .digest) (limits .digest) (λ b. b) (b .1)) λ c.
-    then97 (optional 12 sizeBytes sizeBytes num (c .1)) _ (optional97 12 sizeBytes sizeBytes num (c .1)) λ d.
+    then97 (optional uriKey 1 (limits .uri) (λ b. b) p) _ (optional97 uriKey 1 (limits .uri) (λ b. b) p) λ a.
+    then97 (optional sourceKey sourceBytes sourceBytes num (a .1)) _ (optional97 sourceKey sourceBytes sourceBytes num (a .1)) λ b.
+    then97 (optional digestKey (limits .digest) (limits .digest) (λ b. b) (b .1)) _ (optional97 digestKey (limits .digest) (limits .digest) (λ b. b) (b .1)) λ c.
+    then97 (optional sizeKey sizeBytes sizeBytes num (c .1)) _ (optional97 sizeKey sizeBytes sizeBytes num (c .1)) λ d.
     need97 (same (d .1) []) _ (need97 (isBelow (b .0) n) _ tt)
 
 op97 : (n i : ℕ) (form : Form) (p : Bytes) → Only97 (opIn n i form p)

@@ -16,7 +16,7 @@ use Rattle.rules.specs.Answers.{groupNumber}
 use Rattle.rules.specs.Limits.{limits}
 use Rattle.rules.specs.Bytes.{Bytes, num, be2, be4, flat, repeats}
 use Rattle.rules.specs.Got.{got}
-use Rattle.rules.specs.Commands.{Op, vendor, class, imageMatch, setIndex, abort, setParams, overrideParams, fetch, copy, run, swap, Params, component}
+use Rattle.rules.specs.Commands.{Op, vendor, class, imageMatch, setIndex, abort, setParams, overrideParams, fetch, copy, run, swap, Params, component, sourceKey, digestKey, sizeKey}
 use Rattle.rules.specs.Program.{Rec, does, jump, Program, targetOf, argBytes, paramBytes, recBytes, idBytes, programBytes, entry}
 use Rattle.rules.specs.ProgramFormat.{NONE, recordSize, startSize, nameSize, sourceBytes, sizeBytes}
 use Rattle.rules.specs.ProgramTest.{optional, paramsIn, opIn, recordIn, recordsIn, groupAllows, isBelow, idsIn, groupIn, programIn, nonJumps}
@@ -86,9 +86,9 @@ below-law (some k) n h = lt-ltb k n (h k refl)
 params-law : (n : ℕ) (p : Params) → Fit n p → paramsIn n (paramBytes p) ≡ got p
 unfolding paramsIn
 params-law n p f =
-    let p₃ : Bytes = entry 12 be4 (p .size) ++ [] in
-    let p₂ : Bytes = entry 11 (λ b. b) (p .digest) ++ p₃ in
-    let p₁ : Bytes = entry 10 (λ k. k ∷ []) (p .source) ++ p₂ in
+    let p₃ : Bytes = entry sizeKey be4 (p .size) ++ [] in
+    let p₂ : Bytes = entry digestKey (λ b. b) (p .digest) ++ p₃ in
+    let p₁ : Bytes = entry sourceKey (λ k. k ∷ []) (p .source) ++ p₂ in
     rw (
       optional-law 6 1 (limits .uri) (λ b. b) (λ b. b) (p .uri) p₁
           (later 6 10 (λ k. k ∷ []) (p .source) p₂ (omega arith) (later 6 11 (λ b. b) (p .digest) p₃ (omega arith) (later 6 12 be4 (p .size) [] (omega arith) tt)))

@@ -11,7 +11,7 @@ use Rattle.rules.specs.Bytes.{Bytes, put, part, be4}
 use Rattle.rules.specs.Limits.{limits}
 use Rattle.rules.specs.Commands as Rules
 use Rattle.rules.specs.ProgramFormat.{JUMP, NONE, recordSize}
-use Rattle.rules.specs.Commands.{Op, vendor, class, imageMatch, setIndex, abort, setParams, overrideParams, fetch, copy, run, swap, code}
+use Rattle.rules.specs.Commands.{Op, vendor, class, imageMatch, setIndex, abort, setParams, overrideParams, fetch, copy, run, swap, code, vendorCode, classCode, setIndexCode, setParametersCode, overrideCode, uriKey, sourceKey, digestKey, sizeKey}
 use Rattle.rules.specs.Manifest.{one}
 use Rattle.rules.specs.Program.{does, jump, targetOf, entry, paramBytes, argBytes, recBytes, flatCmd, flatSeq}
 use Rattle.run_slots.specs.declared.params.Params.{Params}
@@ -30,16 +30,16 @@ use Rattle.translate_record.proofs.FillLaws.{filled-then}
 -- the entries of the parameters
 module _ (s : Bytes) (p : Params) where
   abbrev pub uriBytes : Bytes
-  uriBytes = entry 6 (λ b. b) (optional (p .uri) (part s (p .uri) (p .length)))
+  uriBytes = entry uriKey (λ b. b) (optional (p .uri) (part s (p .uri) (p .length)))
 
   abbrev pub sourceBytes : Bytes
-  sourceBytes = entry 10 (λ n. n ∷ []) (optional (p .source) (p .source - 1))
+  sourceBytes = entry sourceKey (λ n. n ∷ []) (optional (p .source) (p .source - 1))
 
   abbrev pub digestBytes : Bytes
-  digestBytes = entry 11 (λ b. b) (optional (p .digest) (part s (p .digest) (limits .digest)))
+  digestBytes = entry digestKey (λ b. b) (optional (p .digest) (part s (p .digest) (limits .digest)))
 
   abbrev pub sizeBytes : Bytes
-  sizeBytes = entry 12 be4 (optional (p .size) (p .size - 1))
+  sizeBytes = entry sizeKey be4 (optional (p .size) (p .size - 1))
 
   params-are : paramBytes (meaning s p) ≡ uriBytes ++ (sourceBytes ++ (digestBytes ++ sizeBytes))
   unfolding meaning
@@ -58,16 +58,16 @@ module _ (s : Bytes) (p : Params) where
 
 -- the argument by the code
 module _ (s : Bytes) (c v : ℕ) (p : Params) where
-  pub sixteen-bytes : (c ≡ 1) ⊎ (c ≡ 2) → argBytes (opOf s c v p) ≡ part s v (limits .class)
+  pub sixteen-bytes : (c ≡ vendorCode) ⊎ (c ≡ classCode) → argBytes (opOf s c v p) ≡ part s v (limits .class)
   unfolding opOf
   sixteen-bytes (inl k) = rw k
   sixteen-bytes (inr k) = rw k
 
-  pub sixteen-filled : (c ≡ 1) ⊎ (c ≡ 2) → v + limits .class ≤ length s → (to : ℕ) (room room′ : Bytes) → room′ ≡ put room to (part s v (limits .class)) →
+  pub sixteen-filled : (c ≡ vendorCode) ⊎ (c ≡ classCode) → v + limits .class ≤ length s → (to : ℕ) (room room′ : Bytes) → room′ ≡ put room to (part s v (limits .class)) →
       Filled (argBytes (opOf s c v p)) to room (to + limits .class) room′
   sixteen-filled k l to room room′ e = rw (sixteen-bytes k) (record { filled = e; next = omega (arith, length-part s v (limits .class) l) })
 
-  pub params-bytes : (c ≡ 19) ⊎ (c ≡ 20) → argBytes (opOf s c v p) ≡ paramBytes (meaning s p)
+  pub params-bytes : (c ≡ setParametersCode) ⊎ (c ≡ overrideCode) → argBytes (opOf s c v p) ≡ paramBytes (meaning s p)
   unfolding opOf
   params-bytes (inl k) = rw k
   params-bytes (inr k) = rw k
@@ -128,7 +128,7 @@ module _ (s : Bytes) (table : List ℕ) (c at : ℕ) (state : WriteState) (room 
   pub leaf-room : state .to + recordSize + length (argBytes (opOf s c (a .value) (paramsOf a))) ≤ length room
   leaf-room = rw (r .op) (j .enough)
 
-  module _ (i : ℕ) (e : i ≡ cond (eqb c 12) (a .value) (state .index)) where
+  module _ (i : ℕ) (e : i ≡ cond (eqb c setIndexCode) (a .value) (state .index)) where
     leaf-component : i ≡ Rules.component (j .argument .op) (state .index)
     leaf-component = e ∙ sym (r .component (state .index))
 

@@ -8,9 +8,10 @@ ghost use Rattle.rules.specs.Limits.{limits};
 ghost use Rattle.rules.specs.Tables.{byNumber};
 ghost use Rattle.rules.specs.Program.{entry, paramBytes, argBytes};
 ghost use Rattle.run_slots.specs.Params.{optional, meaning, Fit};
-ghost use Rattle.run_commands.specs.Op.{opOf, IsCode};
+ghost use Rattle.run_commands.specs.Op.{opOf, IsCode, SixteenAt};
 ghost use Rattle.manifest_accessors.specs.Arguments.{paramsOf, Within};
 ghost use Rattle.translate_record.specs.Record.{Filled};
+ghost use Rattle.rules.specs.Commands.{sourceKey, sizeKey};
 use byte_buffer::copy;
 use byte_buffer::put_u32;
 use manifest_accessors::arguments::Args;
@@ -39,8 +40,8 @@ fn put_string(s: &[u8], key: u8, from: usize, n: usize, room: &mut [u8], to: usi
 
 // The source, which is one less than the number; 0 is unset.
 fn put_source(source: usize, room: &mut [u8], to: usize) -> usize
-    requires { ⌜ (source ≤ 256) × (to + length (entry 10 (λ n. n ∷ []) (optional source (source - 1))) ≤ length (now room)) ⌝ }
-    ensures { λ r. ⌜ Filled (entry 10 (λ n. n ∷ []) (optional source (source - 1))) to (now (room .entry)) r (now (room .exit)) ⌝ }
+    requires { ⌜ (source ≤ 256) × (to + length (entry sourceKey (λ n. n ∷ []) (optional source (source - 1))) ≤ length (now room)) ⌝ }
+    ensures { λ r. ⌜ Filled (entry sourceKey (λ n. n ∷ []) (optional source (source - 1))) to (now (room .entry)) r (now (room .exit)) ⌝ }
 {
     if source == 0 {
         return to;
@@ -53,8 +54,8 @@ fn put_source(source: usize, room: &mut [u8], to: usize) -> usize
 
 // The size, which is one less than the number; 0 is unset.
 fn put_size(size: usize, room: &mut [u8], to: usize) -> usize
-    requires { ⌜ to + length (entry 12 be4 (optional size (size - 1))) ≤ length (now room) ⌝ }
-    ensures { λ r. ⌜ Filled (entry 12 be4 (optional size (size - 1))) to (now (room .entry)) r (now (room .exit)) ⌝ }
+    requires { ⌜ to + length (entry sizeKey be4 (optional size (size - 1))) ≤ length (now room) ⌝ }
+    ensures { λ r. ⌜ Filled (entry sizeKey be4 (optional size (size - 1))) to (now (room .entry)) r (now (room .exit)) ⌝ }
 {
     if size == 0 {
         return to;
@@ -93,7 +94,7 @@ pub(crate) fn put_argument(
     room: &mut [u8],
     to: usize,
 ) -> usize
-    requires { ⌜ Within (now s) (paramsOf a) × Fit (now s) 256 (paramsOf a) × (code < 3 → a .value + limits .class ≤ length (now s)) × IsCode (now s) code (a .value) (paramsOf a) × (to + length (argBytes (opOf (now s) code (a .value) (paramsOf a))) ≤ length (now room)) × (now table ≡ byNumber) ⌝ }
+    requires { ⌜ Within (now s) (paramsOf a) × Fit (now s) 256 (paramsOf a) × SixteenAt (now s) code (a .value) × IsCode (now s) code (a .value) (paramsOf a) × (to + length (argBytes (opOf (now s) code (a .value) (paramsOf a))) ≤ length (now room)) × (now table ≡ byNumber) ⌝ }
     ensures { λ r. ⌜ Filled (argBytes (opOf (now (s .entry)) code (a .value) (paramsOf a))) to (now (room .entry)) r (now (room .exit)) ⌝ }
 {
     match kind_of(table, code) {

@@ -15,7 +15,7 @@ use Rattle.rules.specs.Program.{entry, paramBytes, argBytes}
 use Rattle.rules_theorems.proofs.OpLaws.{weight-is}
 use Rattle.rules.proofs.BytesLaws.{length-part}
 use Rattle.rules.specs.declared.tables.Argument.{Argument}
-use Rattle.rules.specs.Commands.{rowOf}
+use Rattle.rules.specs.Commands.{rowOf, vendorCode, classCode, imageMatchCode, setIndexCode, abortCode, tryEachCode, setParametersCode, overrideCode, fetchCode, copyCode, runCode, runSequenceCode, swapCode, uriKey, sourceKey, digestKey, sizeKey}
 use Rattle.rules_tables.specs.Kinds.{kindOf}
 use Rattle.run_slots.specs.Params.{optional, meaning, Fit}
 use Rattle.run_commands.specs.Op.{opOf}
@@ -59,30 +59,30 @@ parameters-are s n a f w =
     omega (
       arith,
       weight-is (meaning s (paramsOf a)),
-      string-size s 6 (a .params .uri) (a .params .length) (w .inside),
-      byte-size 10 (a .params .source) (a .params .source - 1),
-      string-size s 11 (a .params .digest) (limits .digest) (f .digest),
+      string-size s uriKey (a .params .uri) (a .params .length) (w .inside),
+      byte-size sourceKey (a .params .source) (a .params .source - 1),
+      string-size s digestKey (a .params .digest) (limits .digest) (f .digest),
       digest-size (a .params .digest),
-      word-size 12 (a .params .size) (a .params .size - 1),
+      word-size sizeKey (a .params .size) (a .params .size - 1),
     )
 
 module _ (s : Bytes) (c v n : ℕ) (a : Args) (f : Fit s n (paramsOf a)) (w : Within s (paramsOf a)) (sixteen : c < 3 → v + limits .class ≤ length s) where
   op-size : argumentSize (kindOf c) a ≡ length (argBytes (opOf s c v (paramsOf a)))
   unfolding opOf kindOf
-  op-size = on c 1 (λ z. rw z (sym (length-part s v (limits .class) (sixteen (omega arith)))))
-      λ d₁. on c 2 (λ z. rw z (sym (length-part s v (limits .class) (sixteen (omega arith)))))
-      λ d₂. on c 3 (λ z. rw z)
-      λ d₃. on c 12 (λ z. rw z)
-      λ d₁₂. on c 14 (λ z. rw z)
-      λ d₁₄. on c 15 (λ z. rw z)
-      λ d₁₅. on c 19 (λ z. rw z (sym (parameters-are s n a f w)))
-      λ d₁₉. on c 20 (λ z. rw z (sym (parameters-are s n a f w)))
-      λ d₂₀. on c 21 (λ z. rw z)
-      λ d₂₁. on c 22 (λ z. rw z)
-      λ d₂₂. on c 23 (λ z. rw z)
-      λ d₂₃. on c 30 (λ z. rw z)
-      λ d₃₀. on c 32 (λ z. rw z)
-      λ d₃₂. rw (rowOf, ne-eqb c 1 d₁, ne-eqb c 2 d₂, ne-eqb c 3 d₃, ne-eqb c 12 d₁₂, ne-eqb c 14 d₁₄, ne-eqb c 15 d₁₅, ne-eqb c 19 d₁₉, ne-eqb c 20 d₂₀, ne-eqb c 21 d₂₁, ne-eqb c 22 d₂₂, ne-eqb c 23 d₂₃, ne-eqb c 30 d₃₀, ne-eqb c 32 d₃₂)
+  op-size = on c vendorCode (λ z. rw z (sym (length-part s v (limits .class) (sixteen (omega arith)))))
+      λ d₁. on c classCode (λ z. rw z (sym (length-part s v (limits .class) (sixteen (omega arith)))))
+      λ d₂. on c imageMatchCode (λ z. rw z)
+      λ d₃. on c setIndexCode (λ z. rw z)
+      λ d₁₂. on c abortCode (λ z. rw z)
+      λ d₁₄. on c tryEachCode (λ z. rw z)
+      λ d₁₅. on c setParametersCode (λ z. rw z (sym (parameters-are s n a f w)))
+      λ d₁₉. on c overrideCode (λ z. rw z (sym (parameters-are s n a f w)))
+      λ d₂₀. on c fetchCode (λ z. rw z)
+      λ d₂₁. on c copyCode (λ z. rw z)
+      λ d₂₂. on c runCode (λ z. rw z)
+      λ d₂₃. on c runSequenceCode (λ z. rw z)
+      λ d₃₀. on c swapCode (λ z. rw z)
+      λ d₃₂. rw (rowOf, ne-eqb c vendorCode d₁, ne-eqb c classCode d₂, ne-eqb c imageMatchCode d₃, ne-eqb c setIndexCode d₁₂, ne-eqb c abortCode d₁₄, ne-eqb c tryEachCode d₁₅, ne-eqb c setParametersCode d₁₉, ne-eqb c overrideCode d₂₀, ne-eqb c fetchCode d₂₁, ne-eqb c copyCode d₂₂, ne-eqb c runCode d₂₃, ne-eqb c runSequenceCode d₃₀, ne-eqb c swapCode d₃₂)
 
 pub argument-is : (s : Bytes) (c at : ℕ) (x : ArgumentAt s c at) (a : Args) → ArgumentRead s c at x a → (k : Argument) → k ≡ kindOf c → argumentSize k a ≡ length (argBytes (x .op))
 argument-is s c at x a r k e =
