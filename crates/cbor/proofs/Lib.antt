@@ -1,4 +1,1 @@
 pub mod ReadingLaws
-pub mod Held
-pub mod Made
-pub mod ReadLaws

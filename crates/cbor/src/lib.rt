@@ -10,7 +10,6 @@ use byte_buffer::four;
 use byte_buffer::two;
 use byte_buffer::wide;
 
-pub mod reader;
 pub mod reading;
 
 // Kinds of items.
@@ -97,7 +96,7 @@ fn long_head(s: &[u8], end: usize, at: usize, first: usize) -> HeadRead
 }
 
 // The head at `at`, in a container that ends at `end`.
-pub(crate) fn read_head(s: &[u8], end: usize, at: usize) -> HeadRead
+pub fn read_head(s: &[u8], end: usize, at: usize) -> HeadRead
     requires { ⌜ end ≤ length (now s) ⌝ }
     ensures { λ r. ⌜ headMeans r ≡ head (now (s .entry)) end at ⌝ }
 {

@@ -4,7 +4,7 @@ ghost use Rattle.rules.specs.Check as Check;
 ghost use Rattle.rules.specs.Newer as Rule;
 ghost use Rattle.check_envelope.specs.Report.{reportOf, numbersIn, numbersOf};
 ghost use Rattle.check_envelope.specs.Newer.{Handed};
-use cbor::reader::left_at;
+use cbor_reader::left_at;
 use check_manifest::read_body;
 use newest::choose;
 use outer::read_outer;

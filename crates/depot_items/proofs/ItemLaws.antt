@@ -12,8 +12,8 @@ use Rattle.rules.specs.Cbor.{Head, head, BYTES, TEXT, after}
 use Rattle.rules.proofs.AnswerLaws.{not-zero}
 use Rattle.rules.proofs.CheckLaws.{head-bounds}
 use Rattle.rules.proofs.CborLaws.{after-string, after-other}
-use Rattle.cbor.specs.declared.reader.Read.{Read}
-use Rattle.cbor.specs.Read.{readOf}
+use Rattle.cbor_reader.specs.declared.Read.{Read}
+use Rattle.cbor_reader.specs.Read.{readOf}
 use Rattle.depot_items.specs.Items.{nothing, held, seen, itemAt, itemOf}
 
 held-past : (e : ℕ) (h : Head) → e < after h → held e h ≡ nothing e

@@ -7,7 +7,7 @@ ghost use Rattle.depot_items.specs.Items.{nothing as Items·nothing, hel
 
 pub mod line;
 
-use cbor::reader::head_at;
+use cbor_reader::head_at;
 
 // The kind of no item: no kind of cbor's.
 const NO_ITEM: usize = 31;

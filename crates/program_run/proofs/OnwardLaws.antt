@@ -16,7 +16,7 @@ use Rattle.rules.specs.ProgramRun.{exec, goto, resume}
 use Rattle.rules.specs.ProgramTest.{nonJumps}
 use Rattle.rules.specs.Run.{on}
 use Rattle.rules.specs.Step.{Env, State, out}
-use Rattle.run_commands.specs.declared.Progress.{Progress}
+use Rattle.run_actions.specs.declared.Progress.{Progress}
 use Rattle.program_run.specs.Jump.{AdvanceJob, Advanced}
 use Rattle.program_run.specs.Step.{OnwardJob, Onward}
 use Rattle.program_run.proofs.JumpLaws.{exec-past, fewer}

@@ -19,7 +19,7 @@ use Rattle.rules.specs.ProgramTest.{opIn, nonJumps}
 use Rattle.rules.specs.Step.{Env, State, Out, out}
 use Rattle.run_slots.specs.declared.params.Params.{Params}
 use Rattle.run_slots.specs.Params.{Fit}
-use Rattle.run_commands.specs.declared.Progress.{Progress}
+use Rattle.run_actions.specs.declared.Progress.{Progress}
 use Rattle.run_commands.specs.Machine.{stateAt, Lent}
 use Rattle.run_commands.specs.Op.{opOf}
 use Rattle.program_run.specs.declared.step.ProgramState.{ProgramState}

@@ -18,7 +18,7 @@ use rules::program_format::NO_TARGET;
 use rules::program_format::PLACE;
 use rules::program_format::RECORD_BYTES;
 use rules::program_format::TARGET;
-use run_commands::Progress;
+use run_actions::Progress;
 use run_commands::perform::perform;
 use run_slots::params::Params;
 

@@ -9,7 +9,7 @@ use Rattle.rules.specs.declared.answers.End.the-variants.{Finished, ConditionFa
 use Rattle.rules.specs.declared.answers.Failure.{Failure}
 use Rattle.rules.specs.declared.answers.Failure.the-variants.{ParameterUnset, Aborted, NoAnswer, BadStatus, TooLarge, NothingToCopy, NothingToRun}
 use Rattle.rules.specs.Answers.{endNumber, resultNumber, endOf, failureNumber}
-use Rattle.run_commands.specs.Action.{Ends}
+use Rattle.run_actions.specs.Action.{Ends}
 
 -- each fits a byte
 failure-small : (f : Failure) → failureNumber f < 256

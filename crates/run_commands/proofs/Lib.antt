@@ -1,4 +1,3 @@
-pub mod ActionLaws
 pub mod EndLaws
 pub mod PerformLaws
 pub mod LentLaws

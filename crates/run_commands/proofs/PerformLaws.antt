@@ -12,7 +12,7 @@ use Rattle.rules.specs.Commands.{Op, vendor, class, run, code}
 use Rattle.rules.specs.Step.{Env, State, Out, out, event, withEvent, slotNo, paramsOf, acts, step}
 use Rattle.run_slots.specs.declared.params.Params.{Params}
 use Rattle.run_slots.specs.Params.{paramsAt, stored, meaning, overParams, paramsIn, FitAll}
-use Rattle.run_commands.specs.Action.{At, SourceAt}
+use Rattle.run_actions.specs.Action.{At, SourceAt}
 use Rattle.run_commands.specs.Machine.{Host, stateAt}
 use Rattle.run_slots.proofs.ParamsLaws.{meaning-over, params-at, params-stored}
 

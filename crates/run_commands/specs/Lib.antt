@@ -1,3 +1,2 @@
-pub mod Action
 pub mod Op
 pub mod Machine

@@ -9,8 +9,8 @@ use Rattle.rules.specs.Limits.{limits}
 use Rattle.rules.specs.Slots.{answerBytes, slotOf}
 use Rattle.rules.specs.Step.{Env, State, state, Out, out}
 use Rattle.run_slots.specs.Params.{paramsIn, FitAll}
-use Rattle.run_commands.specs.declared.Progress.{Progress}
-use Rattle.run_commands.specs.Action.{AllHold}
+use Rattle.run_actions.specs.declared.Progress.{Progress}
+use Rattle.run_actions.specs.Action.{AllHold}
 
 -- the parameters of n components as numbers over the bytes s, the slots, the trace, and how many events and answers used
 abbrev pub stateAt : Bytes → ℕ → List ℕ → Bytes → Bytes → ℕ → ℕ → State

@@ -5,7 +5,7 @@ ghost use lib.ListN.{length};
 ghost use Rattle.rules.specs.Answers.{endOf, resultNumber};
 ghost use Rattle.rules.specs.Bytes.{put};
 ghost use Rattle.rules.specs.Step.{eventBytes, event};
-ghost use Rattle.run_commands.specs.Action.{Ends};
+ghost use Rattle.run_actions.specs.Action.{Ends};
 use byte_buffer::put_u16;
 use rules::answers::End;
 use rules::event_format::CODE;

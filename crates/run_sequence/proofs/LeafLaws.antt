@@ -15,7 +15,7 @@ use Rattle.rules.specs.Step.{Env, State, eventBytes, step}
 use Rattle.rules.specs.Run.{runSeq, runCmd}
 use Rattle.manifest_accessors.specs.declared.arguments.Args.{Args}
 use Rattle.run_sequence.specs.declared.Run.{Run}
-use Rattle.run_commands.specs.declared.Progress.{Progress}
+use Rattle.run_actions.specs.declared.Progress.{Progress}
 use Rattle.run_slots.specs.Params.{FitAll}
 use Rattle.run_commands.specs.Op.{opOf, IsCode}
 use Rattle.run_commands.specs.Machine.{stateAt, outAt}
