@@ -12,22 +12,22 @@ use Rattle.rules.specs.Answers.{refusalOf}
 use Rattle.rules.specs.Limits.{limits}
 use Rattle.rules.specs.Bytes.{Bytes, span}
 use Rattle.rules.specs.Got.{Got, refused, got, need, _>>=_}
-use Rattle.rules.specs.Cbor.{BYTES, MAP, after, item}
+use Rattle.rules.specs.Cbor.{BYTES, Head, after, item}
 use Rattle.rules.specs.Manifest.{Manifest}
-use Rattle.rules.specs.Check.{key, unread, inBytes, manifestAt, check}
+use Rattle.rules.specs.Check.{inBytes, manifestAt, outerAt, check}
 use Rattle.rules.proofs.AnswerLaws.{of-number, not-zero}
-use Rattle.rules.proofs.GotLaws.{both, split}
+use Rattle.rules.proofs.GotLaws.{split}
 use Rattle.rules.proofs.CheckLaws.{item-law, bytes-after}
 use Rattle.cbor.specs.declared.reading.Reading.{Reading}
 use Rattle.check_manifest.specs.declared.Body.{Body}
 use Rattle.check_envelope.specs.declared.report.Checked.{Checked}
 use Rattle.check_envelope.specs.declared.report.Checked.the-variants.{Accepted, Refused}
 use Rattle.check_envelope.specs.declared.report.Report.{Report}
-use Rattle.cbor.specs.Reading.{reading}
+use Rattle.cbor.specs.Reading.{headReading}
 use Rattle.check_manifest.specs.Body.{bodyOf}
-use Rattle.check_envelope.specs.Outer.{outerAt}
+use Rattle.check_envelope.specs.Outer.{manifestHead}
 use Rattle.check_envelope.specs.Report.{place, refusedReport, reportOf, numbersIn, numbersOf}
-use Rattle.cbor.proofs.ReadingLaws.{Stopped, alike, bind-assoc, reading-stopped, reading-went}
+use Rattle.cbor.proofs.ReadingLaws.{Stopped, stop-of, went, alike, bind-assoc}
 use Rattle.check_manifest.proofs.ManifestLaws.{manifest-part}
 
 module _ (s : Bytes) where
@@ -50,16 +50,11 @@ module _ (s : Bytes) where
       ∙ ap (λ (to : ℕ). manifestAt s to (b .next) >>= closed to) (bytes-after b (item-law s BYTES 0 (limits .largest) (length s) r b q .is))
 
   -- the envelope's own items, and then the manifest
-  parts : check s ≡ (need (leb (length s) (limits .envelope)) EnvelopeTooLong 0 >>= λ _. outerAt s (length s) >>= inner)
-  unfolding check outerAt
+  parts : check s ≡ (need (leb (length s) (limits .envelope)) EnvelopeTooLong 0 >>= λ _. manifestHead s (length s) >>= λ b. inner (b .num, b .next))
+  unfolding check
   parts =
       alike (need (leb (length s) (limits .envelope)) EnvelopeTooLong 0) _ _ λ u q.
-      sym
-      (bind-assoc (item MAP 2 2 s (length s) 0) _ _ ∙ alike (item MAP 2 2 s (length s) 0) _ _ λ h q₁.
-      bind-assoc (key s 1 (length s) (h .next)) _ _ ∙ alike (key s 1 (length s) (h .next)) _ _ λ p q₂.
-      bind-assoc (unread s (length s) p) _ _ ∙ alike (unread s (length s) p) _ _ λ n q₃.
-      bind-assoc (key s 3 (length s) n) _ _ ∙ alike (key s 3 (length s) n) _ _ λ r q₄.
-      bind-assoc (item BYTES 0 (limits .largest) s (length s) r) _ _ ∙ sym (ending r))
+      alike (outerAt s (length s)) _ _ (λ p q₁. ending p) ∙ sym (bind-assoc (outerAt s (length s)) _ _)
 
   -- the report of a refusal
   pub report-refused : (k : Refusal) (p : ℕ) (r : Report) → check s ≡ refused k p → r ≡ refusedReport k p → r ≡ reportOf (check s)
@@ -70,36 +65,35 @@ module _ (s : Bytes) where
 
   module _ (fits : length s ≤ limits .envelope) where
     -- a refusal of the envelope's own items
-    pub check-no-outer : (o : Reading) → o ≡ reading (λ n. n) (outerAt s (length s)) → (o .refusal ≡ 0 → ⊥) → (k : Refusal) → k ≡ refusalOf (o .refusal) → (r : Report) →
+    pub check-no-outer : (o : Reading) → o ≡ headReading (manifestHead s (length s)) → (o .refusal ≡ 0 → ⊥) → (k : Refusal) → k ≡ refusalOf (o .refusal) → (r : Report) →
         r ≡ refusedReport k (o .at) → r ≡ reportOf (check s)
     check-no-outer o q h k e r y =
-        let x = reading-stopped (λ n. n) (outerAt s (length s)) o q h in
+        let x = stop-of (λ b. b .next) (λ b. b .num) (manifestHead s (length s)) o q h in
         go x (e ∙ ap (λ (z : Reading). refusalOf (z .refusal)) (x .is) ∙ of-number (x .refusal)) (ap (λ (z : Reading). z .at) (x .is))
       where
-        go : (x : Stopped (outerAt s (length s)) o) → k ≡ x .refusal → o .at ≡ x .place → r ≡ reportOf (check s)
+        go : (x : Stopped (manifestHead s (length s)) o) → k ≡ x .refusal → o .at ≡ x .place → r ≡ reportOf (check s)
         go x u v =
             let c : check s ≡ refused (x .refusal) (x .place) = parts ∙ rw (le-leb _ _ fits, x .was) in
             rw c (y ∙ λ j. refusedReport (u j) (v j))
 
-    module _ (o : Reading) (q : o ≡ reading (λ n. n) (outerAt s (length s))) (z : o .refusal ≡ 0) where
-      opened : outerAt s (length s) ≡ got (o .value, o .at)
-      opened = let (a, g, v) = reading-went (λ n. n) (outerAt s (length s)) o q z in g ∙ (λ j. got (sym v j, o .at))
+    module _ (o : Reading) (q : o ≡ headReading (manifestHead s (length s))) (z : o .refusal ≡ 0) where
+      abbrev head : Head
+      head = record { kind = BYTES; num = o .value; next = o .at }
+
+      opened : (p : ℕ) × (item BYTES 0 (limits .largest) s (length s) p ≡ got head) × (manifestHead s (length s) ≡ got head)
+      opened =
+          let (b, g, at, value) = went (λ b. b .next) (λ b. b .num) (manifestHead s (length s)) o q z in
+          split _ (outerAt s (length s)) _ b g λ p qp x.
+          let is = item-law s BYTES 0 (limits .largest) (length s) p b x .is in
+          let same : b ≡ head = λ j. record { kind = is j; num = sym value j; next = sym at j } in
+          (p, x ∙ ap got same, g ∙ ap got same)
 
       -- the byte string lies in the envelope
       pub outer-fits : o .at + o .value ≤ length s
-      unfolding outerAt
-      outer-fits =
-          split _ (item MAP 2 2 s (length s) 0) _ (o .value, o .at) opened λ h q₁ x₁.
-          split _ (key s 1 (length s) (h .next)) _ (o .value, o .at) x₁ λ p q₂ x₂.
-          split _ (unread s (length s) p) _ (o .value, o .at) x₂ λ n q₃ x₃.
-          split _ (key s 3 (length s) n) _ (o .value, o .at) x₃ λ r q₄ x₄.
-          split _ (item BYTES 0 (limits .largest) s (length s) r) _ (o .value, o .at) x₄ λ b q₅ x₅.
-          let (u, v) = both x₅ in
-          let i = item-law s BYTES 0 (limits .largest) (length s) r b q₅ in
-          omega (arith, i .fits, bytes-after b (i .is))
+      outer-fits = let (p, x, _) = opened in omega (arith, item-law s BYTES 0 (limits .largest) (length s) p head x .fits, bytes-after head refl)
 
       at-manifest : check s ≡ inner (o .value, o .at)
-      at-manifest = parts ∙ rw (le-leb _ _ fits, opened)
+      at-manifest = let (_, _, x) = opened in parts ∙ rw (le-leb _ _ fits, x)
 
       module _ (b : Body) (w : b ≡ bodyOf (manifestAt s (o .at + o .value) (o .at))) where
         -- a refusal of the manifest

@@ -4,21 +4,18 @@ use mathlib.Core.Path.{_≡_, refl, sym, ap, _∙_}
 use mathlib.Core.Bool.{Bool, true, false, cond}
 use mathlib.Core.List.{List}
 use native.Mathlib.Omega.{arith}
-use lib.Dec.{ltb, leb, eqb}
+use lib.Dec.{ltb}
 use lib.ListN.{length}
 use borrow.Author.Tests.{lt-ltb, le-ltb}
 use denote.Ref.{RefT}
 use Rattle.rules.specs.declared.answers.Refusal.{Refusal}
-use Rattle.rules.specs.declared.answers.Refusal.the-variants.{EnvelopeTooLong, NotCbor}
 use Rattle.rules.specs.Limits.{limits}
-use Rattle.rules.specs.Bytes.{Bytes, Span, span}
+use Rattle.rules.specs.Bytes.{Bytes, span}
 use Rattle.rules.specs.Got.{Got, refused, got}
-use Rattle.rules.specs.Cbor.{MAP, item}
 use Rattle.rules.specs.Manifest.{Manifest}
-use Rattle.rules.specs.Check.{key, unread, inBytes, manifestAt, check}
+use Rattle.rules.specs.Check.{check}
 use Rattle.rules.specs.Newer.{Newer, inFirst, inSecond, newerOf, newer}
-use Rattle.rules.proofs.GotLaws.{passed, split, split₂}
-use Rattle.rules.proofs.CheckLaws.{inBytes-law}
+use Rattle.rules.proofs.ManifestParts.{held}
 use Rattle.rules_theorems.proofs.ManifestLaws.{sound}
 use Rattle.check_envelope.specs.declared.newest.Part.{Part}
 use Rattle.check_envelope.specs.declared.newest.Newest.{Newest}
@@ -55,21 +52,10 @@ module _ (s : Bytes) (r : Report) (e : r ≡ reportOf (check s)) where
 
 -- the manifest's part lies in the envelope
 lies : (s : Bytes) (m : Manifest) → check s ≡ got m → (m .part .from ≤ m .part .to) × (m .part .to ≤ length s)
-unfolding check
-lies s m q₀ =
-    let (_, q₁) = passed (leb (length s) (limits .envelope)) EnvelopeTooLong 0 _ m q₀ in
-    split _ (item MAP 2 2 s (length s) 0) _ m q₁ λ h qh q₂.
-    split _ (key s 1 (length s) (h .next)) _ m q₂ λ p qp q₃.
-    split _ (unread s (length s) p) _ m q₃ λ q qu q₄.
-    split _ (key s 3 (length s) q) _ m q₄ λ r qr q₅.
-    split₂ _ (inBytes s (manifestAt s) (length s) r) _ m q₅ λ m′ w qm q₆.
-    let (_, q₇) = passed (eqb (w .to) (length s)) NotCbor (w .to) _ m q₆ in
-    let j = inBytes-law s (manifestAt s) (length s) r m′ w qm in
-    let em : m′ ≡ m = cc in
-    let x : m′ .part ≡ span (w .from) (w .to) = manifest-part s (w .to) (w .from) m′ (w .to) (j .reads) in
-    let f : m .part .from ≡ w .from = ap (λ (z : Manifest). z .part .from) (sym em) ∙ ap (λ (z : Span). z .from) x in
-    let t : m .part .to ≡ w .to = ap (λ (z : Manifest). z .part .to) (sym em) ∙ ap (λ (z : Span). z .to) x in
-    (omega (arith, j .mid), omega (arith, j .fits))
+lies s m q =
+    let h = held s m q in
+    let x : m .part ≡ span (h .from) (h .to) = manifest-part s (h .to) (h .from) m (h .to) (h .reads) in
+    rw x (h .up, h .fits)
 
 within : (s : Bytes) (x : Got Manifest) → check s ≡ x → (partIn x .from ≤ partIn x .to) × (partIn x .to ≤ length s)
 within s (refused k p) q = (omega arith, omega arith)

@@ -3,8 +3,8 @@ ghost use mathlib.Core.Path.{_≡_};
 ghost use Prim.Native.Nat.{_≤_};
 ghost use lib.ListN.{length};
 ghost use Rattle.rules.specs.Check as Check;
-ghost use Rattle.cbor.specs.Reading.{reading, placeReading};
-ghost use Rattle.check_envelope.specs.Outer.{outerAt};
+ghost use Rattle.cbor.specs.Reading.{headReading, placeReading};
+ghost use Rattle.check_envelope.specs.Outer.{manifestHead};
 use cbor::ItemRead;
 use cbor::reading::Reading;
 use cbor::reading::item;
@@ -48,7 +48,7 @@ fn unread(s: &[u8], end: usize, at: usize) -> Reading
 // The byte string that holds the manifest: where its bytes start, and how many they are.
 pub(crate) fn read_outer(s: &[u8], end: usize) -> Reading
     requires { ⌜ end ≤ length (now s) ⌝ }
-    ensures { λ r. ⌜ r ≡ reading (λ n. n) (outerAt (now (s .entry)) end) ⌝ }
+    ensures { λ r. ⌜ r ≡ headReading (manifestHead (now (s .entry)) end) ⌝ }
 {
     let h = item(s, end, 0, cbor::MAP, ENTRIES, ENTRIES);
     let refusal = h.refusal;

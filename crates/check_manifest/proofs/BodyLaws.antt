@@ -1,24 +1,18 @@
 -- The manifest by its parts: a reading goes on or stops, and the rules of check as the chain in which the code reads.
 use Prim.Native.Nat.{ℕ, _-_}
 use mathlib.Core.Path.{_≡_, refl, sym, ap, _∙_}
-use mathlib.Core.List.{_++_}
 use native.Mathlib.Omega.{arith}
-use lib.Dec.{eqb}
-use lib.ListN.{length}
 use Rattle.rules.specs.declared.answers.Refusal.{Refusal}
-use Rattle.rules.specs.declared.answers.Refusal.the-variants.{WrongVersion}
 use Rattle.rules.specs.Answers.{refusalNumber}
-use Rattle.rules.specs.Bytes.{Bytes, span}
-use Rattle.rules.specs.Got.{Got, refused, got, need, _>>=_}
-use Rattle.rules.specs.Cbor.{NUMBER, MAP, Head, item}
-use Rattle.rules.specs.Commands.{COMMON, PAYLOAD_FETCH}
-use Rattle.rules.specs.Manifest.{countAll}
-use Rattle.rules.specs.Check.{number, key, sectionsAt, manifestAt}
+use Rattle.rules.specs.Bytes.{Bytes}
+use Rattle.rules.specs.Got.{Got, refused, got, _>>=_}
+use Rattle.rules.specs.Cbor.{NUMBER, Head, item}
+use Rattle.rules.specs.Commands.{PAYLOAD_FETCH}
+use Rattle.rules.specs.Check.{key}
 use Rattle.rules.proofs.CheckLaws.{item-law}
 use Rattle.cbor.specs.declared.reading.Reading.{Reading}
 use Rattle.cbor.specs.Reading.{ends, view, headReading}
-use Rattle.check_manifest.specs.Body.{versionAt, numberedAt, frontAt, commonIn}
-use Rattle.cbor.proofs.ReadingLaws.{stopped, went, alike, bind-assoc}
+use Rattle.cbor.proofs.ReadingLaws.{stopped, went}
 
 -- r tells what was read: where x ends and a number of it, or its refusal
 pub record Told {A : Type 0} (p v : A → ℕ) (x : Got A) (r : Reading) : Type 0 where
@@ -60,19 +54,3 @@ module _ (s : Bytes) where
 
   pub key-told : (k e : ℕ) {r : Reading} {at at′ : ℕ} → r ≡ headReading (item NUMBER k k s e at) → at ≡ at′ → Told (λ q. q) (λ q. k) (key s k e at′) r
   key-told k e {r} {at} q p = told (λ q. q) (λ q. k) (λ a. key s k e a) (q ∙ key-reading k e at) p
-
-  -- the manifest: up to common, common, the sections
-  pub manifest-law : (e at : ℕ) →
-      manifestAt s e at
-      ≡ (frontAt s e at >>= λ f. commonIn s e (f .1) >>= λ c.
-      sectionsAt s (length (c .0 .0)) (f .0 .0 - 3) PAYLOAD_FETCH (countAll (c .0 .1)) e (c .1 .to) >>= λ y.
-      got (record { part = span at (y .1); number = f .0 .1; ids = c .0 .0; common = c .1; sections = c .0 .1 ++ y .0 }, y .1))
-  unfolding manifestAt frontAt versionAt numberedAt commonIn
-  manifest-law e at =
-      sym (bind-assoc (item MAP 3 8 s e at) _ _ ∙ alike (item MAP 3 8 s e at) _ _ λ h q.
-      bind-assoc (versionAt s e (h .next)) _ _ ∙ bind-assoc (key s 1 e (h .next)) _ _ ∙ alike (key s 1 e (h .next)) _ _ λ p q₁.
-      bind-assoc (number s e p) _ _ ∙ alike (number s e p) _ _ λ a q₂.
-      bind-assoc (need (eqb (a .0) 1) WrongVersion p) _ _ ∙ alike (need (eqb (a .0) 1) WrongVersion p) _ _ λ u q₃.
-      bind-assoc (numberedAt s e (a .1)) _ _ ∙ bind-assoc (key s 2 e (a .1)) _ _ ∙ alike (key s 2 e (a .1)) _ _ λ p₂ q₄.
-      bind-assoc (number s e p₂) _ _ ∙ alike (number s e p₂) _ _ λ n q₅.
-      bind-assoc (key s COMMON e (n .1)) _ _)

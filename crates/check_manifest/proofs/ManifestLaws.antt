@@ -11,19 +11,19 @@ use Rattle.rules.specs.Got.{Got, refused, got, _>>=_}
 use Rattle.rules.specs.Cbor.{MAP, item}
 use Rattle.rules.proofs.GotLaws.{both, split}
 use Rattle.rules.proofs.CheckLaws.{item-law}
+use Rattle.rules.proofs.ManifestParts.{manifest-parts}
 use Rattle.component_ids.specs.Identifiers.{laid}
 use Rattle.rules.specs.Commands.{PAYLOAD_FETCH}
 use Rattle.rules.specs.Manifest.{Section, countAll, Manifest}
-use Rattle.rules.specs.Check.{sectionsAt, manifestAt}
+use Rattle.rules.specs.Check.{sectionsAt, manifestAt, versionAt, numberedAt, frontAt, commonIn}
 use Rattle.cbor.specs.declared.reading.Reading.{Reading}
 use Rattle.check_manifest.specs.declared.Front.{Front}
 use Rattle.check_manifest.specs.declared.Common.{Common}
 use Rattle.check_manifest.specs.declared.Body.{Body}
 use Rattle.check_manifest.specs.Sections.{placed}
-use Rattle.check_manifest.specs.Body.{versionAt, numberedAt, frontAt, frontOf, commonIn, commonOf, refusedBody, bodyOf}
+use Rattle.check_manifest.specs.Body.{frontOf, commonOf, refusedBody, bodyOf}
 use Rattle.cbor.proofs.ReadingLaws.{reading-stopped, reading-went}
 use Rattle.check_manifest.proofs.SectionLaws.{Promise}
-use Rattle.check_manifest.proofs.BodyLaws.{manifest-law}
 use Rattle.check_manifest.proofs.CommonLaws.{CommonPromise}
 
 placed-append : (xs ys : List Section) (a : List ℕ) → placed (xs ++ ys) a ≡ placed ys (placed xs a)
@@ -48,7 +48,8 @@ common-is (got a) c e h = (
 
 -- the start stopped
 pub manifest-no-front : (s : Bytes) (e at : ℕ) (f : Front) → f ≡ frontOf (frontAt s e at) → (f .refusal ≡ 0 → ⊥) → refusedBody (f .refusal) (f .at) ≡ bodyOf (manifestAt s e at)
-manifest-no-front s e at f q h = rw (manifest-law s e at) (go (frontAt s e at) _ q)
+unfolding manifestAt
+manifest-no-front s e at f q h = go (frontAt s e at) _ q
   where
     go : (x : Got ((ℕ × ℕ) × ℕ)) (g : (ℕ × ℕ) × ℕ → Got (Manifest × ℕ)) → f ≡ frontOf x → refusedBody (f .refusal) (f .at) ≡ bodyOf (x >>= g)
     go (refused k p) g u = ap (λ (z : Front). refusedBody (z .refusal) (z .at)) u
@@ -58,7 +59,8 @@ module _ (s : Bytes) (e at : ℕ) (f : Front) (i b : List ℕ) where
   module _ (q : f ≡ frontOf (frontAt s e at)) (h : f .refusal ≡ 0) (c : Common) (y : CommonPromise (commonIn s e (f .at)) c (replicate places 0) i (replicate sectionPlaces 0) b) where
     -- common stopped
     pub manifest-no-common : (c .refusal ≡ 0 → ⊥) → refusedBody (c .refusal) (c .at) ≡ bodyOf (manifestAt s e at)
-    manifest-no-common n = rw (manifest-law s e at, front-is (frontAt s e at) f q h) (go (commonIn s e (f .at)) _ (y .0))
+    unfolding manifestAt
+    manifest-no-common n = rw (front-is (frontAt s e at) f q h) (go (commonIn s e (f .at)) _ (y .0))
       where
         go : (x : Got ((List Span × List Section) × Span)) (g : (List Span × List Section) × Span → Got (Manifest × ℕ)) → c ≡ commonOf x →
             refusedBody (c .refusal) (c .at) ≡ bodyOf (x >>= g)
@@ -69,16 +71,18 @@ module _ (s : Bytes) (e at : ℕ) (f : Front) (i b : List ℕ) where
         (w : Promise (λ xs. c .commands + countAll xs) (λ xs. xs) (sectionsAt s (c .components) (f .entries - 3) PAYLOAD_FETCH (c .commands) e (c .at)) r b b′) where
       -- the sections stopped
       pub manifest-bad : (r .refusal ≡ 0 → ⊥) → refusedBody (r .refusal) (r .at) ≡ bodyOf (manifestAt s e at)
+      unfolding manifestAt
       manifest-bad n =
           let (ids, xs, g, u, v) = common-is (commonIn s e (f .at)) c (y .0) z in
           let x = reading-stopped (λ xs. c .commands + countAll xs) (sectionsAt s (c .components) (f .entries - 3) PAYLOAD_FETCH (c .commands) e (c .at)) r (w .0) n in
-          rw (manifest-law s e at, front-is (frontAt s e at) f q h, g, ← u, ← v, x .was) (ap (λ (t : Reading). refusedBody (t .refusal) (t .at)) (x .is))
+          rw (front-is (frontAt s e at) f q h, g, ← u, ← v, x .was) (ap (λ (t : Reading). refusedBody (t .refusal) (t .at)) (x .is))
 
       abbrev accepted : Body
       accepted = record { refusal = 0; at = r .at; number = f .number; components = c .components; from = c .from; to = c .at; ids = i; sections = b′ }
 
       -- all is accepted
       pub manifest-good : r .refusal ≡ 0 → accepted ≡ bodyOf (manifestAt s e at)
+      unfolding manifestAt
       manifest-good n =
           let (ids, xs, g, u, v) = common-is (commonIn s e (f .at)) c (y .0) z in
           let (ys, t, _) = reading-went (λ xs. c .commands + countAll xs) (sectionsAt s (c .components) (f .entries - 3) PAYLOAD_FETCH (c .commands) e (c .at)) r (w .0) n in
@@ -89,7 +93,7 @@ module _ (s : Bytes) (e at : ℕ) (f : Front) (i b : List ℕ) where
               (i ≡ laid ids (replicate places 0)) × (b ≡ placed xs (replicate sectionPlaces 0)) → b′ ≡ placed ys b → accepted ≡ bodyOf (manifestAt s e at)
           go ids xs ys g u v t (k, l) o =
               let all : manifestAt s e at ≡ got (record { part = span at (r .at); number = f .number; ids = ids; common = span (c .from) (c .at); sections = xs ++ ys }, r .at) =
-              manifest-law s e at ∙ rw (front-is (frontAt s e at) f q h, g, ← u, ← v, t) in
+              rw (front-is (frontAt s e at) f q h, g, ← u, ← v, t) in
               let all-placed : b′ ≡ placed (xs ++ ys) (replicate sectionPlaces 0) = o ∙ ap (placed ys) l ∙ sym (placed-append xs ys (replicate sectionPlaces 0)) in
               rw all
               (λ j. record { refusal = 0; at = r .at; number = f .number; components = u j; from = c .from; to = c .at; ids = k j; sections = all-placed j })
@@ -109,9 +113,4 @@ front-entries s e at f q h =
 
 -- the manifest's part starts where it was read, and ends where the reading did
 pub manifest-part : (s : Bytes) (e at : ℕ) (m : Manifest) (q : ℕ) → manifestAt s e at ≡ got (m, q) → m .part ≡ span at q
-manifest-part s e at m q x =
-    split _ (frontAt s e at) _ (m, q) (sym (manifest-law s e at) ∙ x) λ f qf x₁.
-    split _ (commonIn s e (f .1)) _ (m, q) x₁ λ c qc x₂.
-    split _ (sectionsAt s (length (c .0 .0)) (f .0 .0 - 3) PAYLOAD_FETCH (countAll (c .0 .1)) e (c .1 .to)) _ (m, q) x₂ λ y qy x₃.
-    let (em, eq) = both x₃ in
-    sym (ap (λ (z : Manifest). z .part) em) ∙ ap (span at) eq
+manifest-part s e at m q x = ap (λ (z : Manifest). z .part) (manifest-parts s e at m q x .is)

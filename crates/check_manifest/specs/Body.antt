@@ -1,18 +1,13 @@
--- The manifest by its parts, as the code reads it: up to common, common, the sections.
+-- What the readers of a manifest hand back: of its start, of common, of the whole.
 use Prim.Native.Nat.{ℕ}
 use mathlib.Core.Path.{_≡_}
 use mathlib.Core.List.{List}
-use lib.Dec.{eqb}
 use lib.ListN.{length, replicate}
-use Rattle.rules.specs.declared.answers.Refusal.the-variants.{WrongVersion}
 use Rattle.rules.specs.Answers.{refusalNumber}
 use Rattle.rules.specs.Limits.{places, sectionPlaces}
-use Rattle.rules.specs.Bytes.{Bytes, Span}
-use Rattle.rules.specs.Got.{Got, refused, got, need, _>>=_}
-use Rattle.rules.specs.Cbor.{MAP, item}
-use Rattle.rules.specs.Commands.{COMMON}
+use Rattle.rules.specs.Bytes.{Span}
+use Rattle.rules.specs.Got.{Got, refused, got}
 use Rattle.rules.specs.Manifest.{Section, countAll, Manifest}
-use Rattle.rules.specs.Check.{number, key, inBytes, commonAt}
 use Rattle.check_manifest.specs.declared.Front.{Front}
 use Rattle.check_manifest.specs.declared.Common.{Common}
 use Rattle.check_manifest.specs.declared.Body.{Body}
@@ -20,34 +15,6 @@ use Rattle.cbor.specs.declared.reading.Reading.{Reading}
 use Rattle.cbor.specs.Reading.{view}
 use Rattle.component_ids.specs.Identifiers.{laid}
 use Rattle.check_manifest.specs.Sections.{placed}
-
-module _ (s : Bytes) where
-  -- the version under its key: the place after it
-  unfoldable pub versionAt : ℕ → ℕ → Got ℕ
-  versionAt e at = do
-    p ← key s 1 e at
-    (version, next) ← number s e p
-    _ ← need (eqb version 1) WrongVersion p
-    got next
-
-  -- the sequence number under its key, and the place after the key of common
-  unfoldable pub numberedAt : ℕ → ℕ → Got (ℕ × ℕ)
-  numberedAt e at = do
-    p ← key s 2 e at
-    (n, q) ← number s e p
-    next ← key s COMMON e q
-    got (n, next)
-
-  -- the manifest up to common: how many entries it has, the number, and the place after
-  unfoldable pub frontAt : ℕ → ℕ → Got ((ℕ × ℕ) × ℕ)
-  frontAt e at = do
-    h ← item MAP 3 8 s e at
-    p ← versionAt e (h .next)
-    (n, next) ← numberedAt e p
-    got ((h .num, n), next)
-
-  unfoldable pub commonIn : ℕ → ℕ → Got ((List Span × List Section) × Span)
-  commonIn e at = inBytes s (commonAt s) e at
 
 abbrev pub frontOf : Got ((ℕ × ℕ) × ℕ) → Front
 frontOf (refused r p) = record { refusal = refusalNumber r; at = p; entries = 0; number = 0 }

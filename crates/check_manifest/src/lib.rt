@@ -5,7 +5,7 @@ ghost use lib.ListN.{length};
 ghost use Rattle.rules.specs.Tables.{byNumber};
 ghost use Rattle.rules.specs.Check as Check;
 ghost use Rattle.cbor.specs.Reading.{placeReading, reading};
-ghost use Rattle.check_manifest.specs.Body.{versionAt, numberedAt, frontAt, frontOf, listReading, Ids, commonIn, commonOf, refusedBody, bodyOf, Kept};
+ghost use Rattle.check_manifest.specs.Body.{frontOf, listReading, Ids, commonOf, refusedBody, bodyOf, Kept};
 use cbor::reading::Reading;
 use cbor::reading::item;
 use cbor::reading::refuse;
@@ -50,7 +50,7 @@ struct Front {
 // The version under its key, which is 1: the place after it.
 fn version(s: &[u8], end: usize, at: usize) -> Reading
     requires { ⌜ end ≤ length (now s) ⌝ }
-    ensures { λ r. ⌜ r ≡ placeReading (versionAt (now (s .entry)) end at) ⌝ }
+    ensures { λ r. ⌜ r ≡ placeReading (Check.versionAt (now (s .entry)) end at) ⌝ }
 {
     let k = item(s, end, at, cbor::NUMBER, VERSION_KEY, VERSION_KEY);
     let refusal = k.refusal;
@@ -77,7 +77,7 @@ fn version(s: &[u8], end: usize, at: usize) -> Reading
 // The sequence number under its key, and the key of common after it.
 fn numbered(s: &[u8], end: usize, at: usize) -> Reading
     requires { ⌜ end ≤ length (now s) ⌝ }
-    ensures { λ r. ⌜ r ≡ reading (λ n. n) (numberedAt (now (s .entry)) end at) ⌝ }
+    ensures { λ r. ⌜ r ≡ reading (λ n. n) (Check.numberedAt (now (s .entry)) end at) ⌝ }
 {
     let k = item(s, end, at, cbor::NUMBER, NUMBER_KEY, NUMBER_KEY);
     let refusal = k.refusal;
@@ -104,7 +104,7 @@ fn numbered(s: &[u8], end: usize, at: usize) -> Reading
 // The manifest up to common: how many entries it has, and its sequence number.
 fn read_front(s: &[u8], end: usize, at: usize) -> Front
     requires { ⌜ end ≤ length (now s) ⌝ }
-    ensures { λ r. ⌜ r ≡ frontOf (frontAt (now (s .entry)) end at) ⌝ }
+    ensures { λ r. ⌜ r ≡ frontOf (Check.frontAt (now (s .entry)) end at) ⌝ }
 {
     let h = item(s, end, at, cbor::MAP, REQUIRED, MOST_ENTRIES);
     let refusal = h.refusal;
@@ -198,7 +198,7 @@ fn read_common(
     places: &mut SectionPlaces,
 ) -> Common
     requires { ⌜ (end ≤ length (now s)) × (now table ≡ byNumber) ⌝ }
-    ensures { λ r. ⌜ (r ≡ commonOf (commonIn (now (s .entry)) end at)) × Kept (λ c. c .0) (λ c. c .1) (commonIn (now (s .entry)) end at) (now (ids .entry)) (now (ids .exit)) (now (places .entry)) (now (places .exit)) ⌝ }
+    ensures { λ r. ⌜ (r ≡ commonOf (Check.commonIn (now (s .entry)) end at)) × Kept (λ c. c .0) (λ c. c .1) (Check.commonIn (now (s .entry)) end at) (now (ids .entry)) (now (ids .exit)) (now (places .entry)) (now (places .exit)) ⌝ }
 {
     let b = item(s, end, at, cbor::BYTES, 0, Controller::LARGEST_NUMBER);
     let refusal = b.refusal;

@@ -10,12 +10,12 @@ use Rattle.rules.specs.declared.answers.Refusal.the-variants.{Malformed, Repeat
 use Rattle.rules.specs.Limits.{limits}
 use Rattle.rules.specs.Bytes.{Bytes, Span, span, bytesAt, member}
 use Rattle.rules.specs.Got.{got}
-use Rattle.rules.specs.Cbor.{ARRAY, MAP, item}
-use Rattle.rules.specs.Manifest.{Section, Manifest}
-use Rattle.rules.specs.Check.{key, inBytes, strings, identifier, identifiers, components, commonSeq, commonAt, check}
-use Rattle.rules.proofs.GotLaws.{passed, both, split, split₂}
+use Rattle.rules.specs.Cbor.{ARRAY, item}
+use Rattle.rules.specs.Manifest.{Manifest}
+use Rattle.rules.specs.Check.{strings, identifier, identifiers, components, check}
+use Rattle.rules.proofs.GotLaws.{passed, both, split}
 use Rattle.rules.proofs.CheckLaws.{Item, item-law, inBytes-law, strings-law}
-use Rattle.manifest_accessors.proofs.ManifestParts.{parts}
+use Rattle.rules.proofs.ManifestParts.{common-parts, common-in, manifest-parts, held}
 
 -- a place in s
 abbrev pub In : Bytes → Span → Type 0
@@ -60,18 +60,12 @@ module _ (s : Bytes) where
       split _ (item ARRAY 1 (limits .components) s e at) _ (ids, q) q₀ λ h qh q₁.
       identifiers-in (h .num) [] e (h .next) ids q l tt q₁
 
-  common-in : (e at : ℕ) (r : List Span × List Section) (q : ℕ) → e ≤ length s → commonAt s e at ≡ got (r, q) → AllIn s (r .0)
-  unfolding commonAt
-  common-in e at r q l q₀ =
-      split _ (item MAP 1 2 s e at) _ (r, q) q₀ λ h qh q₁.
-      split _ (key s 2 e (h .next)) _ (r, q) q₁ λ p qp q₂.
-      split₂ _ (inBytes s (components s) e p) _ (r, q) q₂ λ ids w qi q₃.
-      split₂ _ (commonSeq s (length ids) (h .num - 1) e (w .to)) _ (r, q) q₃ λ xs p₃ qa q₄.
-      let j = inBytes-law s (components s) e p ids w qi in
-      let (er, _) = both q₄ in
-      rw (← er) (components-in (w .to) (w .from) ids (w .to) (omega (arith, j .fits)) (j .reads))
-
 pub ids-in : (s : Bytes) (m : Manifest) → check s ≡ got m → (k : ℕ) → k < length (m .ids) → In s (getD (m .ids) k (span 0 0))
-ids-in s m q k h =
-    let x = parts s m q in
-    nth s (m .ids) k (rw (x .ids-are) (common-in s (x .place .to) (x .place .from) (x .common) (x .place .to) (x .inside) (x .reads))) h
+ids-in s m q k l =
+    let h = held s m q in
+    let x = manifest-parts s (h .to) (h .from) m (h .to) (h .reads) in
+    let j = common-in s (h .to) (x .start) (x .common) (x .place) (x .held) in
+    let y = common-parts s (x .place .to) (x .place .from) (x .common) (x .place .to) (j .reads) in
+    let i = inBytes-law s (components s) (x .place .to) (y .list) (x .common .0) (y .place) (y .ids) in
+    let all = components-in s (y .place .to) (y .place .from) (x .common .0) (y .place .to) (omega (arith, i .fits, j .fits, h .fits)) (i .reads) in
+    nth s (m .ids) k (rw (x .is) all) l

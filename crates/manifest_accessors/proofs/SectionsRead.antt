@@ -9,17 +9,17 @@ use lib.ListN.{length, getD, set, replicate, length-set, length-replicate}
 use lib.Seq.{getD-set-same, getD-set-other}
 use borrow.Author.Tests.{ne-eqb}
 use Rattle.rules.specs.Limits.{limits, sectionCount, sectionPlaces}
-use Rattle.rules.specs.Bytes.{Bytes, Span}
+use Rattle.rules.specs.Bytes.{Bytes}
 use Rattle.rules.specs.Got.{got}
-use Rattle.rules.specs.Cbor.{NUMBER, MAP, item}
+use Rattle.rules.specs.Cbor.{NUMBER, item}
 use Rattle.rules.specs.Commands.{COMMON, PAYLOAD_FETCH, RUN}
 use Rattle.rules.specs.Manifest.{count, Section, countAll, Manifest}
-use Rattle.rules.specs.Check.{key, inBytes, components, sequenceAt, sectionAt, commonSeq, commonAt, sectionsAt, check}
-use Rattle.rules.proofs.GotLaws.{passed, both, split, split₂}
+use Rattle.rules.specs.Check.{key, inBytes, sequenceAt, sectionAt, commonSeq, sectionsAt, check}
+use Rattle.rules.proofs.GotLaws.{both, split, split₂}
 use Rattle.rules.proofs.CheckLaws.{item-law, inBytes-law}
 use Rattle.check_manifest.specs.Sections.{sectionNo, placedOne, placed}
 use Rattle.manifest_accessors.specs.Sections.{keyOf}
-use Rattle.manifest_accessors.proofs.ManifestParts.{Parts, parts}
+use Rattle.rules.proofs.ManifestParts.{common-parts, common-in, manifest-parts, held}
 
 -- a section as check read it, after m commands; its number is at least `least`
 pub record SectionRead (s : Bytes) (n m least : ℕ) (x : Section) : Type 0 where
@@ -108,23 +108,18 @@ module _ (s : Bytes) where
       let c : 0 + count (x .seq) ≡ count (x .seq) + 0 = omega arith in
       rw (← ex, g, c) (numbered n COMMON 0 e p x next 0 l r (omega arith) (omega arith) refl, rw (← ex) at h)
 
-sections-in : (s : Bytes) (m : Manifest) → Parts s m → ReadAll s (length (m .ids)) 0 0 (m .sections)
-unfolding commonAt
-sections-in s m x =
+pub sections-of : (s : Bytes) (m : Manifest) → check s ≡ got m → ReadAll s (length (m .ids)) 0 0 (m .sections)
+sections-of s m q =
+    let h = held s m q in
+    let x = manifest-parts s (h .to) (h .from) m (h .to) (h .reads) in
     let c = x .common in
     let w = x .place in
-    let t = sections-read s (length (c .0)) (x .entries) PAYLOAD_FETCH (countAll (c .1)) (x .e) (w .to) (x .sections) (x .next) (x .fits) (omega arith) (x .follow) in
-    split _ (item MAP 1 2 s (w .to) (w .from)) _ (c, w .to) (x .reads) λ h qh r₁.
-    split _ (key s 2 (w .to) (h .next)) _ (c, w .to) r₁ λ p qp r₂.
-    split₂ _ (inBytes s (components s) (w .to) p) _ (c, w .to) r₂ λ ids v qi r₃.
-    split₂ _ (commonSeq s (length ids) (h .num - 1) (w .to) (v .to)) _ (c, w .to) r₃ λ xs next qx r₄.
-    let (ec, _) = both r₄ in
-    let ei : ids ≡ c .0 = ap (λ (z : List Span × List Section). z .0) ec in
-    let es : xs ≡ c .1 = ap (λ (z : List Span × List Section). z .1) ec in
-    rw (x .ids-are, x .sections-are) (rw (ei, es) at (common-read s (length ids) (h .num - 1) (w .to) (v .to) xs (x .sections) next (x .inside) qx (rw (ei, es) t)))
-
-pub sections-of : (s : Bytes) (m : Manifest) → check s ≡ got m → ReadAll s (length (m .ids)) 0 0 (m .sections)
-sections-of s m q = sections-in s m (parts s m q)
+    let j = common-in s (h .to) (x .start) c w (x .held) in
+    let y = common-parts s (w .to) (w .from) c (w .to) (j .reads) in
+    let t =
+    sections-read s (length (c .0)) (x .entries - 3) PAYLOAD_FETCH (countAll (c .1)) (h .to) (w .to) (x .sections) (h .to) (h .fits) (omega arith) (x .follow) in
+    let inside : w .to ≤ length s = omega (arith, j .fits, h .fits) in
+    rw (x .is) (common-read s (length (c .0)) (y .left) (w .to) (y .place .to) (c .1) (x .sections) (w .to) inside (y .sequence) t)
 
 -- what is left of the sections from number k on, in the array of places
 pub record Rest (s : Bytes) (n : ℕ) (places : List ℕ) (k m : ℕ) (rest : List Section) : Type 0 where

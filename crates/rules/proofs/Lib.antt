@@ -5,6 +5,7 @@ pub mod RefusalOrder
 pub mod AnswerLaws
 pub mod GotLaws
 pub mod CheckLaws
+pub mod ManifestParts
 pub mod TableLaws
 pub mod BytesLaws
 pub mod SameLaws

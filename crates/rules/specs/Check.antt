@@ -197,17 +197,39 @@ module _ (s : Bytes) where
     (xs, q) ← sectionsAt n k (h .num + 1) (m + count (x .seq)) e p
     got (x ∷ xs, q)
 
+  -- common in its byte string, and its place
+  unfoldable pub commonIn : ℕ → ℕ → Got ((List Span × List Section) × Span)
+  commonIn e at = inBytes commonAt e at
+
+  -- the version under its key: the place after it
+  unfoldable pub versionAt : ℕ → ℕ → Got ℕ
+  versionAt e at = do
+    p ← key 1 e at
+    (version, next) ← number e p
+    _ ← need (eqb version 1) WrongVersion p
+    got next
+
+  -- the sequence number under its key, and the place after the key of common
+  unfoldable pub numberedAt : Read ℕ
+  numberedAt e at = do
+    p ← key 2 e at
+    (n, q) ← number e p
+    next ← key COMMON e q
+    got (n, next)
+
+  -- the manifest up to common: how many entries it has, and its sequence number
+  unfoldable pub frontAt : Read (ℕ × ℕ)
+  frontAt e at = do
+    h ← item MAP 3 8 s e at
+    p ← versionAt e (h .next)
+    (n, next) ← numberedAt e p
+    got ((h .num, n), next)
+
   unfoldable pub manifestAt : Read Manifest
   manifestAt e at = do
-    h ← item MAP 3 8 s e at
-    p ← key 1 e (h .next)
-    (version, p₁) ← number e p
-    _ ← need (eqb version 1) WrongVersion p
-    p₂ ← key 2 e p₁
-    (n, p₃) ← number e p₂
-    p₄ ← key 3 e p₃
-    ((ids, xs), common) ← inBytes commonAt e p₄
-    (ys, next) ← sectionsAt (length ids) (h .num - 3) PAYLOAD_FETCH (countAll xs) e (common .to)
+    ((k, n), p) ← frontAt e at
+    ((ids, xs), common) ← commonIn e p
+    (ys, next) ← sectionsAt (length ids) (k - 3) PAYLOAD_FETCH (countAll xs) e (common .to)
     got (record { part = span at next; number = n; ids = ids; common = common; sections = xs ++ ys }, next)
 
   -- nil or a byte string; the place after it
@@ -216,14 +238,19 @@ module _ (s : Bytes) where
     h ← oneOf NIL BYTES s e at
     got (after h)
 
+  -- the envelope up to the byte string of its manifest; the place of that
+  unfoldable pub outerAt : ℕ → Got ℕ
+  outerAt e = do
+    h ← item MAP 2 2 s e 0
+    p ← key 1 e (h .next)
+    q ← unread e p
+    key 3 e q
+
   unfoldable pub check : Got Manifest
   check = do
     let e = length s
     _ ← need (leb e (limits .envelope)) EnvelopeTooLong 0
-    h ← item MAP 2 2 s e 0
-    p ← key 1 e (h .next)
-    q ← unread e p
-    r ← key 3 e q
-    (m, place) ← inBytes manifestAt e r
+    p ← outerAt e
+    (m, place) ← inBytes manifestAt e p
     _ ← need (eqb (place .to) e) NotCbor (place .to)
     got m

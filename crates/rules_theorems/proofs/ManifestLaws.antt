@@ -1,23 +1,25 @@
 -- What holds of an accepted manifest.
 use Prim.Native.Nat.{ℕ, zero, suc, _+_, _-_, _*_, _≤_, _<_}
-use mathlib.Core.Path.{_≡_, refl, _∙_, subst}
+use mathlib.Core.Path.{_≡_, refl, ap, _∙_, subst}
 use mathlib.Core.List.{List, [], _∷_, _++_, map, map-append}
 use mathlib.Core.Bool.{false, not}
 use native.Mathlib.Omega.{arith}
-use lib.Dec.{leb, eqb}
+use lib.Dec.{leb}
 use lib.ListN.{length, length-append, length-map}
 use borrow.Author.Tests.{leb-true, not-true}
-use Rattle.rules.specs.declared.answers.Refusal.the-variants.{EnvelopeTooLong, Malformed, NotCbor, RepeatedIdentifier, WrongVersion}
+use Rattle.rules.specs.declared.answers.Refusal.the-variants.{Malformed, RepeatedIdentifier}
 use Rattle.rules.specs.Limits.{limits}
 use Rattle.rules.specs.Bytes.{Bytes, Span, span, bytesAt, same, member, repeats}
 use Rattle.rules.specs.Got.{got}
 use Rattle.rules.specs.Cbor.{NUMBER, ARRAY, MAP, item}
 use Rattle.rules.specs.Manifest.{count, Section, countAll, Manifest, names}
-use Rattle.rules.specs.Check.{number, key, inBytes, strings, identifier, identifiers, components, sequenceAt, sectionAt, commonSeq, commonAt, sectionsAt, manifestAt, unread, check}
+use Rattle.rules.specs.Check.{key, inBytes, strings, identifier, identifiers, components, sequenceAt, sectionAt, commonSeq, commonAt, versionAt, numberedAt, frontAt, sectionsAt, manifestAt, check}
+use Rattle.rules.specs.Check as Check
 use Rattle.rules.specs.ProgramSize.{argSize}
-use Rattle.rules.specs.Commands.{PAYLOAD_FETCH, RUN}
+use Rattle.rules.specs.Commands.{COMMON, PAYLOAD_FETCH, RUN}
 use Rattle.rules.proofs.GotLaws.{passed, both, split, split₂, or-false}
 use Rattle.rules.proofs.CheckLaws.{Item, item-law, number-law, key-law, inBytes-law, strings-law}
+use Rattle.rules.proofs.ManifestParts.{common-parts, common-in, manifest-parts, held}
 use Rattle.rules_theorems.proofs.OpLaws.{argumentGrowth}
 use Rattle.rules_theorems.proofs.RoundTrip.{GoodIds}
 use Rattle.rules.proofs.BytesLaws.{length-part}
@@ -183,64 +185,61 @@ module _ (s : Bytes) (small : length s < 65536) where
 
   common-law : (e at : ℕ) (r : List Span × List Section) (q : ℕ) → e ≤ length s → commonAt s e at ≡ got (r, q) →
       Listed 0 e at (r .1) q (length (r .0)) × Distinct s (r .0) × (1 ≤ length (r .0)) × (length (r .0) ≤ limits .components)
-  unfolding commonAt
   common-law e at r q l q₀ =
-      split _ (item MAP 1 2 s e at) _ (r, q) q₀ λ h qh q₁.
-      split _ (key s 2 e (h .next)) _ (r, q) q₁ λ p qp q₂.
-      split₂ _ (inBytes s (components s) e p) _ (r, q) q₂ λ ids w qi q₃.
-      split₂ _ (commonSeq s (length ids) (h .num - 1) e (w .to)) _ (r, q) q₃ λ xs p₃ qa q₄.
-      let i : Item s MAP 1 2 e at h = item-law s MAP 1 2 e at h qh in
-      let (x, y) = key-law s 2 e (h .next) p qp in
-      let j = inBytes-law s (components s) e p ids w qi in
-      let (u₂, f₂, d, n₁, n₂) = components-law s (w .to) (w .from) ids (w .to) (omega (arith, j .fits)) (j .reads) in
-      let t = commonSeq-law (length ids) (h .num - 1) e (w .to) xs p₃ l (j .fits) qa in
-      let (er, eq) = both q₄ in
-      rw (← er, ← eq)
-      (record { up = omega (arith, t .up, j .up); fits = t .fits; few = t .few; light = omega (arith, t .light, j .up); good = t .good }, d, n₁, n₂)
+      let x = common-parts s e at r q q₀ in
+      let j = inBytes-law s (components s) e (x .list) (r .0) (x .place) (x .ids) in
+      let (u₂, f₂, d, n₁, n₂) = components-law s (x .place .to) (x .place .from) (r .0) (x .place .to) (omega (arith, j .fits)) (j .reads) in
+      let t = commonSeq-law (length (r .0)) (x .left) e (x .place .to) (r .1) q l (j .fits) (x .sequence) in (
+        record {
+          up = omega (arith, t .up, j .up, x .up);
+          fits = t .fits;
+          few = t .few;
+          light = omega (arith, t .light, j .up, x .up);
+          good = t .good;
+        },
+        d,
+        n₁,
+        n₂,
+      )
+
+  -- the sequence number is one that an item holds
+  front-law : (e at k n q : ℕ) → frontAt s e at ≡ got ((k, n), q) → n ≤ limits .largest
+  unfolding frontAt numberedAt
+  front-law e at k n q q₀ =
+      split _ (item MAP 3 8 s e at) _ ((k, n), q) q₀ λ h qh q₁.
+      split _ (versionAt s e (h .next)) _ ((k, n), q) q₁ λ p qp q₂.
+      split₂ _ (numberedAt s e p) _ ((k, n), q) q₂ λ number next qn q₃.
+      split _ (key s 2 e p) _ (number, next) qn λ p₁ qk q₄.
+      split₂ _ (Check.number s e p₁) _ (number, next) q₄ λ read p₂ qr q₅.
+      split _ (key s COMMON e p₂) _ (number, next) q₅ λ p₃ qc q₆.
+      let (_, _, big) = number-law s e p₁ read p₂ qr in
+      let (er, _) = both q₆ in
+      let (ek, _) = both q₃ in
+      let en : number ≡ n = ap (λ (z : ℕ × ℕ). z .1) ek in
+      omega (arith, big, er, en)
 
   manifest-law : (e at : ℕ) (m : Manifest) (q : ℕ) → length s ≤ limits .envelope → e ≤ length s → manifestAt s e at ≡ got (m, q) → Sound s m
-  unfolding manifestAt
   manifest-law e at m q big l q₀ =
-      split _ (item MAP 3 8 s e at) _ (m, q) q₀ λ h qh q₁.
-      split _ (key s 1 e (h .next)) _ (m, q) q₁ λ p qp q₂.
-      split₂ _ (number s e p) _ (m, q) q₂ λ version p₁ qv q₃.
-      let (_, q₄) = passed (eqb version 1) WrongVersion p _ (m, q) q₃ in
-      split _ (key s 2 e p₁) _ (m, q) q₄ λ p₂ qk q₅.
-      split₂ _ (number s e p₂) _ (m, q) q₅ λ n p₃ qn q₆.
-      split _ (key s 3 e p₃) _ (m, q) q₆ λ p₄ qk₃ q₇.
-      split₂ _ (inBytes s (commonAt s) e p₄) _ (m, q) q₇ λ c w qc q₈.
-      split₂ _ (sectionsAt s (length (c .0)) (h .num - 3) PAYLOAD_FETCH (countAll (c .1)) e (w .to)) _ (m, q) q₈ λ ys p₆ qs q₉.
-      let (_, _, big-n) = number-law s e p₂ n p₃ qn in
-      let j = inBytes-law s (commonAt s) e p₄ c w qc in
+      let x = manifest-parts s e at m q q₀ in
+      let c = x .common in
+      let w = x .place in
+      let j = common-in s e (x .start) c w (x .held) in
       let (t, d, n₁, n₂) = common-law (w .to) (w .from) c (w .to) (omega (arith, j .fits)) (j .reads) in
-      let t′ = sections-law (length (c .0)) (h .num - 3) PAYLOAD_FETCH (countAll (c .1)) e (w .to) ys p₆ l (j .fits) qs in
-      let (em, _) = both q₉ in
-      let x : 0 + countAll (c .1) ≤ limits .commands = t .few (omega arith) in
-      let y : countAll (c .1) + countAll ys ≤ limits .commands = t′ .few (omega arith) in
-      let (ca, wa) = count-append (c .1) ys in
+      let t′ = sections-law (length (c .0)) (x .entries - 3) PAYLOAD_FETCH (countAll (c .1)) e (w .to) (x .sections) q l (j .fits) (x .follow) in
+      let few : 0 + countAll (c .1) ≤ limits .commands = t .few (omega arith) in
+      let all : countAll (c .1) + countAll (x .sections) ≤ limits .commands = t′ .few (omega arith) in
+      let (ca, wa) = count-append (c .1) (x .sections) in
       let len : length (map (bytesAt s) (c .0)) ≡ length (c .0) = length-map (c .0) (bytesAt s) in
-      rw (← em)
+      rw (x .is)
       (record {
-        number = big-n;
+        number = front-law e at (x .entries) (x .number) (x .start) (x .front);
         ids = d .good;
         distinct = d .once;
         some-ids = (omega arith, omega arith);
-        sections = rw len (sections-append (length (c .0)) (c .1) ys (t .good) (t′ .good));
+        sections = rw len (sections-append (length (c .0)) (c .1) (x .sections) (t .good) (t′ .good));
         few = omega arith;
         light = omega (arith, t .light, t′ .light, t′ .fits);
       })
 
 pub sound : (s : Bytes) (m : Manifest) → check s ≡ got m → Sound s m
-unfolding check
-sound s m q₀ =
-    let (big, q₁) = passed (leb (length s) (limits .envelope)) EnvelopeTooLong 0 _ m q₀ in
-    let b : length s ≤ limits .envelope = leb-true _ _ big in
-    split _ (item MAP 2 2 s (length s) 0) _ m q₁ λ h qh q₂.
-    split _ (key s 1 (length s) (h .next)) _ m q₂ λ p qp q₃.
-    split _ (unread s (length s) p) _ m q₃ λ q qu q₄.
-    split _ (key s 3 (length s) q) _ m q₄ λ r qr q₅.
-    split₂ _ (inBytes s (manifestAt s) (length s) r) _ m q₅ λ m′ w qm q₆.
-    let (_, q₇) = passed (eqb (w .to) (length s)) NotCbor (w .to) _ m q₆ in
-    let j = inBytes-law s (manifestAt s) (length s) r m′ w qm in
-    let em : m′ ≡ m = cc in
-    subst (λ (x : Manifest). Sound s x) em (manifest-law s (omega arith) (w .to) (w .from) m′ (w .to) b (j .fits) (j .reads))
+sound s m q = let h = held s m q in manifest-law s (omega arith) (h .to) (h .from) m (h .to) (h .short) (h .fits) (h .reads)

@@ -2,9 +2,10 @@ use mathlib.Core.Path.{refl, ap, _∙_}
 use Prim.Native.Nat.{ℕ}
 use borrow.Author.Needs.{needs}
 use Rattle.rules.specs.Bytes.{Bytes}
+use Rattle.rules.specs.Check.{versionAt, numberedAt, frontAt}
 use Rattle.rules.specs.Cbor.{MAP, Head, item}
 use Rattle.check_manifest.specs.declared.Front.{Front}
-use Rattle.check_manifest.specs.Body.{versionAt, numberedAt, frontAt, frontOf}
+use Rattle.check_manifest.specs.Body.{frontOf}
 use Rattle.check_manifest.proofs.BodyLaws.{Told, told, onward, halted}
 use Rattle.check_manifest.proofs.read_front.Statement.{statement}
 use Rattle.check_manifest.proofs.read_front.Tie as tie
