@@ -2,22 +2,26 @@
 use Prim.Native.Nat.{ℕ, suc, _+_, _≤_}
 use mathlib.Core.Path.{_≡_, refl, sym, ap, _∙_}
 use mathlib.Core.List.{List, [], _∷_, _++_}
-use mathlib.Core.Bool.{Bool, true, false, cond}
+use mathlib.Core.Bool.{Bool, true, false, _&&_, cond, not}
 use lib.Dec.{eqb, leb}
 use borrow.Author.Tests.{eq-eqb, ne-eqb, leb-true}
 use native.Mathlib.Omega.{arith}
 use lib.ListN.{length, getD, length-append}
 use lib.Seq.{length-sets}
+use Rattle.rules.proofs.GotLaws.{and-true, holds}
 use Rattle.rules.specs.Limits.{limits}
 use Rattle.rules.specs.Bytes.{Bytes, same, put}
 use Rattle.rules.specs.Slots.{slotBytes, answerBytes}
 use Rattle.text.specs.Text.{ascii}
 use Rattle.text.proofs.TextLaws.{sets-append}
-use Rattle.device_text.specs.Words.{lines, trim, word, rest, isNumber, isBytes}
+use Rattle.device_text.specs.Words.{lines, trim, word, rest, isNumber, bytes, isBytes}
 use Rattle.device_text.specs.SlotText.{isSlot, slot, isAnswer, answer}
 use Rattle.device_text.proofs.LengthLaws.{slot-length, answer-length}
-use Rattle.device_description.specs.Scenario.{passed, says, withSlots, withAnswers, refusedAt, verdictLine, vendorLine, classLine, numberLine, eventLine, setting, Said, slotLine, answerLine, line, _then_, start, linesFrom, described, Describes, Took}
+use Rattle.device_description.specs.Scenario.{passed, says, withSlots, withAnswers, refusedAt, understood, verdictLine, vendorLine, classLine, numberLine, eventLine, setting, Said, slotLine, answerLine, line, _then_, start, linesFrom, described, Describes, Took}
 use Rattle.device_description.specs.declared.Scenario.{Scenario}
+use Rattle.device_description.specs.declared.Flag.{Flag}
+use Rattle.device_description.specs.declared.Name.{Name}
+use Rattle.device_description.specs.Values.{flagIf, nameOf}
 
 pub passed-none : (l : Bytes) → length l ≡ 0 → passed l ≡ true
 passed-none [] e = refl
@@ -30,24 +34,42 @@ pub passed-some : (l : Bytes) → (length l ≡ 0 → ⊥) → passed l ≡ eqb 
 passed-some [] h = absurd (h refl)
 passed-some (x ∷ l) h = refl
 
+-- what fits a room does so in numbers
+pub room-for : (good : Bool) (at width m : ℕ) (r : Bool) → r ≡ (good && leb (at + width) m) → not r ≡ false → at + width ≤ m
+room-for good at width m r e n = leb-true (at + width) m (and-true good (leb (at + width) m) (holds r (good && leb (at + width) m) e n) .1)
+
 -- a slot adds no answer, and an answer no slot
 pub slot-alone : (m n : ℕ) (d : Scenario) (t : Bytes) → slotLine m n d t .answers ≡ []
 unfolding slotLine
-slot-alone m n d t = go (isSlot t) (leb (d .slots + slotBytes) m)
+slot-alone m n d t = go (isSlot t && leb (d .slots + slotBytes) m)
   where
-    go : (x y : Bool) → cond x (cond y (record { scenario = withSlots (d .slots + slotBytes) d; slots = slot t; answers = [] }) (says (refusedAt n d))) (says (refusedAt n d)) .answers ≡ []
-    go true true = refl
-    go true false = refl
-    go false y = refl
+    go : (x : Bool) → cond x (record { scenario = withSlots (d .slots + slotBytes) d; slots = slot t; answers = [] }) (says (refusedAt n d)) .answers ≡ []
+    go true = refl
+    go false = refl
 
 pub answer-alone : (m n : ℕ) (d : Scenario) (t : Bytes) → answerLine m n d t .slots ≡ []
 unfolding answerLine
-answer-alone m n d t = go (isAnswer t) (leb (d .answers + answerBytes) m)
+answer-alone m n d t = go (isAnswer t && leb (d .answers + answerBytes) m)
   where
-    go : (x y : Bool) → cond x (cond y (record { scenario = withAnswers (d .answers + answerBytes) d; slots = []; answers = answer t }) (says (refusedAt n d))) (says (refusedAt n d)) .slots ≡ []
-    go true true = refl
-    go true false = refl
-    go false y = refl
+    go : (x : Bool) → cond x (record { scenario = withAnswers (d .answers + answerBytes) d; slots = []; answers = answer t }) (says (refusedAt n d)) .slots ≡ []
+    go true = refl
+    go false = refl
+
+-- a line that says a truth value, or a vendor or class, by what it hands on
+pub flag-line : (n : ℕ) (d : Scenario) (with : Bool → Scenario) (before : Bool) → refusedAt n (with before) ≡ refusedAt n d → (first second : Bool) (f : Flag) → f ≡ flagIf first second before →
+    understood n (f .known) (with (f .on)) ≡ cond first (with true) (cond second (with false) (refusedAt n d))
+flag-line n d with before same true second f e = rw e refl
+flag-line n d with before same false true f e = rw e refl
+flag-line n d with before same false false f e = rw e same
+
+pub name-line : (n : ℕ) (d : Scenario) (with : Bytes → Scenario) (before : Bytes) → refusedAt n (with before) ≡ refusedAt n d → (t : Bytes) (x : Name) → x ≡ nameOf t before →
+    understood n (x .known) (with (x .bytes)) ≡ cond (isBytes (limits .class) t) (with (bytes t)) (refusedAt n d)
+name-line n d with before same t x e = go (isBytes (limits .class) t) e
+  where
+    go : (b : Bool) → x ≡ cond b (record { known = true; bytes = bytes t }) (record { known = false; bytes = before }) →
+        understood n (x .known) (with (x .bytes)) ≡ cond b (with (bytes t)) (refusedAt n d)
+    go true u = rw u refl
+    go false u = rw u same
 
 -- what a line counts is what it adds
 counts : Scenario → ℕ × ℕ
@@ -118,27 +140,23 @@ module _ (m k : ℕ) where
   counted-slot : (n : ℕ) (d : Scenario) (t : Bytes) → Counted m k d (slotLine m n d t)
   unfolding slotLine counts
   counted-slot n d t =
-      one-of (isSlot t) _ _
+      one-of (isSlot t && leb (d .slots + slotBytes) m) _ _
       (λ p.
-      one-of (leb (d .slots + slotBytes) m) _ _
-      (λ q.
-      let l : length (slot t) ≡ slotBytes = slot-length t p in
-      let f : d .slots + slotBytes ≤ m = leb-true (d .slots + slotBytes) m q in
+      let (is, fits) = and-true (isSlot t) _ p in
+      let l : length (slot t) ≡ slotBytes = slot-length t is in
+      let f : d .slots + slotBytes ≤ m = leb-true (d .slots + slotBytes) m fits in
       record { slots = omega arith; answers = omega arith; slotsFit = λ h. f; answersFit = λ h. h })
-      (λ q. counted-same d (refusedAt n d) refl))
       (λ p. counted-same d (refusedAt n d) refl)
 
   counted-answer : (n : ℕ) (d : Scenario) (t : Bytes) → Counted m k d (answerLine k n d t)
   unfolding answerLine counts
   counted-answer n d t =
-      one-of (isAnswer t) _ _
+      one-of (isAnswer t && leb (d .answers + answerBytes) k) _ _
       (λ p.
-      one-of (leb (d .answers + answerBytes) k) _ _
-      (λ q.
-      let l : length (answer t) ≡ answerBytes = answer-length t p in
-      let f : d .answers + answerBytes ≤ k = leb-true (d .answers + answerBytes) k q in
+      let (is, fits) = and-true (isAnswer t) _ p in
+      let l : length (answer t) ≡ answerBytes = answer-length t is in
+      let f : d .answers + answerBytes ≤ k = leb-true (d .answers + answerBytes) k fits in
       record { slots = omega arith; answers = omega arith; slotsFit = λ h. h; answersFit = λ h. f })
-      (λ q. counted-same d (refusedAt n d) refl))
       (λ p. counted-same d (refusedAt n d) refl)
 
   counted : (n : ℕ) (d : Scenario) (l : Bytes) → Counted m k d (line m k n d l)

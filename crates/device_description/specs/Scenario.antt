@@ -1,7 +1,7 @@
 -- Device descriptions: the input of a run (01, How a run goes) as a text. docs/DEPOT.md has the format.
 use Prim.Native.Nat.{ℕ, suc, _+_}
 use mathlib.Core.Path.{_≡_}
-use mathlib.Core.Bool.{Bool, true, false, cond}
+use mathlib.Core.Bool.{Bool, true, false, _&&_, cond}
 use mathlib.Core.List.{List, [], _∷_, _++_}
 use lib.Dec.{eqb, leb}
 use Rattle.rules.specs.Bytes.{Bytes, same, put}
@@ -131,6 +131,10 @@ refusedAt n d =
       refused = n;
     }
 
+-- line n, whether it was understood or not
+abbrev pub understood : ℕ → Bool → Scenario → Scenario
+understood n known d = cond known d (refusedAt n d)
+
 -- line n, of one of the five that set a value: the word in front, and what stands behind it
 unfoldable pub verdictLine : ℕ → Scenario → Bytes → Scenario
 verdictLine n d t =
@@ -170,18 +174,14 @@ says d = record { scenario = d; slots = []; answers = [] }
 -- a slot, in a room of m bytes; an answer, in a room of m bytes
 unfoldable pub slotLine : ℕ → ℕ → Scenario → Bytes → Said
 slotLine m n d t =
-    cond (isSlot t)
-    (cond (leb (d .slots + slotBytes) m)
+    cond (isSlot t && leb (d .slots + slotBytes) m)
     (record { scenario = withSlots (d .slots + slotBytes) d; slots = slot t; answers = [] })
-    (says (refusedAt n d)))
     (says (refusedAt n d))
 
 unfoldable pub answerLine : ℕ → ℕ → Scenario → Bytes → Said
 answerLine m n d t =
-    cond (isAnswer t)
-    (cond (leb (d .answers + answerBytes) m)
+    cond (isAnswer t && leb (d .answers + answerBytes) m)
     (record { scenario = withAnswers (d .answers + answerBytes) d; slots = []; answers = answer t })
-    (says (refusedAt n d)))
     (says (refusedAt n d))
 
 -- an empty line, or a comment: a line that starts with '#'

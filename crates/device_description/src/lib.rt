@@ -1,10 +1,12 @@
 // Device descriptions: the input of a run, read from a text (docs/DEPOT.md).
 ghost use mathlib.Core.Path.{_≡_};
+ghost use mathlib.Core.Bool.{_&&_};
 ghost use Prim.Native.Nat.{_+_};
 ghost use lib.Dec.{leb};
 ghost use lib.ListN.{length};
-ghost use Rattle.rules.specs.Bytes.{put};
+ghost use Rattle.rules.specs.Bytes.{same, put};
 ghost use Rattle.device_description.specs.Scenario as Rule;
+ghost use Rattle.device_description.specs.Values.{flagIf, nameOf};
 use device_text::is;
 use device_text::line::line_at;
 use device_text::line::next_line;
@@ -63,41 +65,96 @@ fn refuse(mut d: Scenario, n: usize) -> Scenario
     d
 }
 
+// Line n, whether it was understood or not.
+fn understood(d: Scenario, n: usize, known: bool) -> Scenario
+    ensures { λ r. ⌜ r ≡ Rule.understood n known d ⌝ }
+{
+    if known {
+        return d;
+    }
+    refuse(d, n)
+}
+
+// What a line says of a truth value, and of a vendor or class. Where it is not understood, they are as before.
+struct Flag {
+    known: bool,
+    on: bool,
+}
+
+struct Name {
+    known: bool,
+    bytes: Sixteen,
+}
+
+fn read_flag(t: &[u8], yes: &[u8], no: &[u8], before: bool) -> Flag
+    ensures { λ r. ⌜ r ≡ flagIf (same (now (t .entry)) (now (yes .entry))) (same (now (t .entry)) (now (no .entry))) before ⌝ }
+{
+    if is(t, yes) {
+        return Flag {
+            known: true,
+            on: true,
+        };
+    }
+    if is(t, no) {
+        return Flag {
+            known: true,
+            on: false,
+        };
+    }
+    Flag {
+        known: false,
+        on: before,
+    }
+}
+
+fn read_name(t: &[u8], before: Sixteen) -> Name
+    ensures { λ r. ⌜ r ≡ nameOf (now (t .entry)) before ⌝ }
+{
+    if is_bytes(Controller::CLASS_BYTES, t) {
+        let bytes = sixteen(t);
+        return Name { known: true, bytes };
+    }
+    Name {
+        known: false,
+        bytes: before,
+    }
+}
+
 // The lines that set a value: n is the number of the line, t what stands behind the word in front.
 fn verdict_line(mut d: Scenario, n: usize, t: &[u8]) -> Scenario
     ensures { λ r. ⌜ r ≡ Rule.verdictLine n d (now (t .entry)) ⌝ }
 {
-    if is(t, b"good") {
-        d.verdict = true;
-        return d;
-    }
-    if is(t, b"bad") {
-        d.verdict = false;
-        return d;
-    }
-    refuse(d, n)
+    let f = read_flag(t, b"good", b"bad", d.verdict);
+    d.verdict = f.on;
+    understood(d, n, f.known)
+}
+
+fn event_line(mut d: Scenario, n: usize, t: &[u8]) -> Scenario
+    ensures { λ r. ⌜ r ≡ Rule.eventLine n d (now (t .entry)) ⌝ }
+{
+    let f = read_flag(t, b"open", b"closed", d.event);
+    d.event = f.on;
+    understood(d, n, f.known)
 }
 
 fn vendor_line(mut d: Scenario, n: usize, t: &[u8]) -> Scenario
     ensures { λ r. ⌜ r ≡ Rule.vendorLine n d (now (t .entry)) ⌝ }
 {
-    if is_bytes(Controller::CLASS_BYTES, t) {
-        let vendor = sixteen(t);
-        d.vendor = vendor;
-        return d;
-    }
-    refuse(d, n)
+    let before = d.vendor;
+    let name = read_name(t, before);
+    let vendor = name.bytes;
+    d.vendor = vendor;
+    understood(d, n, name.known)
 }
 
 fn class_line(mut d: Scenario, n: usize, t: &[u8]) -> Scenario
     ensures { λ r. ⌜ r ≡ Rule.classLine n d (now (t .entry)) ⌝ }
 {
-    if is_bytes(Controller::CLASS_BYTES, t) {
-        let class = sixteen(t);
-        d.class = class;
-        return d;
-    }
-    refuse(d, n)
+    let before = d.class;
+    let name = read_name(t, before);
+    let class = name.bytes;
+    d.class = class;
+    understood(d, n, name.known)
 }
 
 fn number_line(mut d: Scenario, n: usize, t: &[u8]) -> Scenario
@@ -106,20 +163,6 @@ fn number_line(mut d: Scenario, n: usize, t: &[u8]) -> Scenario
     let number = decimal(t);
     if number < NO_NUMBER {
         d.number = number as u32;
-        return d;
-    }
-    refuse(d, n)
-}
-
-fn event_line(mut d: Scenario, n: usize, t: &[u8]) -> Scenario
-    ensures { λ r. ⌜ r ≡ Rule.eventLine n d (now (t .entry)) ⌝ }
-{
-    if is(t, b"open") {
-        d.event = true;
-        return d;
-    }
-    if is(t, b"closed") {
-        d.event = false;
         return d;
     }
     refuse(d, n)
@@ -146,10 +189,13 @@ fn setting(d: Scenario, n: usize, w: &[u8], t: &[u8]) -> Scenario
     refuse(d, n)
 }
 
-// Whether `width` bytes from `at` on fit a room of that length.
-fn fits(at: usize, width: usize, length: usize) -> bool
-    ensures { λ r. ⌜ r ≡ leb (at + width) length ⌝ }
+// Whether something is what it should be, and its `width` bytes from `at` on fit a room of that length.
+fn fits(good: bool, at: usize, width: usize, length: usize) -> bool
+    ensures { λ r. ⌜ r ≡ (good && leb (at + width) length) ⌝ }
 {
+    if !good {
+        return false;
+    }
     if length < width {
         return false;
     }
@@ -162,11 +208,8 @@ fn fits(at: usize, width: usize, length: usize) -> bool
 fn slot_line(mut d: Scenario, n: usize, t: &[u8], slots: &mut [u8]) -> Scenario
     ensures { λ r. ⌜ (r ≡ Rule.slotLine (length (now (slots .entry))) n d (now (t .entry)) .scenario) × (now (slots .exit) ≡ put (now (slots .entry)) (d .slots) (Rule.slotLine (length (now (slots .entry))) n d (now (t .entry)) .slots)) ⌝ }
 {
-    if !is_slot(t) {
-        return refuse(d, n);
-    }
     let at = d.slots;
-    if !fits(at, SLOT_BYTES, slots.len()) {
+    if !fits(is_slot(t), at, SLOT_BYTES, slots.len()) {
         return refuse(d, n);
     }
     put_slot(slots, at, t);
@@ -177,11 +220,8 @@ fn slot_line(mut d: Scenario, n: usize, t: &[u8], slots: &mut [u8]) -> Scenario
 fn answer_line(mut d: Scenario, n: usize, t: &[u8], answers: &mut [u8]) -> Scenario
     ensures { λ r. ⌜ (r ≡ Rule.answerLine (length (now (answers .entry))) n d (now (t .entry)) .scenario) × (now (answers .exit) ≡ put (now (answers .entry)) (d .answers) (Rule.answerLine (length (now (answers .entry))) n d (now (t .entry)) .answers)) ⌝ }
 {
-    if !is_answer(t) {
-        return refuse(d, n);
-    }
     let at = d.answers;
-    if !fits(at, IMAGE_BYTES, answers.len()) {
+    if !fits(is_answer(t), at, IMAGE_BYTES, answers.len()) {
         return refuse(d, n);
     }
     put_answer(answers, at, t);
