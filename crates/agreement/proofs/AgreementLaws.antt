@@ -26,11 +26,8 @@ use Rattle.run_admission.specs.Answer.{inputOf, outcomeOf, Settles}
 use Rattle.translate.specs.declared.Translated.{Translated}
 use Rattle.translate.specs.declared.Translated.the-variants.{Refused, Program}
 use Rattle.translate.specs.Translate.{Translates}
+use Rattle.translate.proofs.TranslatedLaws.{apart}
 use Rattle.agreement.specs.Agreement.{programFor, Agreed}
-
--- the two answers of a translation differ
-apart : {A : Type 0} (k : Refusal) (p n : ℕ) → _≡_ {A = Translated} (Refused k p) (Program n) → A
-apart k p n e = let z : _≡_ {A = ℕ} 0 1 = cc in absurd (omega arith)
 
 -- the bytes at the start of the room are the rule's program
 pub record Written (g : Got Bytes) (n : ℕ) (room room′ : Bytes) : Type 0 where

@@ -1,7 +1,6 @@
 -- The answers of the jobs, in numbers.
 use Prim.Native.Nat.{ℕ}
 use mathlib.Core.Path.{_≡_, refl, sym, ap, _∙_}
-use native.Mathlib.Omega.{arith}
 use lib.ListN.{length}
 use Rattle.rules.specs.declared.answers.Refusal.{Refusal}
 use Rattle.rules.specs.declared.controller.Controller.{Controller}
@@ -23,6 +22,7 @@ use Rattle.run_admission.specs.Answer.{outcomeOf}
 use Rattle.translate.specs.declared.Translated.{Translated}
 use Rattle.translate.specs.declared.Translated.the-variants as T
 use Rattle.translate.specs.Translate.{Translates}
+use Rattle.translate.proofs.TranslatedLaws.{apart}
 use Rattle.pitvorgas.specs.declared.CheckAnswer.{CheckAnswer}
 use Rattle.pitvorgas.specs.declared.NewerAnswer.{NewerAnswer}
 use Rattle.pitvorgas.specs.declared.RunAnswer.{RunAnswer}
@@ -60,10 +60,6 @@ newer-answer (inSecond p) r e = rw e refl
 pub ran-answer : (d : Controller) (g : Got Ran) (o : Outcome) (r : RunAnswer) → o ≡ outcomeOf d g → r ≡ answerOf o → r ≡ ranOf d g
 ran-answer d (refused k p) o r e h = h ∙ ap answerOf e
 ran-answer d (got x) o r e h = h ∙ ap answerOf e
-
--- the two answers of a translation differ
-apart : {A : Type 0} (k : Refusal) (p n : ℕ) → _≡_ {A = Translated} (T.Refused k p) (T.Program n) → A
-apart k p n e = let z : _≡_ {A = ℕ} 0 1 = cc in absurd (omega arith)
 
 module _ (g : Got Bytes) (t : Translated) (room room′ : Bytes) (h : Translates g t room room′) where
   pub refused-translation : (k : Refusal) (p n : ℕ) → t ≡ T.Refused k p → n ≡ refusalNumber k →
