@@ -5,15 +5,14 @@
 --          3 translate:      group, 0 for install; the room's length (2); the envelope
 --          4 run:            head (42); string slots; string answers; the envelope
 --          5 run a program:  the same, and the program
--- A string is its length in 2 bytes and that many bytes. A head:
---          0 group   1 verdict   2 vendor (16)   18 class (16)   34 number (4)   38 event open   39 trace's length (2)   41 its bytes' value
+-- A string is its length in 2 bytes and that many bytes. Fields has the layout of a head.
 use Prim.Native.Nat.{ℕ, _-_}
 use mathlib.Core.List.{_++_}
 use mathlib.Core.Bool.{Bool, true, false, cond}
 use lib.Dec.{eqb, ltb}
 use lib.ListN.{length, getD, take, drop, replicate}
 use Rattle.text.specs.Text.{ascii}
-use Rattle.rules.specs.Bytes.{Bytes}
+use Rattle.rules.specs.Bytes.{Bytes, twoAt}
 use Rattle.rules.specs.Got.{Got}
 use Rattle.rules.specs.Check as Check
 use Rattle.rules.specs.Newer as Newer
@@ -22,7 +21,7 @@ use Rattle.rules.specs.Program as Program
 use Rattle.rules.specs.ProgramRun.{runProgram}
 use Rattle.run_admission.specs.Answer.{inputOf, slotsAfter, traceAfter}
 use Rattle.pitvorgas.specs.Answers.{controllerOf, groupOf, checkedOf, newerOf, translatedOf, roomAfter, ranOf}
-use Rattle.conformance_cases.specs.Fields.{runHead, twoAt, isSet, stringEnd, deviceOf}
+use Rattle.conformance_cases.specs.Fields.{groupFrom, verdictFrom, traceFrom, fillFrom, runHead, isSet, stringEnd, deviceOf}
 use Rattle.conformance_lines.specs.Lines.{newline, checkedText, newerText}
 use Rattle.conformance_cases.specs.Lent.{roomFill, translationLine, ranLine}
 
@@ -42,17 +41,17 @@ translateLine s boot n =
 
 -- the run of a program, or of an envelope
 unfoldable pub ranBy : Bool → Bytes → Bytes → Bytes → Bytes → Bytes → Got Ran
-ranBy true head s slots answers trace = runProgram s (inputOf (isSet head 1) (controllerOf (deviceOf head)) slots answers trace)
+ranBy true head s slots answers trace = runProgram s (inputOf (isSet head verdictFrom) (controllerOf (deviceOf head)) slots answers trace)
 ranBy false head s slots answers trace =
-    runEnvelope s (groupOf (isSet head 0)) (inputOf (isSet head 1) (controllerOf (deviceOf head)) slots answers trace)
+    runEnvelope s (groupOf (isSet head groupFrom)) (inputOf (isSet head verdictFrom) (controllerOf (deviceOf head)) slots answers trace)
 
 abbrev pub ranWith : Bytes → Bytes → Bytes → Got Ran → Bytes
 ranWith head slots trace g =
-    ranLine (ranOf (controllerOf (deviceOf head)) g) slots (slotsAfter slots g) (getD head 41 0) (traceAfter trace g)
+    ranLine (ranOf (controllerOf (deviceOf head)) g) slots (slotsAfter slots g) (getD head fillFrom 0) (traceAfter trace g)
 
 unfoldable pub runLine : Bool → Bytes → Bytes → Bytes → Bytes → Bytes
 runLine program head slots answers s =
-    ranWith head slots (replicate (twoAt head 39) (getD head 41 0)) (ranBy program head s slots answers (replicate (twoAt head 39) (getD head 41 0)))
+    ranWith head slots (replicate (twoAt head traceFrom) (getD head fillFrom 0)) (ranBy program head s slots answers (replicate (twoAt head traceFrom) (getD head fillFrom 0)))
 
 unfoldable pub newerCase : Bytes → Bytes
 newerCase b =

@@ -4,16 +4,9 @@ use mathlib.Core.Path.{_≡_}
 use mathlib.Core.Bool.{Bool, cond, not}
 use lib.Dec.{eqb, ltb}
 use lib.ListN.{length, getD}
-use Rattle.rules.specs.Bytes.{Bytes, part}
+use Rattle.rules.specs.Bytes.{Bytes, part, twoAt, fourAt}
 use Rattle.rules.specs.Limits.{limits}
 use Rattle.pitvorgas.specs.declared.Device.{Device}
-
--- big-endian numbers
-abbrev pub twoAt : Bytes → ℕ → ℕ
-twoAt b at = getD b at 0 * 256 + getD b (at + 1) 0
-
-abbrev pub fourAt : Bytes → ℕ → ℕ
-fourAt b at = (twoAt b at * 256 + getD b (at + 2) 0) * 256 + getD b (at + 3) 0
 
 -- a byte as a truth value
 abbrev pub isSet : Bytes → ℕ → Bool
@@ -30,10 +23,40 @@ pub record StringAt (b : Bytes) (r : ℕ) : Type 0 where
   pub whole : (r ≡ 0 → ⊥) → 2 ≤ r
   pub short : r < 65538
 
--- the bytes of the head of a run (Cases has its layout), and the device in it
+-- the head of a run: group 1, verdict 1, vendor 16, class 16, sequence number 4, event open 1, the trace's length 2, its bytes' value 1
+abbrev pub groupFrom : ℕ
+groupFrom = 0
+
+abbrev pub verdictFrom : ℕ
+verdictFrom = 1
+
+abbrev pub vendorFrom : ℕ
+vendorFrom = 2
+
+abbrev pub classFrom : ℕ
+classFrom = 18
+
+abbrev pub numberFrom : ℕ
+numberFrom = 34
+
+abbrev pub openFrom : ℕ
+openFrom = 38
+
+abbrev pub traceFrom : ℕ
+traceFrom = 39
+
+abbrev pub fillFrom : ℕ
+fillFrom = 41
+
 abbrev pub runHead : ℕ
 runHead = 42
 
+-- the device in it
 unfoldable pub deviceOf : Bytes → Device
 deviceOf head =
-    record { vendor = part head 2 (limits .class); «class_id» = part head 18 (limits .class); number = fourAt head 34; event = isSet head 38 }
+    record {
+      vendor = part head vendorFrom (limits .class);
+      «class_id» = part head classFrom (limits .class);
+      number = fourAt head numberFrom;
+      event = isSet head openFrom;
+    }

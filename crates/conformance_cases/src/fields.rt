@@ -11,6 +11,25 @@ use pitvorgas::Device;
 use rules::controller::Controller;
 use rules::controller::Sixteen;
 
+// The head of a run: group 1, verdict 1, vendor 16, class 16, sequence number 4, event open 1, the trace's length 2, its bytes' value 1.
+pub(crate) const GROUP: usize = 0;
+
+pub(crate) const VERDICT: usize = 1;
+
+const VENDOR: usize = 2;
+
+const CLASS: usize = 18;
+
+const NUMBER: usize = 34;
+
+const OPEN: usize = 38;
+
+pub(crate) const TRACE: usize = 39;
+
+pub(crate) const FILL: usize = 41;
+
+pub(crate) const RUN_HEAD: usize = 42;
+
 // The end of the string at the start of b, or 0.
 pub(crate) fn string_end(b: &[u8]) -> usize
     ensures { λ r. ⌜ StringAt (now (b .entry)) r ⌝ }
@@ -38,17 +57,17 @@ fn sixteen(b: &[u8], at: usize) -> Sixteen
     id
 }
 
-// The device in the head of a run (specs/Cases.antt has the layout).
+// The device in the head of a run.
 pub(crate) fn device_of(head: &[u8]) -> Device
     requires { ⌜ length (now head) ≡ runHead ⌝ }
     ensures { λ r. ⌜ r ≡ deviceOf (now (head .entry)) ⌝ }
 {
-    let vendor = sixteen(head, 2);
-    let class = sixteen(head, 18);
+    let vendor = sixteen(head, VENDOR);
+    let class = sixteen(head, CLASS);
     Device {
         vendor,
         class_id: class,
-        number: four(head, 34) as u32,
-        event: head[38] != 0,
+        number: four(head, NUMBER) as u32,
+        event: head[OPEN] != 0,
     }
 }

@@ -5,9 +5,12 @@ ghost use lib.ListN.{length, getD, replicate};
 ghost use Rattle.text.specs.Text.{Wrote};
 ghost use Rattle.run_admission.specs.Answer.{slotsAfter, traceAfter};
 ghost use Rattle.pitvorgas.specs.Answers.{controllerOf, ranOf};
-ghost use Rattle.conformance_cases.specs.Fields.{runHead};
-ghost use Rattle.conformance_cases.specs.Fields.{deviceOf};
+ghost use Rattle.conformance_cases.specs.Fields.{fillFrom, runHead, deviceOf};
 ghost use Rattle.conformance_cases.specs.Cases.{checkLine, newerLine, translateLine, ranBy, ranWith, runLine};
+use crate::fields::FILL;
+use crate::fields::GROUP;
+use crate::fields::TRACE;
+use crate::fields::VERDICT;
 use crate::fields::device_of;
 use crate::lent::ROOM_FILL;
 use crate::lent::fill;
@@ -67,11 +70,11 @@ fn run_by(
     ensures { λ r. ⌜ (r ≡ ranOf (controllerOf (deviceOf (now (head .entry)))) (ranBy program (now (head .entry)) (now (s .entry)) (now (slots .entry)) (now (answers .entry)) (now (trace .entry)))) × (now (slots .exit) ≡ slotsAfter (now (slots .entry)) (ranBy program (now (head .entry)) (now (s .entry)) (now (slots .entry)) (now (answers .entry)) (now (trace .entry)))) × (now (trace .exit) ≡ traceAfter (now (trace .entry)) (ranBy program (now (head .entry)) (now (s .entry)) (now (slots .entry)) (now (answers .entry)) (now (trace .entry)))) ⌝ }
 {
     let device = device_of(head);
-    let verdict = head[1] != 0;
+    let verdict = head[VERDICT] != 0;
     if program {
         return pitvorgas_run_program(s, verdict, device, slots, answers, trace);
     }
-    let boot = head[0] != 0;
+    let boot = head[GROUP] != 0;
     pitvorgas_run(s, boot, verdict, device, slots, answers, trace)
 }
 
@@ -87,10 +90,10 @@ fn run_with(
     room: &mut [u8],
 ) -> usize
     requires { ⌜ (length (now head) ≡ runHead) × (length (now slots) ≡ length (now before)) ⌝ }
-    ensures { λ r. ⌜ Wrote (ranWith (now (head .entry)) (now (before .entry)) (replicate (length (now (trace .entry))) (getD (now (head .entry)) 41 0)) (ranBy program (now (head .entry)) (now (s .entry)) (now (before .entry)) (now (answers .entry)) (replicate (length (now (trace .entry))) (getD (now (head .entry)) 41 0)))) 0 (now (room .entry)) r (now (room .exit)) ⌝ }
+    ensures { λ r. ⌜ Wrote (ranWith (now (head .entry)) (now (before .entry)) (replicate (length (now (trace .entry))) (getD (now (head .entry)) fillFrom 0)) (ranBy program (now (head .entry)) (now (s .entry)) (now (before .entry)) (now (answers .entry)) (replicate (length (now (trace .entry))) (getD (now (head .entry)) fillFrom 0)))) 0 (now (room .entry)) r (now (room .exit)) ⌝ }
 {
     put(slots, 0, before);
-    let x = head[41];
+    let x = head[FILL];
     fill(trace, x);
     let answer = run_by(program, head, s, slots, answers, trace);
     put_run(room, answer, before, slots, x, trace)
@@ -110,7 +113,7 @@ pub(crate) fn run_line(
     let mut slots = memory();
     let mut trace = memory();
     let n = before.len();
-    let length = two(head, 39);
+    let length = two(head, TRACE);
     run_with(
         program,
         head,

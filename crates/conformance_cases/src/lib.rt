@@ -11,6 +11,7 @@ mod jobs;
 mod lent;
 
 use byte_buffer::two;
+use fields::RUN_HEAD;
 use fields::string_end;
 use jobs::check_line;
 use jobs::newer_line;
@@ -29,8 +30,6 @@ const RUN: u8 = 4;
 const RUN_PROGRAM: u8 = 5;
 
 const TRANSLATE_HEAD: usize = 3;
-
-const RUN_HEAD: usize = 42;
 
 fn put_malformed(room: &mut [u8]) -> usize
     ensures { λ r. ⌜ Wrote malformedText 0 (now (room .entry)) r (now (room .exit)) ⌝ }

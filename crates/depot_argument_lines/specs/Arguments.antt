@@ -10,14 +10,15 @@ use Rattle.rules.specs.declared.tables.Known.{Known}
 use Rattle.rules.specs.declared.tables.Known.the-variants as K
 use Rattle.rules.specs.declared.tables.Parameter.{Parameter}
 use Rattle.rules.specs.declared.tables.Parameter.the-variants as P
+use Rattle.rules.specs.Bytes.{fourAt}
 use Rattle.rules.specs.Commands.{params, paramOf}
 use Rattle.rules.specs.Limits.{limits}
-use Rattle.rules.specs.ProgramFormat.{entrySize, sizeBytes, sourceBytes}
+use Rattle.rules.specs.ProgramFormat.{entryLengthFrom, entrySize, sizeBytes, sourceBytes}
 use Rattle.rules.specs.Tables.{known}
 use Rattle.rules_tables.specs.Kinds.{kindOf}
 use Rattle.text.specs.Text.{Bytes, ascii, decimal, hex, quoted}
 use Rattle.text_names.specs.Words.{parameterWords}
-use Rattle.depot_argument_lines.specs.Items.{fourAt, sizeIn, itemsText}
+use Rattle.depot_argument_lines.specs.Items.{sizeIn, itemsText}
 
 -- the spaces before what stands below a record
 abbrev pub indent : Bytes
@@ -42,16 +43,12 @@ valueIn K.Unknown v = numberText v
 unfoldable pub valueText : ℕ → Bytes → Bytes
 valueText key v = valueIn (known (paramOf key params)) v
 
--- 'key 1, length 1, value'
-abbrev pub lengthFrom : ℕ
-lengthFrom = entrySize - 1
-
 unfoldable pub parameterSize : Bytes → ℕ
-parameterSize s = sizeIn s entrySize (getD s lengthFrom 0)
+parameterSize s = sizeIn s entrySize (getD s entryLengthFrom 0)
 
 unfoldable pub parameterText : Bytes → Bytes
 parameterText s =
-    indent ++ parameterWords (getD s 0 0) ++ ascii " " ++ valueText (getD s 0 0) (take (getD s lengthFrom 0) (drop entrySize s)) ++ ascii "\n"
+    indent ++ parameterWords (getD s 0 0) ++ ascii " " ++ valueText (getD s 0 0) (take (getD s entryLengthFrom 0) (drop entrySize s)) ++ ascii "\n"
 
 -- bytes that are no parameter
 unfoldable pub strayText : Bytes → Bytes

@@ -1,17 +1,10 @@
--- Items one after the other at the start of bytes, and the numbers in them.
-use Prim.Native.Nat.{ℕ, zero, suc, _+_, _*_}
+-- Items one after the other at the start of bytes.
+use Prim.Native.Nat.{ℕ, zero, suc, _+_}
 use mathlib.Core.Bool.{cond}
 use mathlib.Core.List.{[], _++_}
 use lib.Dec.{eqb, ltb}
-use lib.ListN.{length, getD, drop}
+use lib.ListN.{length, drop}
 use Rattle.text.specs.Text.{Bytes}
-
--- big-endian numbers of two and four bytes
-abbrev pub twoAt : Bytes → ℕ → ℕ
-twoAt s at = getD s at 0 * 256 + getD s (at + 1) 0
-
-abbrev pub fourAt : Bytes → ℕ → ℕ
-fourAt s at = ((getD s at 0 * 256 + getD s (at + 1) 0) * 256 + getD s (at + 2) 0) * 256 + getD s (at + 3) 0
 
 -- the size of an item of `head` bytes and `more` after them, 0 if s is shorter
 unfoldable pub sizeIn : Bytes → ℕ → ℕ → ℕ

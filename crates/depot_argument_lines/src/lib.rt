@@ -2,14 +2,15 @@
 ghost use mathlib.Core.Path.{_≡_};
 ghost use Prim.Native.Nat.{_+_, _≤_};
 ghost use lib.ListN.{length, getD};
-ghost use Rattle.rules.specs.ProgramFormat.{entrySize};
+ghost use Rattle.rules.specs.ProgramFormat.{entryLengthFrom, entrySize};
 ghost use Rattle.rules_tables.specs.Kinds.{kindOf};
 ghost use Rattle.text.specs.Text.{Wrote};
-ghost use Rattle.depot_argument_lines.specs.Arguments.{lengthFrom, listsParameters, numberText, knownText, valueText, parameterSize, parameterText, strayText, parametersText, hexText, argumentText};
+ghost use Rattle.depot_argument_lines.specs.Arguments.{listsParameters, numberText, knownText, valueText, parameterSize, parameterText, strayText, parametersText, hexText, argumentText};
 use byte_buffer::four;
 use byte_buffer::wide;
 use rules::controller::Controller;
 use rules::program_format::ENTRY_BYTES;
+use rules::program_format::ENTRY_LENGTH;
 use rules::program_format::SIZE_BYTES;
 use rules::program_format::SOURCE_BYTES;
 use rules::tables::Argument;
@@ -26,9 +27,6 @@ use text::put_spaces;
 
 // The keys that a program has: all but coerce.
 const KEYS: usize = Controller::PARAMETERS - 1;
-
-// The byte of a parameter that has the length of its value.
-const LENGTH: usize = ENTRY_BYTES - 1;
 
 // The spaces before what stands below a record.
 const INDENT: usize = 12;
@@ -75,7 +73,7 @@ fn size_of(s: &[u8]) -> usize
     if s.len() < ENTRY_BYTES {
         return 0;
     }
-    let size = ENTRY_BYTES + wide(s[LENGTH]);
+    let size = ENTRY_BYTES + wide(s[ENTRY_LENGTH]);
     if s.len() < size {
         return 0;
     }
@@ -83,11 +81,11 @@ fn size_of(s: &[u8]) -> usize
 }
 
 fn put_parameter(room: &mut [u8], at: usize, s: &[u8]) -> usize
-    requires { ⌜ entrySize + getD (now s) lengthFrom 0 ≤ length (now s) ⌝ }
+    requires { ⌜ entrySize + getD (now s) entryLengthFrom 0 ≤ length (now s) ⌝ }
     ensures { λ r. ⌜ Wrote (parameterText (now (s .entry))) at (now (room .entry)) r (now (room .exit)) ⌝ }
 {
     let key = wide(s[0]);
-    let end = ENTRY_BYTES + wide(s[LENGTH]);
+    let end = ENTRY_BYTES + wide(s[ENTRY_LENGTH]);
     let a = put_spaces(room, at, INDENT);
     let b = text_names::put_parameter(room, a, key);
     let c = put(room, b, b" ");

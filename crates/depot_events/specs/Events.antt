@@ -2,7 +2,8 @@
 use Prim.Native.Nat.{ℕ, _+_, _*_, _/_}
 use mathlib.Core.List.{_++_}
 use lib.ListN.{length, getD}
-use Rattle.rules.specs.Step.{eventBytes, eventPlace}
+use Rattle.rules.specs.Bytes.{twoAt}
+use Rattle.rules.specs.Step.{eventBytes, eventCode, eventComponent, eventPlace, eventResult}
 use Rattle.text.specs.Text.{Bytes, ascii, padded, least}
 use Rattle.text_names.specs.Words.{wide, commandWords, resultWords}
 use Rattle.text.specs.Pieces.{lines}
@@ -11,21 +12,11 @@ use Rattle.text.specs.Pieces.{lines}
 unfoldable pub fieldsText : ℕ → ℕ → ℕ → Bytes
 fieldsText component place result = padded 11 component ++ padded 7 place ++ padded 8 result ++ ascii "  " ++ resultWords result ++ ascii "\n"
 
--- where an event has its code, its component and its result: '`53 54`, code, component, place of the code in 2 bytes, result, 0'
-abbrev pub eventCode : ℕ
-eventCode = 2
-
-abbrev pub eventComponent : ℕ
-eventComponent = eventCode + 1
-
-abbrev pub eventResult : ℕ
-eventResult = eventPlace + 2
-
 -- the event of number k
 unfoldable pub eventText : Bytes → ℕ → Bytes
 eventText t k =
     padded 5 k ++ ascii "  " ++ wide 22 (commandWords (getD t (eventBytes * k + eventCode) 0))
-    ++ fieldsText (getD t (eventBytes * k + eventComponent) 0) (getD t (eventBytes * k + eventPlace) 0 * 256 + getD t (eventBytes * k + eventPlace + 1) 0) (getD t (eventBytes * k + eventResult) 0)
+    ++ fieldsText (getD t (eventBytes * k + eventComponent) 0) (twoAt t (eventBytes * k + eventPlace)) (getD t (eventBytes * k + eventResult) 0)
 
 -- as many events as are written, and lie in the trace
 unfoldable pub eventsText : Bytes → ℕ → Bytes

@@ -5,11 +5,12 @@ use mathlib.Core.List.{[], _++_}
 use lib.Dec.{eqb, ltb}
 use lib.ListN.{length, getD, take, drop}
 use Rattle.rules.specs.declared.answers.Group.the-variants.{Boot}
+use Rattle.rules.specs.Bytes.{twoAt, fourAt}
 use Rattle.rules.specs.Answers.{groupNumber}
 use Rattle.rules.specs.ProgramFormat.{groupFrom, numberFrom, componentsFrom, recordsFrom, startSize, lengthFrom, nameSize}
 use Rattle.text.specs.Text.{Bytes, ascii, hex}
 use Rattle.text.specs.Pieces.{labelled, counted}
-use Rattle.depot_argument_lines.specs.Items.{twoAt, fourAt, sizeIn, itemsText}
+use Rattle.depot_argument_lines.specs.Items.{sizeIn, itemsText}
 use Rattle.depot_record_lines.specs.Lines.{missingText, recordsText}
 
 -- what follows k items; nothing, if one is missing

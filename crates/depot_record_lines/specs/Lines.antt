@@ -4,13 +4,14 @@ use mathlib.Core.Bool.{cond}
 use mathlib.Core.List.{_++_}
 use lib.Dec.{eqb}
 use lib.ListN.{getD, take, drop}
+use Rattle.rules.specs.Bytes.{twoAt}
 use Rattle.rules.specs.Commands.{commands, rowOf, conditionIn}
 use Rattle.rules.specs.ProgramFormat.{JUMP, NONE, codeFrom, componentFrom, placeFrom, targetFrom, argumentFrom}
 use Rattle.rules.specs.ProgramFormat.{recordSize as ProgramFormat·recordSize}
 use Rattle.text.specs.Text.{Bytes, ascii, padded}
 use Rattle.text.specs.Pieces.{labelled, coded}
 use Rattle.text_names.specs.Words.{wide, commandWords}
-use Rattle.depot_argument_lines.specs.Items.{twoAt, sizeIn, itemsText}
+use Rattle.depot_argument_lines.specs.Items.{sizeIn, itemsText}
 use Rattle.depot_argument_lines.specs.Arguments.{argumentText}
 
 unfoldable pub nameText : ℕ → Bytes

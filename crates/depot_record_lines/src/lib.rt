@@ -6,7 +6,7 @@ ghost use Rattle.rules.specs.ProgramFormat.{argumentFrom};
 ghost use Rattle.rules.specs.ProgramFormat.{recordSize as ProgramFormat·recordSize};
 ghost use Rattle.text.specs.Text.{Wrote};
 ghost use Rattle.text_names.specs.Words.{wide as Words·wide};
-ghost use Rattle.depot_argument_lines.specs.Items.{twoAt};
+ghost use Rattle.rules.specs.Bytes.{twoAt};
 ghost use Rattle.depot_record_lines.specs.Lines.{column, nameText, lineText, targetText, failureText, jumpText, recordSize, commandText, recordText, recordsText};
 use byte_buffer::two;
 use byte_buffer::wide;

@@ -11,6 +11,7 @@ use byte_buffer::wide;
 use rules::codes;
 use rules::controller::Controller;
 use rules::program_format::ENTRY_BYTES;
+use rules::program_format::ENTRY_LENGTH;
 use rules::program_format::SIZE_BYTES;
 use rules::program_format::SOURCE_BYTES;
 use run_slots::params::Params;
@@ -36,7 +37,7 @@ fn optional(p: &[u8], at: usize, to: usize, key: usize, lo: usize, hi: usize) ->
     if left < ENTRY_BYTES {
         return 0;
     }
-    let n = wide(p[at + 1]);
+    let n = wide(p[at + ENTRY_LENGTH]);
     if n < lo {
         return 0;
     }

@@ -36,6 +36,13 @@ numFrom n (b ∷ bs) = numFrom (n * 256 + b) bs
 abbrev pub num : Bytes → ℕ
 num bs = numFrom 0 bs
 
+-- the numbers of two and of four bytes at a place
+abbrev pub twoAt : Bytes → ℕ → ℕ
+twoAt s at = getD s at 0 * 256 + getD s (at + 1) 0
+
+abbrev pub fourAt : Bytes → ℕ → ℕ
+fourAt s at = (twoAt s at * 256 + getD s (at + 2) 0) * 256 + getD s (at + 3) 0
+
 abbrev pub be2 : ℕ → Bytes
 be2 n = n / 256 % 256 ∷ n % 256 ∷ []
 

@@ -62,6 +62,9 @@ abbrev pub recordSize : ℕ
 recordSize = 10
 
 -- 'key 1, length 1, value (size 4 bytes, source 1)'
+abbrev pub entryLengthFrom : ℕ
+entryLengthFrom = 1
+
 abbrev pub entrySize : ℕ
 entrySize = 2
 

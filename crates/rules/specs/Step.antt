@@ -35,9 +35,18 @@ withUsed st n = state (st .params) (st .slots) (st .trace) (st .events) n
 abbrev pub eventBytes : ℕ
 eventBytes = 8
 
--- where in it the place is
+-- where in it its parts are
+abbrev pub eventCode : ℕ
+eventCode = 2
+
+abbrev pub eventComponent : ℕ
+eventComponent = 3
+
 abbrev pub eventPlace : ℕ
 eventPlace = 4
+
+abbrev pub eventResult : ℕ
+eventResult = 6
 
 abbrev pub event : ℕ → ℕ → ℕ → ℕ → Bytes
 event code i place result = 0x53 ∷ 0x54 ∷ code ∷ i ∷ be2 place ++ (result ∷ 0 ∷ [])

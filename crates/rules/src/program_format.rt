@@ -43,6 +43,8 @@ pub const JUMP: usize = 0xff;
 pub const NO_TARGET: usize = 0xffff;
 
 // A parameter in an argument: key 1, length 1, value; a source has 1 byte, a size 4.
+pub const ENTRY_LENGTH: usize = 1;
+
 pub const ENTRY_BYTES: usize = 2;
 
 pub const SOURCE_BYTES: usize = 1;

@@ -22,7 +22,7 @@ use rules_tables::Table;
 use run_slots::params::either;
 use translate_size::kinds::is_condition;
 
-// Where the next command is, the index and coerce of the sequence (1 false, 2 true), the number of the next record, and its place in the room.
+// Where the next command is, the index and coerce of the sequence, the number of the next record, and its place in the room.
 pub struct WriteState {
     pub next: usize,
     pub index: usize,

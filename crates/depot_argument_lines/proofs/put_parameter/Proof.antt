@@ -1,5 +1,5 @@
-use Rattle.depot_argument_lines.specs.Arguments.{lengthFrom, parameterText}
-use Rattle.rules.specs.ProgramFormat.{entrySize}
+use Rattle.depot_argument_lines.specs.Arguments.{parameterText}
+use Rattle.rules.specs.ProgramFormat.{entryLengthFrom, entrySize}
 use Prim.Native.Nat.{_+_, _-_}
 use mathlib.Core.Path.{_≡_}
 use lib.ListN.{getD}
@@ -20,7 +20,7 @@ returns c =
     let at-wide2 = at-put-spaces .before .before in
     let at-wide = at-wide2 .before .before in
     let start = at-wide .before .before .before .before in
-    let e : entrySize + at-wide2 .wide2 .result - entrySize ≡ getD (start .args .s .now) lengthFrom 0 = omega (arith, at-wide2 .wide2 .ensures .0) in
+    let e : entrySize + at-wide2 .wide2 .result - entrySize ≡ getD (start .args .s .now) entryLengthFrom 0 = omega (arith, at-wide2 .wide2 .ensures .0) in
     rw (← e, ← at-wide .wide .ensures .0) (wrote-then (wrote-then (wrote-then (wrote-then (at-put-spaces .put-spaces .ensures) (at-put-parameter .put-parameter .ensures)) (at-put .put .ensures)) (at-put-value .put-value .ensures)) (at-put2 .put2 .ensures))
 
 pub put-parameter-spec : {M : Type 1} → statement M

@@ -3,8 +3,8 @@ use Prim.Native.Nat.{_-_}
 use mathlib.Core.Path.{_∙_}
 use lib.ListN.{getD}
 use Rattle.rules.specs.Limits.{limits}
-use Rattle.rules.specs.ProgramFormat.{entrySize}
-use Rattle.depot_argument_lines.specs.Arguments.{lengthFrom, parameterSize, parameterText, strayText, parametersText}
+use Rattle.rules.specs.ProgramFormat.{entryLengthFrom, entrySize}
+use Rattle.depot_argument_lines.specs.Arguments.{parameterSize, parameterText, strayText, parametersText}
 use Rattle.depot_argument_lines.proofs.ItemLaws.{Going, size-lies, going-start, going-length, going-more, going-missing, going-end}
 use Rattle.text.proofs.TextLaws.{wrote-length}
 use borrow.Author.Needs.{needs}
@@ -42,7 +42,7 @@ put-parameter-requires c κs =
     let at-if1 = c .before in
     let at-size-of = at-if1 .before in
     let at-loop = at-size-of .before .before in
-    size-lies (at-loop .loop .rest .now) entrySize (getD (at-loop .loop .rest .now) lengthFrom 0) (at-size-of .size-of .ensures .0) (at-if1 .if1 .left)
+    size-lies (at-loop .loop .rest .now) entrySize (getD (at-loop .loop .rest .now) entryLengthFrom 0) (at-size-of .size-of .ensures .0) (at-if1 .if1 .left)
 
 loop-again : tie.Need-loop-again Inv-loop μ-loop
 loop-again c =

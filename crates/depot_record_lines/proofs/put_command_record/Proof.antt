@@ -1,5 +1,5 @@
 use Rattle.rules.specs.ProgramFormat.{recordSize, targetFrom, argumentFrom}
-use Rattle.depot_argument_lines.specs.Items.{twoAt}
+use Rattle.rules.specs.Bytes.{twoAt}
 use Rattle.depot_record_lines.specs.Lines.{commandText}
 use Prim.Native.Nat.{_+_, _-_}
 use mathlib.Core.Path.{_≡_}

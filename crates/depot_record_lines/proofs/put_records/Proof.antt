@@ -4,7 +4,7 @@ use mathlib.Core.Path.{_∙_}
 use Rattle.rules.specs.ProgramFormat.{argumentFrom}
 use Rattle.rules.specs.ProgramFormat.{recordSize as ProgramFormat·recordSize}
 use Rattle.depot_record_lines.specs.Lines.{recordSize, recordText, missingText, recordsText}
-use Rattle.depot_argument_lines.specs.Items.{twoAt}
+use Rattle.rules.specs.Bytes.{twoAt}
 use Rattle.depot_argument_lines.proofs.ItemLaws.{Going, size-lies, going-start, going-length, going-more, going-missing, going-end}
 use Rattle.text.proofs.TextLaws.{wrote-length}
 use borrow.Author.Needs.{needs}

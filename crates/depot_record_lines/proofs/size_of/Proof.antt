@@ -1,7 +1,7 @@
 use mathlib.Core.Path.{sym}
 use Rattle.rules.specs.ProgramFormat.{argumentFrom}
 use Rattle.rules.specs.ProgramFormat.{recordSize as ProgramFormat·recordSize}
-use Rattle.depot_argument_lines.specs.Items.{twoAt}
+use Rattle.rules.specs.Bytes.{twoAt}
 use Rattle.depot_record_lines.specs.Lines.{recordSize}
 use Rattle.depot_argument_lines.proofs.ItemLaws.{size-short, size-past, size-whole}
 use borrow.Author.Needs.{needs}
