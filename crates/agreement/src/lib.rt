@@ -1,4 +1,5 @@
 // Demand 3 over the jobs: an envelope is translated, its program is run, and the envelope itself is run.
+ghost use Rattle.rules.specs.Lent.{was, left};
 ghost use Rattle.agreement.specs.Agreement.{Agreed};
 use program_run::run_program;
 use rules::answers::Group;
@@ -29,7 +30,7 @@ pub fn agree(
     eslots: &mut [u8],
     etrace: &mut [u8],
 ) -> Agreement
-    ensures { λ r. ⌜ Agreed (now (s .entry)) group verdict device (now (answers .entry)) (now (room .entry)) (now (room .exit)) (now (pslots .entry)) (now (pslots .exit)) (now (ptrace .entry)) (now (ptrace .exit)) (now (eslots .entry)) (now (eslots .exit)) (now (etrace .entry)) (now (etrace .exit)) r ⌝ }
+    ensures { λ r. ⌜ Agreed (was s) group verdict device (was answers) (was room) (left room) (was pslots) (left pslots) (was ptrace) (left ptrace) (was eslots) (left eslots) (was etrace) (left etrace) r ⌝ }
 {
     let envelope = run(s, group, verdict, device, eslots, answers, etrace);
     let translated = translate(s, group, room);

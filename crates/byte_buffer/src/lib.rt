@@ -2,6 +2,7 @@
 ghost use mathlib.Core.Path.{_≡_};
 ghost use Prim.Native.Nat.{_+_, _*_, _≤_, _<_};
 ghost use lib.ListN.{length, getD};
+ghost use Rattle.rules.specs.Lent.{was, left};
 ghost use Rattle.rules.specs.Bytes.{part, put, twoAt, fourAt, be2, be4, same};
 
 // One byte.
@@ -14,14 +15,14 @@ pub fn wide(x: u8) -> usize
 // Two bytes, and four.
 pub fn two(s: &[u8], at: usize) -> usize
     requires { ⌜ at + 2 ≤ length (now s) ⌝ }
-    ensures { λ r. ⌜ (r ≡ twoAt (now (s .entry)) at) × (r < 65536) ⌝ }
+    ensures { λ r. ⌜ (r ≡ twoAt (was s) at) × (r < 65536) ⌝ }
 {
     wide(s[at]) * 256 + wide(s[at + 1])
 }
 
 pub fn four(s: &[u8], at: usize) -> usize
     requires { ⌜ at + 4 ≤ length (now s) ⌝ }
-    ensures { λ r. ⌜ (r ≡ fourAt (now (s .entry)) at) × (r < 4294967296) ⌝ }
+    ensures { λ r. ⌜ (r ≡ fourAt (was s) at) × (r < 4294967296) ⌝ }
 {
     (two(s, at) * 256 + wide(s[at + 2])) * 256 + wide(s[at + 3])
 }
@@ -29,7 +30,7 @@ pub fn four(s: &[u8], at: usize) -> usize
 // The number n in two bytes, and in four, over those of `room` from `at` on.
 pub fn put_u16(room: &mut [u8], at: usize, n: usize)
     requires { ⌜ at + 2 ≤ length (now room) ⌝ }
-    ensures { λ _. ⌜ now (room .exit) ≡ put (now (room .entry)) at (be2 n) ⌝ }
+    ensures { λ _. ⌜ left room ≡ put (was room) at (be2 n) ⌝ }
 {
     room[at] = (n / 256 % 256) as u8;
     room[at + 1] = (n % 256) as u8;
@@ -37,7 +38,7 @@ pub fn put_u16(room: &mut [u8], at: usize, n: usize)
 
 pub fn put_u32(room: &mut [u8], at: usize, n: usize)
     requires { ⌜ at + 4 ≤ length (now room) ⌝ }
-    ensures { λ _. ⌜ now (room .exit) ≡ put (now (room .entry)) at (be4 n) ⌝ }
+    ensures { λ _. ⌜ left room ≡ put (was room) at (be4 n) ⌝ }
 {
     room[at] = (n / 16777216 % 256) as u8;
     room[at + 1] = (n / 65536 % 256) as u8;
@@ -47,7 +48,7 @@ pub fn put_u32(room: &mut [u8], at: usize, n: usize)
 // Whether the n bytes of a from i on are those of b from j on. It always goes through all of them, which is faster than an early exit.
 pub fn equal(a: &[u8], i: usize, b: &[u8], j: usize, n: usize) -> bool
     requires { ⌜ (i + n ≤ length (now a)) × (j + n ≤ length (now b)) ⌝ }
-    ensures { λ r. ⌜ r ≡ same (part (now (a .entry)) i n) (part (now (b .entry)) j n) ⌝ }
+    ensures { λ r. ⌜ r ≡ same (part (was a) i n) (part (was b) j n) ⌝ }
 {
     let mut same = true;
     let mut k = 0;
@@ -63,7 +64,7 @@ pub fn equal(a: &[u8], i: usize, b: &[u8], j: usize, n: usize) -> bool
 // The n bytes of s from `from` on, put over those of `room` from `to` on.
 pub fn copy(s: &[u8], from: usize, n: usize, room: &mut [u8], to: usize)
     requires { ⌜ (from + n ≤ length (now s)) × (to + n ≤ length (now room)) ⌝ }
-    ensures { λ _. ⌜ now (room .exit) ≡ put (now (room .entry)) to (part (now (s .entry)) from n) ⌝ }
+    ensures { λ _. ⌜ left room ≡ put (was room) to (part (was s) from n) ⌝ }
 {
     let mut i = 0;
     while i < n {

@@ -2,6 +2,7 @@
 ghost use mathlib.Core.Path.{_≡_};
 ghost use Prim.Native.Nat.{ℕ, _+_, _%_, _≤_, _<_};
 ghost use lib.ListN.{length, getD};
+ghost use Rattle.rules.specs.Lent.{was};
 ghost use Rattle.rules.specs.declared.answers.Refusal.the-variants.{NotCbor};
 ghost use Rattle.rules.specs.Got.{refused, got};
 ghost use Rattle.rules.specs.Cbor.{head, whole, item, oneOf, after};
@@ -62,7 +63,7 @@ fn shortest(kind: usize, num: usize, next: usize, least: usize, at: usize) -> He
 // A head whose number is in the 1, 2 or 4 bytes after its first byte.
 fn long_head(s: &[u8], end: usize, at: usize, first: usize) -> HeadRead
     requires { ⌜ (at < end) × (end ≤ length (now s)) × (first ≡ getD (now s) at 0) × (24 ≤ first % 32) ⌝ }
-    ensures { λ r. ⌜ headMeans r ≡ head (now (s .entry)) end at ⌝ }
+    ensures { λ r. ⌜ headMeans r ≡ head (was s) end at ⌝ }
 {
     let kind = first / 32;
     if kind == 1 {
@@ -98,7 +99,7 @@ fn long_head(s: &[u8], end: usize, at: usize, first: usize) -> HeadRead
 // The head at `at`, in a container that ends at `end`.
 pub fn read_head(s: &[u8], end: usize, at: usize) -> HeadRead
     requires { ⌜ end ≤ length (now s) ⌝ }
-    ensures { λ r. ⌜ headMeans r ≡ head (now (s .entry)) end at ⌝ }
+    ensures { λ r. ⌜ headMeans r ≡ head (was s) end at ⌝ }
 {
     if end <= at {
         return HeadRead::NotCbor(at);
@@ -155,7 +156,7 @@ fn content(kind: usize, num: usize) -> usize
 // The head of an item whose bytes lie in the container.
 fn read_whole(s: &[u8], end: usize, at: usize) -> HeadRead
     requires { ⌜ end ≤ length (now s) ⌝ }
-    ensures { λ r. ⌜ headMeans r ≡ whole (now (s .entry)) end at ⌝ }
+    ensures { λ r. ⌜ headMeans r ≡ whole (was s) end at ⌝ }
 {
     match read_head(s, end, at) {
         HeadRead::NotCbor(p) => HeadRead::NotCbor(p),
@@ -179,7 +180,7 @@ pub(crate) fn read_item(
     hi: usize,
 ) -> ItemRead
     requires { ⌜ end ≤ length (now s) ⌝ }
-    ensures { λ r. ⌜ itemMeans r ≡ item kind lo hi (now (s .entry)) end at ⌝ }
+    ensures { λ r. ⌜ itemMeans r ≡ item kind lo hi (was s) end at ⌝ }
 {
     match read_whole(s, end, at) {
         HeadRead::NotCbor(p) => ItemRead::NotCbor(p),
@@ -203,7 +204,7 @@ pub(crate) fn read_item(
 // The item at `at`, of either kind, whatever its number.
 pub fn read_one_of(s: &[u8], end: usize, at: usize, kind: usize, other: usize) -> ItemRead
     requires { ⌜ end ≤ length (now s) ⌝ }
-    ensures { λ r. ⌜ itemMeans r ≡ oneOf kind other (now (s .entry)) end at ⌝ }
+    ensures { λ r. ⌜ itemMeans r ≡ oneOf kind other (was s) end at ⌝ }
 {
     match read_whole(s, end, at) {
         HeadRead::NotCbor(p) => ItemRead::NotCbor(p),

@@ -2,6 +2,7 @@
 ghost use mathlib.Core.Path.{_≡_};
 ghost use Prim.Native.Nat.{_≤_};
 ghost use lib.ListN.{length};
+ghost use Rattle.rules.specs.Lent.{was};
 ghost use Rattle.rules.specs.Cbor as Cbor;
 ghost use Rattle.cbor.specs.Reading.{fault, headReading};
 use crate::ItemRead;
@@ -29,7 +30,7 @@ pub fn refuse(r: Refusal, at: usize) -> Reading
 // The head of an item of a wanted kind and range: the place after the head, and its number.
 pub fn item(s: &[u8], end: usize, at: usize, kind: usize, lo: usize, hi: usize) -> Reading
     requires { ⌜ end ≤ length (now s) ⌝ }
-    ensures { λ r. ⌜ r ≡ headReading (Cbor.item kind lo hi (now (s .entry)) end at) ⌝ }
+    ensures { λ r. ⌜ r ≡ headReading (Cbor.item kind lo hi (was s) end at) ⌝ }
 {
     match read_item(s, end, at, kind, lo, hi) {
         ItemRead::Item(h) => Reading {
@@ -45,7 +46,7 @@ pub fn item(s: &[u8], end: usize, at: usize, kind: usize, lo: usize, hi: usize) 
 // The head of an item of either kind.
 pub fn one_of(s: &[u8], end: usize, at: usize, kind: usize, other: usize) -> Reading
     requires { ⌜ end ≤ length (now s) ⌝ }
-    ensures { λ r. ⌜ r ≡ headReading (Cbor.oneOf kind other (now (s .entry)) end at) ⌝ }
+    ensures { λ r. ⌜ r ≡ headReading (Cbor.oneOf kind other (was s) end at) ⌝ }
 {
     match read_one_of(s, end, at, kind, other) {
         ItemRead::Item(h) => Reading {

@@ -3,6 +3,7 @@
 ghost use mathlib.Core.Path.{_≡_};
 ghost use Prim.Native.Nat.{_-_};
 ghost use lib.ListN.{length};
+ghost use Rattle.rules.specs.Lent.{was, left};
 ghost use Rattle.rules.specs.Cbor.{head};
 ghost use Rattle.cbor_reader.specs.Read.{readOf, headHere, moved};
 use cbor::HeadRead;
@@ -25,7 +26,7 @@ pub struct Read {
 
 // The head at a place of an envelope.
 fn head_of(s: &[u8], at: usize) -> Read
-    ensures { λ r. ⌜ r ≡ readOf (head (now (s .entry)) (length (now (s .entry))) at) ⌝ }
+    ensures { λ r. ⌜ r ≡ readOf (head (was s) (length (was s)) at) ⌝ }
 {
     match cbor::read_head(s, s.len(), at) {
         HeadRead::Head(h) => Read {
@@ -45,7 +46,7 @@ fn head_of(s: &[u8], at: usize) -> Read
 
 // How many bytes there are from a place on.
 fn left_of(s: &[u8], at: usize) -> usize
-    ensures { λ r. ⌜ r ≡ length (now (s .entry)) - at ⌝ }
+    ensures { λ r. ⌜ r ≡ length (was s) - at ⌝ }
 {
     let end = s.len();
     if end < at {
@@ -77,7 +78,7 @@ pub fn left<'a>(r: Reader<'a>) -> usize
 
 // Reads one head, and moves the reader to the place after it; or refuses it with 65, and the reader is as it was.
 pub fn read_head<'s, 'a>(r: &'s mut Reader<'a>) -> Read
-    ensures { λ h. ⌜ (h ≡ readOf (headHere (now (r .entry)))) × (now (r .exit) ≡ moved (now (r .entry)) (headHere (now (r .entry)))) ⌝ }
+    ensures { λ h. ⌜ (h ≡ readOf (headHere (was r))) × (left r ≡ moved (was r) (headHere (was r))) ⌝ }
 {
     let h = head_of(r.envelope, r.at);
     r.at = h.next;
@@ -86,7 +87,7 @@ pub fn read_head<'s, 'a>(r: &'s mut Reader<'a>) -> Read
 
 // The same for a caller that has no reader, and so needs no proof by hand: one head at a place of an envelope.
 pub fn head_at(envelope: &[u8], at: usize) -> Read
-    ensures { λ r. ⌜ r ≡ readOf (head (now (envelope .entry)) (length (now (envelope .entry))) at) ⌝ }
+    ensures { λ r. ⌜ r ≡ readOf (head (was envelope) (length (was envelope)) at) ⌝ }
 {
     let mut r = new(envelope, at);
     read_head(&mut r)
@@ -94,7 +95,7 @@ pub fn head_at(envelope: &[u8], at: usize) -> Read
 
 // How many bytes of an envelope are left from a place on.
 pub fn left_at(envelope: &[u8], at: usize) -> usize
-    ensures { λ n. ⌜ n ≡ length (now (envelope .entry)) - at ⌝ }
+    ensures { λ n. ⌜ n ≡ length (was envelope) - at ⌝ }
 {
     left(new(envelope, at))
 }

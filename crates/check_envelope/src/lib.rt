@@ -1,5 +1,6 @@
 // Check and newer: an envelope is checked against the rules of document 01, and of two the newer manifest is handed back.
 ghost use mathlib.Core.Path.{_≡_};
+ghost use Rattle.rules.specs.Lent.{was};
 ghost use Rattle.rules.specs.Check as Check;
 ghost use Rattle.rules.specs.Newer as Rule;
 ghost use Rattle.check_envelope.specs.Report.{reportOf, numbersIn, numbersOf};
@@ -22,7 +23,7 @@ pub mod report;
 
 // Checks an envelope: what it holds and where, or the first fault.
 pub fn check(s: &[u8]) -> Report
-    ensures { λ r. ⌜ (r ≡ reportOf (Check.check (now (s .entry)))) × (numbersIn r ≡ numbersOf (Check.check (now (s .entry)))) ⌝ }
+    ensures { λ r. ⌜ (r ≡ reportOf (Check.check (was s))) × (numbersIn r ≡ numbersOf (Check.check (was s))) ⌝ }
 {
     let end = s.len();
     if Controller::ENVELOPE_BYTES < end {
@@ -66,7 +67,7 @@ pub fn check(s: &[u8]) -> Report
 
 // The manifest of the newer of two envelopes, a part of that envelope itself. The first wins a tie, and one that is refused is passed over.
 pub fn newer<'a>(a: &'a [u8], b: &'a [u8]) -> &'a [u8]
-    ensures { λ r. ⌜ Handed (Rule.newer (now (a .entry)) (now (b .entry))) (a .entry) (b .entry) r ⌝ }
+    ensures { λ r. ⌜ Handed (Rule.newer (was a) (was b)) (a .entry) (b .entry) r ⌝ }
 {
     let n = choose(a, b);
     let from = n.from;

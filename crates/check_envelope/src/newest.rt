@@ -1,5 +1,6 @@
 // Which of two envelopes has the newer manifest, and where it stands.
 ghost use mathlib.Core.Path.{_≡_};
+ghost use Rattle.rules.specs.Lent.{was};
 ghost use Rattle.rules.specs.Check as Check;
 ghost use Rattle.rules.specs.Newer as Rule;
 ghost use Rattle.check_envelope.specs.Newer.{partIn, newestOf};
@@ -14,7 +15,7 @@ struct Part {
 }
 
 fn part_in(s: &[u8]) -> Part
-    ensures { λ r. ⌜ r ≡ partIn (Check.check (now (s .entry))) ⌝ }
+    ensures { λ r. ⌜ r ≡ partIn (Check.check (was s)) ⌝ }
 {
     let r = check(s);
     let answer = r.answer;
@@ -43,7 +44,7 @@ pub struct Newest {
 }
 
 pub fn choose(a: &[u8], b: &[u8]) -> Newest
-    ensures { λ r. ⌜ r ≡ newestOf (Rule.newer (now (a .entry)) (now (b .entry))) ⌝ }
+    ensures { λ r. ⌜ r ≡ newestOf (Rule.newer (was a) (was b)) ⌝ }
 {
     let x = part_in(a);
     let y = part_in(b);

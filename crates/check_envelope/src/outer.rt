@@ -2,6 +2,7 @@
 ghost use mathlib.Core.Path.{_≡_};
 ghost use Prim.Native.Nat.{_≤_};
 ghost use lib.ListN.{length};
+ghost use Rattle.rules.specs.Lent.{was};
 ghost use Rattle.rules.specs.Check as Check;
 ghost use Rattle.cbor.specs.Reading.{headReading, placeReading};
 ghost use Rattle.check_envelope.specs.Outer.{manifestHead};
@@ -22,7 +23,7 @@ const ENTRIES: usize = 2;
 // Nil or a byte string: the place after it.
 fn unread(s: &[u8], end: usize, at: usize) -> Reading
     requires { ⌜ end ≤ length (now s) ⌝ }
-    ensures { λ r. ⌜ r ≡ placeReading (Check.unread (now (s .entry)) end at) ⌝ }
+    ensures { λ r. ⌜ r ≡ placeReading (Check.unread (was s) end at) ⌝ }
 {
     match cbor::read_one_of(s, end, at, cbor::NIL, cbor::BYTES) {
         ItemRead::Item(h) => {
@@ -48,7 +49,7 @@ fn unread(s: &[u8], end: usize, at: usize) -> Reading
 // The byte string that holds the manifest: where its bytes start, and how many they are.
 pub(crate) fn read_outer(s: &[u8], end: usize) -> Reading
     requires { ⌜ end ≤ length (now s) ⌝ }
-    ensures { λ r. ⌜ r ≡ headReading (manifestHead (now (s .entry)) end) ⌝ }
+    ensures { λ r. ⌜ r ≡ headReading (manifestHead (was s) end) ⌝ }
 {
     let h = item(s, end, 0, cbor::MAP, ENTRIES, ENTRIES);
     let refusal = h.refusal;

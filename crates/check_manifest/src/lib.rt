@@ -2,6 +2,7 @@
 ghost use mathlib.Core.Path.{_≡_};
 ghost use Prim.Native.Nat.{_≤_};
 ghost use lib.ListN.{length};
+ghost use Rattle.rules.specs.Lent.{was, left};
 ghost use Rattle.rules.specs.Tables.{byNumber};
 ghost use Rattle.rules.specs.Check as Check;
 ghost use Rattle.cbor.specs.Reading.{placeReading, reading};
@@ -50,7 +51,7 @@ struct Front {
 // The version under its key, which is 1: the place after it.
 fn version(s: &[u8], end: usize, at: usize) -> Reading
     requires { ⌜ end ≤ length (now s) ⌝ }
-    ensures { λ r. ⌜ r ≡ placeReading (Check.versionAt (now (s .entry)) end at) ⌝ }
+    ensures { λ r. ⌜ r ≡ placeReading (Check.versionAt (was s) end at) ⌝ }
 {
     let k = item(s, end, at, cbor::NUMBER, VERSION_KEY, VERSION_KEY);
     let refusal = k.refusal;
@@ -77,7 +78,7 @@ fn version(s: &[u8], end: usize, at: usize) -> Reading
 // The sequence number under its key, and the key of common after it.
 fn numbered(s: &[u8], end: usize, at: usize) -> Reading
     requires { ⌜ end ≤ length (now s) ⌝ }
-    ensures { λ r. ⌜ r ≡ reading (λ n. n) (Check.numberedAt (now (s .entry)) end at) ⌝ }
+    ensures { λ r. ⌜ r ≡ reading (λ n. n) (Check.numberedAt (was s) end at) ⌝ }
 {
     let k = item(s, end, at, cbor::NUMBER, NUMBER_KEY, NUMBER_KEY);
     let refusal = k.refusal;
@@ -104,7 +105,7 @@ fn numbered(s: &[u8], end: usize, at: usize) -> Reading
 // The manifest up to common: how many entries it has, and its sequence number.
 fn read_front(s: &[u8], end: usize, at: usize) -> Front
     requires { ⌜ end ≤ length (now s) ⌝ }
-    ensures { λ r. ⌜ r ≡ frontOf (Check.frontAt (now (s .entry)) end at) ⌝ }
+    ensures { λ r. ⌜ r ≡ frontOf (Check.frontAt (was s) end at) ⌝ }
 {
     let h = item(s, end, at, cbor::MAP, REQUIRED, MOST_ENTRIES);
     let refusal = h.refusal;
@@ -147,7 +148,7 @@ fn read_front(s: &[u8], end: usize, at: usize) -> Front
 // The component list in its byte string.
 fn component_list(s: &[u8], end: usize, at: usize, ids: &mut Places) -> Reading
     requires { ⌜ end ≤ length (now s) ⌝ }
-    ensures { λ r. ⌜ (r ≡ listReading (Check.inBytes (now (s .entry)) (Check.components (now (s .entry))) end at)) × Ids (λ l. l) (Check.inBytes (now (s .entry)) (Check.components (now (s .entry))) end at) (now (ids .entry)) (now (ids .exit)) ⌝ }
+    ensures { λ r. ⌜ (r ≡ listReading (Check.inBytes (was s) (Check.components (was s)) end at)) × Ids (λ l. l) (Check.inBytes (was s) (Check.components (was s)) end at) (was ids) (left ids) ⌝ }
 {
     let b = item(s, end, at, cbor::BYTES, 0, Controller::LARGEST_NUMBER);
     let refusal = b.refusal;
@@ -198,7 +199,7 @@ fn read_common(
     places: &mut SectionPlaces,
 ) -> Common
     requires { ⌜ (end ≤ length (now s)) × (now table ≡ byNumber) ⌝ }
-    ensures { λ r. ⌜ (r ≡ commonOf (Check.commonIn (now (s .entry)) end at)) × Kept (λ c. c .0) (λ c. c .1) (Check.commonIn (now (s .entry)) end at) (now (ids .entry)) (now (ids .exit)) (now (places .entry)) (now (places .exit)) ⌝ }
+    ensures { λ r. ⌜ (r ≡ commonOf (Check.commonIn (was s) end at)) × Kept (λ c. c .0) (λ c. c .1) (Check.commonIn (was s) end at) (was ids) (left ids) (was places) (left places) ⌝ }
 {
     let b = item(s, end, at, cbor::BYTES, 0, Controller::LARGEST_NUMBER);
     let refusal = b.refusal;
@@ -270,7 +271,7 @@ fn refused(refusal: usize, at: usize) -> Body
 // The manifest: its number, how many components it has, and where common, the identifiers and the sections stand.
 pub fn read_body(s: &[u8], table: &Table, end: usize, at: usize) -> Body
     requires { ⌜ (end ≤ length (now s)) × (now table ≡ byNumber) ⌝ }
-    ensures { λ r. ⌜ r ≡ bodyOf (Check.manifestAt (now (s .entry)) end at) ⌝ }
+    ensures { λ r. ⌜ r ≡ bodyOf (Check.manifestAt (was s) end at) ⌝ }
 {
     let f = read_front(s, end, at);
     let refusal = f.refusal;

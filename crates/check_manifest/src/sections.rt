@@ -3,6 +3,7 @@ ghost use mathlib.Core.Path.{_≡_};
 ghost use mathlib.Core.List.{[], _∷_};
 ghost use Prim.Native.Nat.{_+_, _≤_, _<_};
 ghost use lib.ListN.{length};
+ghost use Rattle.rules.specs.Lent.{was, left};
 ghost use Rattle.rules.specs.Limits.{sectionCount};
 ghost use Rattle.rules.specs.Commands.{PAYLOAD_FETCH};
 ghost use Rattle.rules.specs.Tables.{byNumber};
@@ -51,7 +52,7 @@ fn section(
     places: &mut SectionPlaces,
 ) -> Reading
     requires { ⌜ (end ≤ length (now s)) × (now table ≡ byNumber) × Section key ⌝ }
-    ensures { λ r. ⌜ (r ≡ reading (λ x. commands + count (x .seq)) (Check.sectionAt (now (s .entry)) components key commands end at)) × Placed (λ x. x ∷ []) (Check.sectionAt (now (s .entry)) components key commands end at) (now (places .entry)) (now (places .exit)) ⌝ }
+    ensures { λ r. ⌜ (r ≡ reading (λ x. commands + count (x .seq)) (Check.sectionAt (was s) components key commands end at)) × Placed (λ x. x ∷ []) (Check.sectionAt (was s) components key commands end at) (was places) (left places) ⌝ }
 {
     let b = item(s, end, at, cbor::BYTES, 0, Controller::LARGEST_NUMBER);
     let refusal = b.refusal;
@@ -96,7 +97,7 @@ pub(crate) fn sections(
     places: &mut SectionPlaces,
 ) -> Reading
     requires { ⌜ (end ≤ length (now s)) × (now table ≡ byNumber) ⌝ }
-    ensures { λ r. ⌜ (r ≡ reading (λ xs. commands + countAll xs) (Check.sectionsAt (now (s .entry)) components k PAYLOAD_FETCH commands end at)) × Placed (λ xs. xs) (Check.sectionsAt (now (s .entry)) components k PAYLOAD_FETCH commands end at) (now (places .entry)) (now (places .exit)) ⌝ }
+    ensures { λ r. ⌜ (r ≡ reading (λ xs. commands + countAll xs) (Check.sectionsAt (was s) components k PAYLOAD_FETCH commands end at)) × Placed (λ xs. xs) (Check.sectionsAt (was s) components k PAYLOAD_FETCH commands end at) (was places) (left places) ⌝ }
 {
     let mut p = at;
     let mut low = codes::PAYLOAD_FETCH;
@@ -137,7 +138,7 @@ pub(crate) fn common_sequence(
     places: &mut SectionPlaces,
 ) -> Reading
     requires { ⌜ (end ≤ length (now s)) × (now table ≡ byNumber) × (k ≤ 1) ⌝ }
-    ensures { λ r. ⌜ (r ≡ reading countAll (Check.commonSeq (now (s .entry)) components k end at)) × Placed (λ xs. xs) (Check.commonSeq (now (s .entry)) components k end at) (now (places .entry)) (now (places .exit)) ⌝ }
+    ensures { λ r. ⌜ (r ≡ reading countAll (Check.commonSeq (was s) components k end at)) × Placed (λ xs. xs) (Check.commonSeq (was s) components k end at) (was places) (left places) ⌝ }
 {
     if k == 0 {
         return Reading {

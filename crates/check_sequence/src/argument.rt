@@ -3,6 +3,7 @@ ghost use mathlib.Core.Path.{_≡_};
 ghost use mathlib.Core.Logic.{_⊎_};
 ghost use Prim.Native.Nat.{_≤_};
 ghost use lib.ListN.{length};
+ghost use Rattle.rules.specs.Lent.{was};
 ghost use Rattle.rules.specs.declared.tables.Parameter.the-variants.{Source};
 ghost use Rattle.rules.specs.Tables.{byNumber};
 ghost use Rattle.rules.specs.Cbor.{BYTES, TEXT};
@@ -25,7 +26,7 @@ use rules_tables::look_up_parameter;
 // A number: the place after it, and its value.
 pub fn number(s: &[u8], end: usize, at: usize) -> Reading
     requires { ⌜ end ≤ length (now s) ⌝ }
-    ensures { λ r. ⌜ r ≡ reading (λ k. k) (Check.number (now (s .entry)) end at) ⌝ }
+    ensures { λ r. ⌜ r ≡ reading (λ k. k) (Check.number (was s) end at) ⌝ }
 {
     item(s, end, at, cbor::NUMBER, 0, Controller::LARGEST_NUMBER)
 }
@@ -44,7 +45,7 @@ fn place(r: Reading) -> Reading
 // A string of lo to hi bytes.
 fn string(s: &[u8], kind: usize, lo: usize, hi: usize, end: usize, at: usize) -> Reading
     requires { ⌜ (end ≤ length (now s)) × ((kind ≡ BYTES) ⊎ (kind ≡ TEXT)) ⌝ }
-    ensures { λ r. ⌜ r ≡ itemReading (Cbor.item kind lo hi (now (s .entry)) end at) ⌝ }
+    ensures { λ r. ⌜ r ≡ itemReading (Cbor.item kind lo hi (was s) end at) ⌝ }
 {
     let h = item(s, end, at, kind, lo, hi);
     let refusal = h.refusal;
@@ -61,7 +62,7 @@ fn string(s: &[u8], kind: usize, lo: usize, hi: usize, end: usize, at: usize) ->
 // The index of a component.
 fn component(s: &[u8], components: usize, end: usize, at: usize) -> Reading
     requires { ⌜ end ≤ length (now s) ⌝ }
-    ensures { λ r. ⌜ r ≡ after (Check.parameter (now (s .entry)) components Source end at) ⌝ }
+    ensures { λ r. ⌜ r ≡ after (Check.parameter (was s) components Source end at) ⌝ }
 {
     let k = number(s, end, at);
     let refusal = k.refusal;
@@ -78,7 +79,7 @@ fn component(s: &[u8], components: usize, end: usize, at: usize) -> Reading
 // A parameter's value.
 fn parameter(s: &[u8], components: usize, what: Parameter, end: usize, at: usize) -> Reading
     requires { ⌜ end ≤ length (now s) ⌝ }
-    ensures { λ r. ⌜ r ≡ after (Check.parameter (now (s .entry)) components what end at) ⌝ }
+    ensures { λ r. ⌜ r ≡ after (Check.parameter (was s) components what end at) ⌝ }
 {
     match what {
         Parameter::Coerce => place(one_of(s, end, at, cbor::FALSE, cbor::TRUE)),
@@ -102,7 +103,7 @@ fn entries(
     at: usize,
 ) -> Reading
     requires { ⌜ (end ≤ length (now s)) × (now table ≡ byNumber) ⌝ }
-    ensures { λ r. ⌜ r ≡ after (Check.entries (now (s .entry)) components count 0 Check.nothing end at) ⌝ }
+    ensures { λ r. ⌜ r ≡ after (Check.entries (was s) components count 0 Check.nothing end at) ⌝ }
 {
     let mut p = at;
     let mut low = 0;
@@ -146,7 +147,7 @@ pub(crate) fn read_argument(
     at: usize,
 ) -> Reading
     requires { ⌜ (end ≤ length (now s)) × (now table ≡ byNumber) ⌝ }
-    ensures { λ r. ⌜ r ≡ reading (λ k. k) (argumentStart (now (s .entry)) components argument end at) ⌝ }
+    ensures { λ r. ⌜ r ≡ reading (λ k. k) (argumentStart (was s) components argument end at) ⌝ }
 {
     match argument {
         Argument::Sixteen => {

@@ -3,6 +3,7 @@ ghost use mathlib.Core.Path.{_≡_};
 ghost use Prim.Native.Nat.{_/_, _%_, _≤_};
 ghost use lib.Dec.{eqb};
 ghost use lib.ListN.{length};
+ghost use Rattle.rules.specs.Lent.{was};
 ghost use Rattle.rules.specs.Tables.{byNumber, weightOf};
 ghost use Rattle.cbor.specs.Reading.{reading};
 ghost use Rattle.check_sequence.specs.Command.{commandStart, Section};
@@ -43,7 +44,7 @@ pub(crate) fn open_command(
     at: usize,
 ) -> Reading
     requires { ⌜ (end ≤ length (now s)) × (now table ≡ byNumber) × Section section ⌝ }
-    ensures { λ r. ⌜ r ≡ reading (λ k. k) (commandStart (now (s .entry)) components section commands end at) ⌝ }
+    ensures { λ r. ⌜ r ≡ reading (λ k. k) (commandStart (was s) components section commands end at) ⌝ }
 {
     let c = number(s, end, at);
     let refusal = c.refusal;

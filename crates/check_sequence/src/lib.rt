@@ -2,6 +2,7 @@
 ghost use mathlib.Core.Path.{_≡_};
 ghost use Prim.Native.Nat.{_+_, _≤_};
 ghost use lib.ListN.{length};
+ghost use Rattle.rules.specs.Lent.{was};
 ghost use Rattle.rules.specs.Tables.{byNumber};
 ghost use Rattle.rules.specs.Manifest.{count, countCmd};
 ghost use Rattle.rules.specs.Check as Check;
@@ -30,7 +31,7 @@ pub fn check_sequence(
     at: usize,
 ) -> Reading
     requires { ⌜ (end ≤ length (now s)) × (now table ≡ byNumber) × Section section ⌝ }
-    ensures { λ r. ⌜ r ≡ reading (λ a. commands + count a) (Check.sequenceAt (now (s .entry)) components section depth commands end at) ⌝ }
+    ensures { λ r. ⌜ r ≡ reading (λ a. commands + count a) (Check.sequenceAt (was s) components section depth commands end at) ⌝ }
 {
     let h = item(
         s,
@@ -83,7 +84,7 @@ fn check_command(
     at: usize,
 ) -> Reading
     requires { ⌜ (end ≤ length (now s)) × (now table ≡ byNumber) × Section section ⌝ }
-    ensures { λ r. ⌜ r ≡ reading (λ c. commands + countCmd c) (Check.command (now (s .entry)) (Check.sequenceAt (now (s .entry)) components section depth) components section commands end at) ⌝ }
+    ensures { λ r. ⌜ r ≡ reading (λ c. commands + countCmd c) (Check.command (was s) (Check.sequenceAt (was s) components section depth) components section commands end at) ⌝ }
 {
     let o = open_command(s, table, components, section, commands, end, at);
     let refusal = o.refusal;

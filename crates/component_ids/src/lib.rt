@@ -2,6 +2,7 @@
 ghost use mathlib.Core.Path.{_≡_};
 ghost use Prim.Native.Nat.{_+_, _≤_};
 ghost use lib.ListN.{length};
+ghost use Rattle.rules.specs.Lent.{was, left};
 ghost use Rattle.rules.specs.Bytes.{part, same};
 ghost use Rattle.rules.specs.Check as Check;
 ghost use Rattle.rules.specs.Limits.{limits};
@@ -18,7 +19,7 @@ use rules::controller::Places;
 // So many byte strings: the place after them.
 fn strings(s: &[u8], end: usize, at: usize, count: usize) -> Reading
     requires { ⌜ end ≤ length (now s) ⌝ }
-    ensures { λ r. ⌜ r ≡ placeReading (Check.strings (now (s .entry)) count end at) ⌝ }
+    ensures { λ r. ⌜ r ≡ placeReading (Check.strings (was s) count end at) ⌝ }
 {
     let mut p = at;
     let mut left = count;
@@ -40,7 +41,7 @@ fn strings(s: &[u8], end: usize, at: usize, count: usize) -> Reading
 // One identifier, whatever stands before it: the place after it.
 fn identifier(s: &[u8], end: usize, at: usize) -> Reading
     requires { ⌜ end ≤ length (now s) ⌝ }
-    ensures { λ r. ⌜ r ≡ placeReading (plain (now (s .entry)) end at) ⌝ }
+    ensures { λ r. ⌜ r ≡ placeReading (plain (was s) end at) ⌝ }
 {
     let h = item(s, end, at, cbor::ARRAY, 1, Controller::IDENTIFIER_PARTS);
     if h.refusal != 0 {
@@ -60,7 +61,7 @@ fn identifier(s: &[u8], end: usize, at: usize) -> Reading
 // So many identifiers, until one is refused: how many were read, and their places.
 fn identifiers(s: &[u8], end: usize, at: usize, count: usize, ids: &mut Places) -> Reading
     requires { ⌜ (end ≤ length (now s)) × (count ≤ limits .components) ⌝ }
-    ensures { λ r. ⌜ (r ≡ listed (listing (now (s .entry)) count end at)) × (now (ids .exit) ≡ laid (listing (now (s .entry)) count end at .ids) (now (ids .entry))) ⌝ }
+    ensures { λ r. ⌜ (r ≡ listed (listing (was s) count end at)) × (left ids ≡ laid (listing (was s) count end at .ids) (was ids)) ⌝ }
 {
     let places: &mut [usize] = ids;
     let mut p = at;
@@ -91,7 +92,7 @@ fn identifiers(s: &[u8], end: usize, at: usize, count: usize, ids: &mut Places) 
 // Whether two parts of the envelope have the same bytes.
 fn same_bytes(s: &[u8], from: usize, size: usize, other: usize, width: usize) -> bool
     requires { ⌜ (from + size ≤ length (now s)) × (other + width ≤ length (now s)) ⌝ }
-    ensures { λ r. ⌜ r ≡ same (part (now (s .entry)) from size) (part (now (s .entry)) other width) ⌝ }
+    ensures { λ r. ⌜ r ≡ same (part (was s) from size) (part (was s) other width) ⌝ }
 {
     if size != width {
         return false;
@@ -107,7 +108,7 @@ pub enum Repeat {
 // The first equal pair of the first `count` identifiers, the later one outside: the number of the later one.
 pub fn repeated_one(s: &[u8], ids: &Places, count: usize) -> Repeat
     requires { ⌜ (count ≤ limits .components) × InBytes (now ids) count (length (now s)) ⌝ }
-    ensures { λ r. ⌜ r ≡ repeated (now (s .entry)) (now (ids .entry)) count ⌝ }
+    ensures { λ r. ⌜ r ≡ repeated (was s) (was ids) count ⌝ }
 {
     let mut j = 0;
     let found = 'pairs: loop {
@@ -133,7 +134,7 @@ pub fn repeated_one(s: &[u8], ids: &Places, count: usize) -> Repeat
 // The component list: how many identifiers, and their places.
 pub fn components(s: &[u8], end: usize, at: usize, ids: &mut Places) -> Reading
     requires { ⌜ end ≤ length (now s) ⌝ }
-    ensures { λ r. ⌜ (r ≡ reading length (Check.components (now (s .entry)) end at)) × (now (ids .exit) ≡ laid (idsRead (now (s .entry)) end at) (now (ids .entry))) ⌝ }
+    ensures { λ r. ⌜ (r ≡ reading length (Check.components (was s) end at)) × (left ids ≡ laid (idsRead (was s) end at) (was ids)) ⌝ }
 {
     let h = item(s, end, at, cbor::ARRAY, 1, Controller::COMPONENTS);
     if h.refusal != 0 {

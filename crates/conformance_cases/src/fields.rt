@@ -2,6 +2,7 @@
 ghost use mathlib.Core.Path.{_≡_};
 ghost use Prim.Native.Nat.{_+_, _≤_};
 ghost use lib.ListN.{length};
+ghost use Rattle.rules.specs.Lent.{was};
 ghost use Rattle.rules.specs.Bytes.{part};
 ghost use Rattle.rules.specs.Limits.{limits};
 ghost use Rattle.conformance_cases.specs.Fields.{StringAt, runHead, deviceOf};
@@ -32,7 +33,7 @@ pub(crate) const RUN_HEAD: usize = 42;
 
 // The end of the string at the start of b, or 0.
 pub(crate) fn string_end(b: &[u8]) -> usize
-    ensures { λ r. ⌜ StringAt (now (b .entry)) r ⌝ }
+    ensures { λ r. ⌜ StringAt (was b) r ⌝ }
 {
     if b.len() < 2 {
         return 0;
@@ -46,7 +47,7 @@ pub(crate) fn string_end(b: &[u8]) -> usize
 
 fn sixteen(b: &[u8], at: usize) -> Sixteen
     requires { ⌜ at + limits .class ≤ length (now b) ⌝ }
-    ensures { λ r. ⌜ r ≡ part (now (b .entry)) at (limits .class) ⌝ }
+    ensures { λ r. ⌜ r ≡ part (was b) at (limits .class) ⌝ }
 {
     let mut id = [0u8; Controller::CLASS_BYTES];
     let mut k = 0;
@@ -60,7 +61,7 @@ fn sixteen(b: &[u8], at: usize) -> Sixteen
 // The device in the head of a run.
 pub(crate) fn device_of(head: &[u8]) -> Device
     requires { ⌜ length (now head) ≡ runHead ⌝ }
-    ensures { λ r. ⌜ r ≡ deviceOf (now (head .entry)) ⌝ }
+    ensures { λ r. ⌜ r ≡ deviceOf (was head) ⌝ }
 {
     let vendor = sixteen(head, VENDOR);
     let class = sixteen(head, CLASS);

@@ -2,7 +2,8 @@
 ghost use mathlib.Core.Path.{_≡_};
 ghost use Prim.Native.Nat.{_<_};
 ghost use lib.ListN.{length, getD, replicate};
-ghost use Rattle.text.specs.Text.{Wrote};
+ghost use Rattle.rules.specs.Lent.{was, left};
+ghost use Rattle.text.specs.Text.{Writes, Wrote};
 ghost use Rattle.run_admission.specs.Answer.{slotsAfter, traceAfter};
 ghost use Rattle.pitvorgas.specs.Answers.{controllerOf, ranOf};
 ghost use Rattle.conformance_cases.specs.Fields.{fillFrom, runHead, deviceOf};
@@ -29,20 +30,20 @@ use pitvorgas::pitvorgas_translate;
 use text::put;
 
 pub(crate) fn check_line(envelope: &[u8], room: &mut [u8]) -> usize
-    ensures { λ r. ⌜ Wrote (checkLine (now (envelope .entry))) 0 (now (room .entry)) r (now (room .exit)) ⌝ }
+    ensures { λ r. ⌜ Writes (checkLine (was envelope)) 0 room r ⌝ }
 {
     put_checked(room, 0, pitvorgas_check(envelope))
 }
 
 pub(crate) fn newer_line(first: &[u8], second: &[u8], room: &mut [u8]) -> usize
-    ensures { λ r. ⌜ Wrote (newerLine (now (first .entry)) (now (second .entry))) 0 (now (room .entry)) r (now (room .exit)) ⌝ }
+    ensures { λ r. ⌜ Writes (newerLine (was first) (was second)) 0 room r ⌝ }
 {
     put_newer(room, 0, pitvorgas_newer(first, second))
 }
 
 // A translation into lent room.
 fn translate_into(envelope: &[u8], boot: bool, lent: &mut [u8], room: &mut [u8]) -> usize
-    ensures { λ r. ⌜ Wrote (translateLine (now (envelope .entry)) boot (length (now (lent .entry)))) 0 (now (room .entry)) r (now (room .exit)) ⌝ }
+    ensures { λ r. ⌜ Writes (translateLine (was envelope) boot (length (was lent))) 0 room r ⌝ }
 {
     fill(lent, ROOM_FILL);
     let answer = pitvorgas_translate(envelope, boot, lent);
@@ -51,7 +52,7 @@ fn translate_into(envelope: &[u8], boot: bool, lent: &mut [u8], room: &mut [u8])
 
 pub(crate) fn translate_line(envelope: &[u8], boot: bool, n: usize, room: &mut [u8]) -> usize
     requires { ⌜ n < 65536 ⌝ }
-    ensures { λ r. ⌜ Wrote (translateLine (now (envelope .entry)) boot n) 0 (now (room .entry)) r (now (room .exit)) ⌝ }
+    ensures { λ r. ⌜ Writes (translateLine (was envelope) boot n) 0 room r ⌝ }
 {
     let mut lent = memory();
     translate_into(envelope, boot, &mut lent[..n], room)
@@ -67,7 +68,7 @@ fn run_by(
     trace: &mut [u8],
 ) -> RunAnswer
     requires { ⌜ length (now head) ≡ runHead ⌝ }
-    ensures { λ r. ⌜ (r ≡ ranOf (controllerOf (deviceOf (now (head .entry)))) (ranBy program (now (head .entry)) (now (s .entry)) (now (slots .entry)) (now (answers .entry)) (now (trace .entry)))) × (now (slots .exit) ≡ slotsAfter (now (slots .entry)) (ranBy program (now (head .entry)) (now (s .entry)) (now (slots .entry)) (now (answers .entry)) (now (trace .entry)))) × (now (trace .exit) ≡ traceAfter (now (trace .entry)) (ranBy program (now (head .entry)) (now (s .entry)) (now (slots .entry)) (now (answers .entry)) (now (trace .entry)))) ⌝ }
+    ensures { λ r. ⌜ (r ≡ ranOf (controllerOf (deviceOf (was head))) (ranBy program (was head) (was s) (was slots) (was answers) (was trace))) × (left slots ≡ slotsAfter (was slots) (ranBy program (was head) (was s) (was slots) (was answers) (was trace))) × (left trace ≡ traceAfter (was trace) (ranBy program (was head) (was s) (was slots) (was answers) (was trace))) ⌝ }
 {
     let device = device_of(head);
     let verdict = head[VERDICT] != 0;
@@ -90,7 +91,7 @@ fn run_with(
     room: &mut [u8],
 ) -> usize
     requires { ⌜ (length (now head) ≡ runHead) × (length (now slots) ≡ length (now before)) ⌝ }
-    ensures { λ r. ⌜ Wrote (ranWith (now (head .entry)) (now (before .entry)) (replicate (length (now (trace .entry))) (getD (now (head .entry)) fillFrom 0)) (ranBy program (now (head .entry)) (now (s .entry)) (now (before .entry)) (now (answers .entry)) (replicate (length (now (trace .entry))) (getD (now (head .entry)) fillFrom 0)))) 0 (now (room .entry)) r (now (room .exit)) ⌝ }
+    ensures { λ r. ⌜ Wrote (ranWith (was head) (was before) (replicate (length (was trace)) (getD (was head) fillFrom 0)) (ranBy program (was head) (was s) (was before) (was answers) (replicate (length (was trace)) (getD (was head) fillFrom 0)))) 0 (was room) r (left room) ⌝ }
 {
     put(slots, 0, before);
     let x = head[FILL];
@@ -108,7 +109,7 @@ pub(crate) fn run_line(
     room: &mut [u8],
 ) -> usize
     requires { ⌜ (length (now head) ≡ runHead) × (length (now before) < 65536) ⌝ }
-    ensures { λ r. ⌜ Wrote (runLine program (now (head .entry)) (now (before .entry)) (now (answers .entry)) (now (s .entry))) 0 (now (room .entry)) r (now (room .exit)) ⌝ }
+    ensures { λ r. ⌜ Writes (runLine program (was head) (was before) (was answers) (was s)) 0 room r ⌝ }
 {
     let mut slots = memory();
     let mut trace = memory();

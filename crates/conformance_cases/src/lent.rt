@@ -1,8 +1,9 @@
 // Lent bytes: filled before a job, and looked at after it, beside the line of its answer.
 ghost use mathlib.Core.Path.{_≡_};
 ghost use lib.ListN.{length, drop, replicate};
+ghost use Rattle.rules.specs.Lent.{was, left};
 ghost use Rattle.rules.specs.Bytes.{same as Bytes·same};
-ghost use Rattle.text.specs.Text.{Wrote};
+ghost use Rattle.text.specs.Text.{Writes};
 ghost use Rattle.conformance_cases.specs.Lent.{allAre, alteredText, translationLine, keptAll, ranLine};
 use byte_buffer::equal;
 use conformance_lines::events_end;
@@ -24,7 +25,7 @@ pub(crate) fn memory() -> [u8; 65536]
 }
 
 pub(crate) fn fill(b: &mut [u8], x: u8)
-    ensures { λ _. ⌜ now (b .exit) ≡ replicate (length (now (b .entry))) x ⌝ }
+    ensures { λ _. ⌜ left b ≡ replicate (length (was b)) x ⌝ }
 {
     let mut i = 0;
     while i < b.len() {
@@ -35,7 +36,7 @@ pub(crate) fn fill(b: &mut [u8], x: u8)
 
 // Whether every byte from `at` on is x.
 pub(crate) fn all_are(b: &[u8], at: usize, x: u8) -> bool
-    ensures { λ r. ⌜ r ≡ allAre x (drop at (now (b .entry))) ⌝ }
+    ensures { λ r. ⌜ r ≡ allAre x (drop at (was b)) ⌝ }
 {
     let mut i = at;
     while i < b.len() {
@@ -48,7 +49,7 @@ pub(crate) fn all_are(b: &[u8], at: usize, x: u8) -> bool
 }
 
 pub(crate) fn same(a: &[u8], b: &[u8]) -> bool
-    ensures { λ r. ⌜ r ≡ Bytes·same (now (a .entry)) (now (b .entry)) ⌝ }
+    ensures { λ r. ⌜ r ≡ Bytes·same (was a) (was b) ⌝ }
 {
     if a.len() != b.len() {
         return false;
@@ -57,7 +58,7 @@ pub(crate) fn same(a: &[u8], b: &[u8]) -> bool
 }
 
 fn put_altered(room: &mut [u8], at: usize, kept: bool) -> usize
-    ensures { λ r. ⌜ Wrote (alteredText kept) at (now (room .entry)) r (now (room .exit)) ⌝ }
+    ensures { λ r. ⌜ Writes (alteredText kept) at room r ⌝ }
 {
     if kept {
         return at;
@@ -66,7 +67,7 @@ fn put_altered(room: &mut [u8], at: usize, kept: bool) -> usize
 }
 
 pub(crate) fn put_translation(room: &mut [u8], answer: TranslateAnswer, lent: &[u8]) -> usize
-    ensures { λ r. ⌜ Wrote (translationLine answer (now (lent .entry))) 0 (now (room .entry)) r (now (room .exit)) ⌝ }
+    ensures { λ r. ⌜ Writes (translationLine answer (was lent)) 0 room r ⌝ }
 {
     let end = least(answer.length, lent.len());
     let kept = all_are(lent, end, ROOM_FILL);
@@ -75,7 +76,7 @@ pub(crate) fn put_translation(room: &mut [u8], answer: TranslateAnswer, lent: &[
 }
 
 fn kept_all(answer: RunAnswer, before: &[u8], slots: &[u8], fill: u8, trace: &[u8]) -> bool
-    ensures { λ r. ⌜ r ≡ keptAll answer (now (before .entry)) (now (slots .entry)) fill (now (trace .entry)) ⌝ }
+    ensures { λ r. ⌜ r ≡ keptAll answer (was before) (was slots) fill (was trace) ⌝ }
 {
     let n = events_end(answer.events, trace.len());
     if !all_are(trace, n, fill) {
@@ -95,7 +96,7 @@ pub(crate) fn put_run(
     fill: u8,
     trace: &[u8],
 ) -> usize
-    ensures { λ r. ⌜ Wrote (ranLine answer (now (before .entry)) (now (slots .entry)) fill (now (trace .entry))) 0 (now (room .entry)) r (now (room .exit)) ⌝ }
+    ensures { λ r. ⌜ Writes (ranLine answer (was before) (was slots) fill (was trace)) 0 room r ⌝ }
 {
     let kept = kept_all(answer, before, slots, fill, trace);
     let a = put_ran(room, 0, answer, slots, trace);

@@ -2,7 +2,8 @@
 ghost use mathlib.Core.Path.{_≡_};
 ghost use Prim.Native.Nat.{_<_};
 ghost use lib.ListN.{length};
-ghost use Rattle.text.specs.Text.{Wrote};
+ghost use Rattle.rules.specs.Lent.{was};
+ghost use Rattle.text.specs.Text.{Writes};
 ghost use Rattle.conformance_cases.specs.Fields.{runHead};
 ghost use Rattle.conformance_cases.specs.Cases.{malformedText, lineOf, jobLine, newerCase, translateCase, runCase, runSlots, runAnswers};
 
@@ -32,13 +33,13 @@ const RUN_PROGRAM: u8 = 5;
 const TRANSLATE_HEAD: usize = 3;
 
 fn put_malformed(room: &mut [u8]) -> usize
-    ensures { λ r. ⌜ Wrote malformedText 0 (now (room .entry)) r (now (room .exit)) ⌝ }
+    ensures { λ r. ⌜ Writes malformedText 0 room r ⌝ }
 {
     put(room, 0, b"malformed\n")
 }
 
 fn newer_case(b: &[u8], room: &mut [u8]) -> usize
-    ensures { λ r. ⌜ Wrote (newerCase (now (b .entry))) 0 (now (room .entry)) r (now (room .exit)) ⌝ }
+    ensures { λ r. ⌜ Writes (newerCase (was b)) 0 room r ⌝ }
 {
     let end = string_end(b);
     if end == 0 {
@@ -48,7 +49,7 @@ fn newer_case(b: &[u8], room: &mut [u8]) -> usize
 }
 
 fn translate_case(b: &[u8], room: &mut [u8]) -> usize
-    ensures { λ r. ⌜ Wrote (translateCase (now (b .entry))) 0 (now (room .entry)) r (now (room .exit)) ⌝ }
+    ensures { λ r. ⌜ Writes (translateCase (was b)) 0 room r ⌝ }
 {
     if b.len() < TRANSLATE_HEAD {
         return put_malformed(room);
@@ -59,7 +60,7 @@ fn translate_case(b: &[u8], room: &mut [u8]) -> usize
 
 fn run_answers(program: bool, head: &[u8], slots: &[u8], b: &[u8], room: &mut [u8]) -> usize
     requires { ⌜ (length (now head) ≡ runHead) × (length (now slots) < 65536) ⌝ }
-    ensures { λ r. ⌜ Wrote (runAnswers program (now (head .entry)) (now (slots .entry)) (now (b .entry))) 0 (now (room .entry)) r (now (room .exit)) ⌝ }
+    ensures { λ r. ⌜ Writes (runAnswers program (was head) (was slots) (was b)) 0 room r ⌝ }
 {
     let end = string_end(b);
     if end == 0 {
@@ -70,7 +71,7 @@ fn run_answers(program: bool, head: &[u8], slots: &[u8], b: &[u8], room: &mut [u
 
 fn run_slots(program: bool, head: &[u8], b: &[u8], room: &mut [u8]) -> usize
     requires { ⌜ length (now head) ≡ runHead ⌝ }
-    ensures { λ r. ⌜ Wrote (runSlots program (now (head .entry)) (now (b .entry))) 0 (now (room .entry)) r (now (room .exit)) ⌝ }
+    ensures { λ r. ⌜ Writes (runSlots program (was head) (was b)) 0 room r ⌝ }
 {
     let end = string_end(b);
     if end == 0 {
@@ -80,7 +81,7 @@ fn run_slots(program: bool, head: &[u8], b: &[u8], room: &mut [u8]) -> usize
 }
 
 fn run_case(program: bool, b: &[u8], room: &mut [u8]) -> usize
-    ensures { λ r. ⌜ Wrote (runCase program (now (b .entry))) 0 (now (room .entry)) r (now (room .exit)) ⌝ }
+    ensures { λ r. ⌜ Writes (runCase program (was b)) 0 room r ⌝ }
 {
     if b.len() < RUN_HEAD {
         return put_malformed(room);
@@ -89,7 +90,7 @@ fn run_case(program: bool, b: &[u8], room: &mut [u8]) -> usize
 }
 
 fn job_line(job: u8, b: &[u8], room: &mut [u8]) -> usize
-    ensures { λ r. ⌜ Wrote (jobLine job (now (b .entry))) 0 (now (room .entry)) r (now (room .exit)) ⌝ }
+    ensures { λ r. ⌜ Writes (jobLine job (was b)) 0 room r ⌝ }
 {
     if job == CHECK {
         return check_line(b, room);
@@ -111,7 +112,7 @@ fn job_line(job: u8, b: &[u8], room: &mut [u8]) -> usize
 
 // Does the case and writes its line at the start of the room.
 pub fn answer(case: &[u8], room: &mut [u8]) -> usize
-    ensures { λ r. ⌜ Wrote (lineOf (now (case .entry))) 0 (now (room .entry)) r (now (room .exit)) ⌝ }
+    ensures { λ r. ⌜ Writes (lineOf (was case)) 0 room r ⌝ }
 {
     if case.len() == 0 {
         return put_malformed(room);

@@ -2,7 +2,8 @@
 ghost use mathlib.Core.Path.{_≡_};
 ghost use Prim.Native.Nat.{_*_, _/_, _<_};
 ghost use lib.ListN.{length, getD};
-ghost use Rattle.text.specs.Text.{Wrote, least as Text·least};
+ghost use Rattle.rules.specs.Lent.{was};
+ghost use Rattle.text.specs.Text.{Writes, least as Text·least};
 ghost use Rattle.rules.specs.Limits.{limits};
 ghost use Rattle.rules.specs.Slots.{slotBytes};
 ghost use Rattle.rules.specs.Step.{eventBytes};
@@ -35,7 +36,7 @@ const PERCENT: u8 = 37;
 const NEWLINE: u8 = 10;
 
 fn number_at(numbers: &[usize], k: usize) -> usize
-    ensures { λ r. ⌜ r ≡ getD (now (numbers .entry)) k 0 ⌝ }
+    ensures { λ r. ⌜ r ≡ getD (was numbers) k 0 ⌝ }
 {
     if k < numbers.len() {
         return numbers[k];
@@ -44,7 +45,7 @@ fn number_at(numbers: &[usize], k: usize) -> usize
 }
 
 fn put_piece(room: &mut [u8], at: usize, c: u8, n: usize) -> usize
-    ensures { λ r. ⌜ Wrote (piece c n) at (now (room .entry)) r (now (room .exit)) ⌝ }
+    ensures { λ r. ⌜ Writes (piece c n) at room r ⌝ }
 {
     if c == PERCENT {
         return put_decimal(room, at, n);
@@ -53,7 +54,7 @@ fn put_piece(room: &mut [u8], at: usize, c: u8, n: usize) -> usize
 }
 
 fn put_format(room: &mut [u8], at: usize, template: &[u8], numbers: &[usize]) -> usize
-    ensures { λ r. ⌜ Wrote (format (now (template .entry)) (now (numbers .entry))) at (now (room .entry)) r (now (room .exit)) ⌝ }
+    ensures { λ r. ⌜ Writes (format (was template) (was numbers)) at room r ⌝ }
 {
     let mut to = at;
     let mut i = 0;
@@ -70,13 +71,13 @@ fn put_format(room: &mut [u8], at: usize, template: &[u8], numbers: &[usize]) ->
 }
 
 fn put_refused(room: &mut [u8], at: usize, number: usize, place: usize) -> usize
-    ensures { λ r. ⌜ Wrote (refusedText number place) at (now (room .entry)) r (now (room .exit)) ⌝ }
+    ensures { λ r. ⌜ Writes (refusedText number place) at room r ⌝ }
 {
     put_format(room, at, b"refused % %\n", &[number, place])
 }
 
 fn put_bytes(room: &mut [u8], at: usize, b: &[u8]) -> usize
-    ensures { λ r. ⌜ Wrote (bytesText (now (b .entry))) at (now (room .entry)) r (now (room .exit)) ⌝ }
+    ensures { λ r. ⌜ Writes (bytesText (was b)) at room r ⌝ }
 {
     if b.len() == 0 {
         return put_byte(room, at, b'-');
@@ -85,7 +86,7 @@ fn put_bytes(room: &mut [u8], at: usize, b: &[u8]) -> usize
 }
 
 fn put_separator(room: &mut [u8], at: usize, k: usize) -> usize
-    ensures { λ r. ⌜ Wrote (Lines·separator k) at (now (room .entry)) r (now (room .exit)) ⌝ }
+    ensures { λ r. ⌜ Writes (Lines·separator k) at room r ⌝ }
 {
     if k == 0 {
         return at;
@@ -96,7 +97,7 @@ fn put_separator(room: &mut [u8], at: usize, k: usize) -> usize
 // The places of component k, behind a space or a comma.
 fn put_place(room: &mut [u8], at: usize, ids: &[usize], k: usize) -> usize
     requires { ⌜ k < limits .components ⌝ }
-    ensures { λ r. ⌜ Wrote (placeText (now (ids .entry)) k) at (now (room .entry)) r (now (room .exit)) ⌝ }
+    ensures { λ r. ⌜ Writes (placeText (was ids) k) at room r ⌝ }
 {
     let numbers = [number_at(ids, 2 * k), number_at(ids, 2 * k + 1)];
     if k == 0 {
@@ -106,7 +107,7 @@ fn put_place(room: &mut [u8], at: usize, ids: &[usize], k: usize) -> usize
 }
 
 fn put_places(room: &mut [u8], at: usize, ids: &[usize], components: usize) -> usize
-    ensures { λ r. ⌜ Wrote (placesText (now (ids .entry)) components) at (now (room .entry)) r (now (room .exit)) ⌝ }
+    ensures { λ r. ⌜ Writes (placesText (was ids) components) at room r ⌝ }
 {
     let end = least(components, Controller::COMPONENTS);
     let mut to = at;
@@ -119,7 +120,7 @@ fn put_places(room: &mut [u8], at: usize, ids: &[usize], components: usize) -> u
 }
 
 fn put_sections(room: &mut [u8], at: usize, s: &SectionPlaces) -> usize
-    ensures { λ r. ⌜ Wrote (sectionsText (now (s .entry))) at (now (room .entry)) r (now (room .exit)) ⌝ }
+    ensures { λ r. ⌜ Writes (sectionsText (was s)) at room r ⌝ }
 {
     let there = [
         least(s[3], 1),
@@ -139,7 +140,7 @@ fn put_accepted(
     ids: &[usize],
     sections: &SectionPlaces,
 ) -> usize
-    ensures { λ r. ⌜ Wrote (acceptedText number components (now (ids .entry)) (now (sections .entry))) at (now (room .entry)) r (now (room .exit)) ⌝ }
+    ensures { λ r. ⌜ Writes (acceptedText number components (was ids) (was sections)) at room r ⌝ }
 {
     let a = put_format(room, at, b"accepted %", &[number]);
     let b = put_places(room, a, ids, components);
@@ -147,7 +148,7 @@ fn put_accepted(
 }
 
 pub fn put_checked(room: &mut [u8], at: usize, answer: CheckAnswer) -> usize
-    ensures { λ r. ⌜ Wrote (checkedText answer) at (now (room .entry)) r (now (room .exit)) ⌝ }
+    ensures { λ r. ⌜ Writes (checkedText answer) at room r ⌝ }
 {
     if answer.refusal == 0 {
         let ids = answer.ids;
@@ -158,7 +159,7 @@ pub fn put_checked(room: &mut [u8], at: usize, answer: CheckAnswer) -> usize
 }
 
 pub fn put_newer(room: &mut [u8], at: usize, answer: NewerAnswer) -> usize
-    ensures { λ r. ⌜ Wrote (newerText answer) at (now (room .entry)) r (now (room .exit)) ⌝ }
+    ensures { λ r. ⌜ Writes (newerText answer) at room r ⌝ }
 {
     put_format(
         room,
@@ -169,7 +170,7 @@ pub fn put_newer(room: &mut [u8], at: usize, answer: NewerAnswer) -> usize
 }
 
 fn put_program(room: &mut [u8], at: usize, program: &[u8]) -> usize
-    ensures { λ r. ⌜ Wrote (programText (now (program .entry))) at (now (room .entry)) r (now (room .exit)) ⌝ }
+    ensures { λ r. ⌜ Writes (programText (was program)) at room r ⌝ }
 {
     let a = put(room, at, b"program ");
     let b = put_bytes(room, a, program);
@@ -177,7 +178,7 @@ fn put_program(room: &mut [u8], at: usize, program: &[u8]) -> usize
 }
 
 pub fn put_translated(room: &mut [u8], at: usize, answer: TranslateAnswer, lent: &[u8]) -> usize
-    ensures { λ r. ⌜ Wrote (translatedText answer (now (lent .entry))) at (now (room .entry)) r (now (room .exit)) ⌝ }
+    ensures { λ r. ⌜ Writes (translatedText answer (was lent)) at room r ⌝ }
 {
     if answer.refusal == 0 {
         let n = least(answer.length, lent.len());
@@ -188,7 +189,7 @@ pub fn put_translated(room: &mut [u8], at: usize, answer: TranslateAnswer, lent:
 
 fn put_name(room: &mut [u8], at: usize, slots: &[u8], k: usize) -> usize
     requires { ⌜ Holds (now slots) k ⌝ }
-    ensures { λ r. ⌜ Wrote (nameText (now (slots .entry)) k) at (now (room .entry)) r (now (room .exit)) ⌝ }
+    ensures { λ r. ⌜ Writes (nameText (was slots) k) at room r ⌝ }
 {
     let from = SLOT_BYTES * k + IDENTIFIER;
     let to = from + least(wide(slots[SLOT_BYTES * k]), Controller::IDENTIFIER_BYTES);
@@ -198,7 +199,7 @@ fn put_name(room: &mut [u8], at: usize, slots: &[u8], k: usize) -> usize
 
 fn put_image(room: &mut [u8], at: usize, slots: &[u8], k: usize) -> usize
     requires { ⌜ Holds (now slots) k ⌝ }
-    ensures { λ r. ⌜ Wrote (imageText (now (slots .entry)) k) at (now (room .entry)) r (now (room .exit)) ⌝ }
+    ensures { λ r. ⌜ Writes (imageText (was slots) k) at room r ⌝ }
 {
     let numbers = [
         capacity(slots, k),
@@ -212,7 +213,7 @@ fn put_image(room: &mut [u8], at: usize, slots: &[u8], k: usize) -> usize
 }
 
 fn put_slots(room: &mut [u8], at: usize, slots: &[u8]) -> usize
-    ensures { λ r. ⌜ Wrote (slotsText (now (slots .entry)) (length (now (slots .entry)) / slotBytes)) at (now (room .entry)) r (now (room .exit)) ⌝ }
+    ensures { λ r. ⌜ Writes (slotsText (was slots) (length (was slots) / slotBytes)) at room r ⌝ }
 {
     let n = slots.len() / SLOT_BYTES;
     let mut to = at;
@@ -236,7 +237,7 @@ pub fn events_end(events: usize, length: usize) -> usize
 }
 
 fn put_events(room: &mut [u8], at: usize, events: usize, trace: &[u8]) -> usize
-    ensures { λ r. ⌜ Wrote (eventsText events (now (trace .entry))) at (now (room .entry)) r (now (room .exit)) ⌝ }
+    ensures { λ r. ⌜ Writes (eventsText events (was trace)) at room r ⌝ }
 {
     let n = events_end(events, trace.len());
     let a = put_byte(room, at, b' ');
@@ -245,7 +246,7 @@ fn put_events(room: &mut [u8], at: usize, events: usize, trace: &[u8]) -> usize
 }
 
 fn put_end(room: &mut [u8], at: usize, answer: RunAnswer, slots: &[u8], trace: &[u8]) -> usize
-    ensures { λ r. ⌜ Wrote (endText answer (now (slots .entry)) (now (trace .entry))) at (now (room .entry)) r (now (room .exit)) ⌝ }
+    ensures { λ r. ⌜ Writes (endText answer (was slots) (was trace)) at room r ⌝ }
 {
     let numbers = [
         answer.end,
@@ -260,7 +261,7 @@ fn put_end(room: &mut [u8], at: usize, answer: RunAnswer, slots: &[u8], trace: &
 }
 
 pub fn put_ran(room: &mut [u8], at: usize, answer: RunAnswer, slots: &[u8], trace: &[u8]) -> usize
-    ensures { λ r. ⌜ Wrote (ranText answer (now (slots .entry)) (now (trace .entry))) at (now (room .entry)) r (now (room .exit)) ⌝ }
+    ensures { λ r. ⌜ Writes (ranText answer (was slots) (was trace)) at room r ⌝ }
 {
     if answer.refusal == 0 {
         return put_end(room, at, answer, slots, trace);

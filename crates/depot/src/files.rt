@@ -1,4 +1,5 @@
 // Files that the command line names, and messages about them on standard error.
+ghost use Rattle.rules.specs.Lent.{left};
 ghost use Rattle.io.specs.Counts.{Counts};
 use libc::STDERR_FILENO;
 
@@ -10,7 +11,7 @@ pub(crate) struct Loaded {
 
 // The bytes of an open file, if it ends within the buffer.
 fn read_whole(fd: i32, path: &[u8], buf: &mut [u8]) -> Loaded
-    ensures { λ r. ⌜ Counts (r .n) (now (buf .exit)) ⌝ }
+    ensures { λ r. ⌜ Counts (r .n) (left buf) ⌝ }
 {
     let n = io::read_full(fd, buf);
     // a read that failed shows here again, and so does a file that goes on
@@ -30,7 +31,7 @@ fn read_whole(fd: i32, path: &[u8], buf: &mut [u8]) -> Loaded
 
 // The file that word i of the command line names, at the start of the buffer.
 pub(crate) fn load(i: usize, buf: &mut [u8]) -> Loaded
-    ensures { λ r. ⌜ Counts (r .n) (now (buf .exit)) ⌝ }
+    ensures { λ r. ⌜ Counts (r .n) (left buf) ⌝ }
 {
     let mut path = io::buffer();
     let n = os::arg(i, &mut path);

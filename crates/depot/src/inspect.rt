@@ -1,4 +1,5 @@
 // What is told of files: check, show, newer, list.
+ghost use Rattle.rules.specs.Lent.{left};
 ghost use Rattle.io.specs.Counts.{Counts};
 use crate::files::load;
 use crate::pages::page;
@@ -32,7 +33,7 @@ pub(crate) fn check_file() {
 
 // The manifest of an envelope, or its refusal, at the start of the room: the place after it.
 fn put_shown(room: &mut [u8], envelope: &[u8]) -> usize
-    ensures { λ r. ⌜ Counts r (now (room .exit)) ⌝ }
+    ensures { λ r. ⌜ Counts r (left room) ⌝ }
 {
     let answer = pitvorgas_check(envelope);
     if answer.refusal != 0 {
@@ -83,7 +84,7 @@ pub(crate) fn newer_file() {
 
 // Which of two envelopes is newer, and its number.
 fn put_newest(room: &mut [u8], first: &[u8], second: &[u8]) -> usize
-    ensures { λ r. ⌜ Counts r (now (room .exit)) ⌝ }
+    ensures { λ r. ⌜ Counts r (left room) ⌝ }
 {
     let answer = pitvorgas_newer(first, second);
     let which = answer.second;
@@ -97,7 +98,7 @@ fn put_newest(room: &mut [u8], first: &[u8], second: &[u8]) -> usize
 
 // The records of a program, or its refusal.
 fn put_listed(room: &mut [u8], program: &[u8]) -> usize
-    ensures { λ r. ⌜ Counts r (now (room .exit)) ⌝ }
+    ensures { λ r. ⌜ Counts r (left room) ⌝ }
 {
     let tested = test_program(program);
     if tested.good {

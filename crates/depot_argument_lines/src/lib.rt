@@ -2,9 +2,10 @@
 ghost use mathlib.Core.Path.{_≡_};
 ghost use Prim.Native.Nat.{_+_, _≤_};
 ghost use lib.ListN.{length, getD};
+ghost use Rattle.rules.specs.Lent.{was};
 ghost use Rattle.rules.specs.ProgramFormat.{entryLengthFrom, entrySize};
 ghost use Rattle.rules_tables.specs.Kinds.{kindOf};
-ghost use Rattle.text.specs.Text.{Wrote};
+ghost use Rattle.text.specs.Text.{Writes};
 ghost use Rattle.depot_argument_lines.specs.Arguments.{listsParameters, numberText, knownText, valueText, parameterSize, parameterText, strayText, parametersText, hexText, argumentText};
 use byte_buffer::four;
 use byte_buffer::wide;
@@ -33,7 +34,7 @@ const INDENT: usize = 12;
 
 // A number of as many bytes as a size or a source.
 fn put_number(room: &mut [u8], at: usize, s: &[u8]) -> usize
-    ensures { λ r. ⌜ Wrote (numberText (now (s .entry))) at (now (room .entry)) r (now (room .exit)) ⌝ }
+    ensures { λ r. ⌜ Writes (numberText (was s)) at room r ⌝ }
 {
     if s.len() == SIZE_BYTES {
         return put_decimal(room, at, four(s, 0));
@@ -45,7 +46,7 @@ fn put_number(room: &mut [u8], at: usize, s: &[u8]) -> usize
 }
 
 fn put_known(room: &mut [u8], at: usize, parameter: Parameter, s: &[u8]) -> usize
-    ensures { λ r. ⌜ Wrote (knownText parameter (now (s .entry))) at (now (room .entry)) r (now (room .exit)) ⌝ }
+    ensures { λ r. ⌜ Writes (knownText parameter (was s)) at room r ⌝ }
 {
     match parameter {
         Parameter::Coerce => put_number(room, at, s),
@@ -57,7 +58,7 @@ fn put_known(room: &mut [u8], at: usize, parameter: Parameter, s: &[u8]) -> usiz
 }
 
 fn put_value(room: &mut [u8], at: usize, key: usize, s: &[u8]) -> usize
-    ensures { λ r. ⌜ Wrote (valueText key (now (s .entry))) at (now (room .entry)) r (now (room .exit)) ⌝ }
+    ensures { λ r. ⌜ Writes (valueText key (was s)) at room r ⌝ }
 {
     let row = look_up_parameter(&tables(), key);
     match row {
@@ -68,7 +69,7 @@ fn put_value(room: &mut [u8], at: usize, key: usize, s: &[u8]) -> usize
 
 // How long the parameter at the start of the bytes is, 0 if none lies there.
 fn size_of(s: &[u8]) -> usize
-    ensures { λ r. ⌜ (r ≡ parameterSize (now (s .entry))) × (r ≤ length (now (s .entry))) ⌝ }
+    ensures { λ r. ⌜ (r ≡ parameterSize (was s)) × (r ≤ length (was s)) ⌝ }
 {
     if s.len() < ENTRY_BYTES {
         return 0;
@@ -82,7 +83,7 @@ fn size_of(s: &[u8]) -> usize
 
 fn put_parameter(room: &mut [u8], at: usize, s: &[u8]) -> usize
     requires { ⌜ entrySize + getD (now s) entryLengthFrom 0 ≤ length (now s) ⌝ }
-    ensures { λ r. ⌜ Wrote (parameterText (now (s .entry))) at (now (room .entry)) r (now (room .exit)) ⌝ }
+    ensures { λ r. ⌜ Writes (parameterText (was s)) at room r ⌝ }
 {
     let key = wide(s[0]);
     let end = ENTRY_BYTES + wide(s[ENTRY_LENGTH]);
@@ -95,7 +96,7 @@ fn put_parameter(room: &mut [u8], at: usize, s: &[u8]) -> usize
 
 // Bytes that are no parameter.
 fn put_stray(room: &mut [u8], at: usize, s: &[u8]) -> usize
-    ensures { λ r. ⌜ Wrote (strayText (now (s .entry))) at (now (room .entry)) r (now (room .exit)) ⌝ }
+    ensures { λ r. ⌜ Writes (strayText (was s)) at room r ⌝ }
 {
     if s.len() == 0 {
         return at;
@@ -104,7 +105,7 @@ fn put_stray(room: &mut [u8], at: usize, s: &[u8]) -> usize
 }
 
 fn put_parameters(room: &mut [u8], at: usize, s: &[u8]) -> usize
-    ensures { λ r. ⌜ Wrote (parametersText (now (s .entry))) at (now (room .entry)) r (now (room .exit)) ⌝ }
+    ensures { λ r. ⌜ Writes (parametersText (was s)) at room r ⌝ }
 {
     let mut to = at;
     let mut rest = s;
@@ -122,7 +123,7 @@ fn put_parameters(room: &mut [u8], at: usize, s: &[u8]) -> usize
 }
 
 fn put_bytes(room: &mut [u8], at: usize, s: &[u8]) -> usize
-    ensures { λ r. ⌜ Wrote (hexText (now (s .entry))) at (now (room .entry)) r (now (room .exit)) ⌝ }
+    ensures { λ r. ⌜ Writes (hexText (was s)) at room r ⌝ }
 {
     if s.len() == 0 {
         return at;
@@ -147,7 +148,7 @@ fn lists_parameters(code: usize) -> bool
 }
 
 pub fn put_argument(room: &mut [u8], at: usize, code: usize, s: &[u8]) -> usize
-    ensures { λ r. ⌜ Wrote (argumentText code (now (s .entry))) at (now (room .entry)) r (now (room .exit)) ⌝ }
+    ensures { λ r. ⌜ Writes (argumentText code (was s)) at room r ⌝ }
 {
     if lists_parameters(code) {
         return put_parameters(room, at, s);

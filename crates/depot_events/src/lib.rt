@@ -2,8 +2,9 @@
 ghost use mathlib.Core.Path.{_≡_};
 ghost use Prim.Native.Nat.{_+_, _*_, _/_, _≤_};
 ghost use lib.ListN.{length};
+ghost use Rattle.rules.specs.Lent.{was};
 ghost use Rattle.rules.specs.Step.{eventBytes};
-ghost use Rattle.text.specs.Text.{Wrote};
+ghost use Rattle.text.specs.Text.{Writes};
 ghost use Rattle.text.specs.Pieces.{lines};
 ghost use Rattle.depot_events.specs.Events.{fieldsText, eventText, eventsText};
 use byte_buffer::two;
@@ -22,7 +23,7 @@ use text_names::put_command_wide;
 use text_names::put_result;
 
 fn put_fields(room: &mut [u8], at: usize, component: usize, place: usize, result: usize) -> usize
-    ensures { λ r. ⌜ Wrote (fieldsText component place result) at (now (room .entry)) r (now (room .exit)) ⌝ }
+    ensures { λ r. ⌜ Writes (fieldsText component place result) at room r ⌝ }
 {
     let a = put_padded(room, at, component, 11);
     let b = put_padded(room, a, place, 7);
@@ -34,7 +35,7 @@ fn put_fields(room: &mut [u8], at: usize, component: usize, place: usize, result
 
 fn put_event(room: &mut [u8], at: usize, trace: &[u8], k: usize) -> usize
     requires { ⌜ eventBytes * k + eventBytes ≤ length (now trace) ⌝ }
-    ensures { λ r. ⌜ Wrote (eventText (now (trace .entry)) k) at (now (room .entry)) r (now (room .exit)) ⌝ }
+    ensures { λ r. ⌜ Writes (eventText (was trace) k) at room r ⌝ }
 {
     let p = EVENT_BYTES * k;
     let code = wide(trace[p + CODE]);
@@ -49,7 +50,7 @@ fn put_event(room: &mut [u8], at: usize, trace: &[u8], k: usize) -> usize
 
 fn put_each(room: &mut [u8], at: usize, trace: &[u8], n: usize) -> usize
     requires { ⌜ eventBytes * n ≤ length (now trace) ⌝ }
-    ensures { λ r. ⌜ Wrote (lines (eventText (now (trace .entry))) n) at (now (room .entry)) r (now (room .exit)) ⌝ }
+    ensures { λ r. ⌜ Writes (lines (eventText (was trace)) n) at room r ⌝ }
 {
     let mut to = at;
     let mut k = 0;
@@ -62,7 +63,7 @@ fn put_each(room: &mut [u8], at: usize, trace: &[u8], n: usize) -> usize
 
 // The first events of the trace, as many of them as lie in it.
 pub fn put_events(room: &mut [u8], at: usize, trace: &[u8], count: usize) -> usize
-    ensures { λ r. ⌜ Wrote (eventsText (now (trace .entry)) count) at (now (room .entry)) r (now (room .exit)) ⌝ }
+    ensures { λ r. ⌜ Writes (eventsText (was trace) count) at room r ⌝ }
 {
     let to = put(
         room,

@@ -2,6 +2,7 @@
 ghost use mathlib.Core.Path.{_≡_};
 ghost use mathlib.Core.Logic.{_⊎_};
 ghost use Prim.Native.Nat.{_≤_};
+ghost use Rattle.rules.specs.Lent.{was};
 ghost use Rattle.rules.specs.Cbor.{BYTES, TEXT};
 ghost use Rattle.depot_items.specs.Items.{nothing as Items·nothing, held, itemAt, itemOf};
 
@@ -68,7 +69,7 @@ fn whole(e: usize, kind: usize, num: usize, next: usize) -> Item
 
 // The item at `at`, in a container that ends at `e`: a reader of the bytes before `e` reads its head.
 pub fn look(s: &[u8], e: usize, at: usize) -> Item
-    ensures { λ r. ⌜ r ≡ itemAt (now (s .entry)) e at ⌝ }
+    ensures { λ r. ⌜ r ≡ itemAt (was s) e at ⌝ }
 {
     if s.len() < e {
         return nothing(e);
@@ -82,7 +83,7 @@ pub fn look(s: &[u8], e: usize, at: usize) -> Item
 
 // The same, of a wanted kind.
 pub fn want(s: &[u8], e: usize, at: usize, kind: usize) -> Item
-    ensures { λ r. ⌜ r ≡ itemOf (now (s .entry)) e at kind ⌝ }
+    ensures { λ r. ⌜ r ≡ itemOf (was s) e at kind ⌝ }
 {
     let i = look(s, e, at);
     let is = i.kind;

@@ -1,8 +1,9 @@
 // The pieces of a line.
 ghost use mathlib.Core.Path.{_≡_};
 ghost use Prim.Native.Nat.{_-_, _*_};
+ghost use Rattle.rules.specs.Lent.{was};
 ghost use Rattle.rules.specs.Limits.{limits};
-ghost use Rattle.text.specs.Text.{Wrote};
+ghost use Rattle.text.specs.Text.{Writes};
 ghost use Rattle.depot_items.specs.Line.{marginText, titleText, stringText, itemText, argumentText, alternativeText, parameterText};
 use crate::Item;
 use rules::controller::Controller;
@@ -33,7 +34,7 @@ fn indent(depth: usize) -> usize
 }
 
 pub fn put_margin(room: &mut [u8], at: usize, columns: usize, depth: usize) -> usize
-    ensures { λ r. ⌜ Wrote (marginText columns depth) at (now (room .entry)) r (now (room .exit)) ⌝ }
+    ensures { λ r. ⌜ Writes (marginText columns depth) at room r ⌝ }
 {
     let to = put_spaces(room, at, columns);
     put_spaces(room, to, indent(depth))
@@ -41,7 +42,7 @@ pub fn put_margin(room: &mut [u8], at: usize, columns: usize, depth: usize) -> u
 
 // The place, name and code of the command at `place`.
 pub fn put_title(room: &mut [u8], at: usize, depth: usize, place: usize, code: usize) -> usize
-    ensures { λ r. ⌜ Wrote (titleText depth place code) at (now (room .entry)) r (now (room .exit)) ⌝ }
+    ensures { λ r. ⌜ Writes (titleText depth place code) at room r ⌝ }
 {
     let a = put_padded(room, at, place, 6);
     let b = put_margin(room, a, 2, depth);
@@ -58,7 +59,7 @@ pub fn put_string(
     from: usize,
     end: usize,
 ) -> usize
-    ensures { λ r. ⌜ Wrote (stringText (now (s .entry)) kind from end) at (now (room .entry)) r (now (room .exit)) ⌝ }
+    ensures { λ r. ⌜ Writes (stringText (was s) kind from end) at room r ⌝ }
 {
     if s.len() < end {
         return put(room, at, b"?");
@@ -73,7 +74,7 @@ pub fn put_string(
 }
 
 fn put_item(room: &mut [u8], at: usize, s: &[u8], i: Item) -> usize
-    ensures { λ r. ⌜ Wrote (itemText (now (s .entry)) i) at (now (room .entry)) r (now (room .exit)) ⌝ }
+    ensures { λ r. ⌜ Writes (itemText (was s) i) at room r ⌝ }
 {
     let kind = i.kind;
     if kind == cbor::NUMBER {
@@ -96,7 +97,7 @@ fn put_item(room: &mut [u8], at: usize, s: &[u8], i: Item) -> usize
 
 // An argument on its command's line.
 pub fn put_argument(room: &mut [u8], at: usize, s: &[u8], i: Item) -> usize
-    ensures { λ r. ⌜ Wrote (argumentText (now (s .entry)) i) at (now (room .entry)) r (now (room .exit)) ⌝ }
+    ensures { λ r. ⌜ Writes (argumentText (was s) i) at room r ⌝ }
 {
     let kind = i.kind;
     if kind == cbor::NIL {
@@ -114,7 +115,7 @@ pub fn put_argument(room: &mut [u8], at: usize, s: &[u8], i: Item) -> usize
 
 // The line above alternative `n`.
 pub fn put_alternative(room: &mut [u8], at: usize, depth: usize, n: usize) -> usize
-    ensures { λ r. ⌜ Wrote (alternativeText depth n) at (now (room .entry)) r (now (room .exit)) ⌝ }
+    ensures { λ r. ⌜ Writes (alternativeText depth n) at room r ⌝ }
 {
     let a = put_margin(room, at, 8, depth);
     let b = put_labelled(room, a, b"alternative ", n);
@@ -130,7 +131,7 @@ pub fn put_parameter(
     key: usize,
     i: Item,
 ) -> usize
-    ensures { λ r. ⌜ Wrote (parameterText (now (s .entry)) depth key i) at (now (room .entry)) r (now (room .exit)) ⌝ }
+    ensures { λ r. ⌜ Writes (parameterText (was s) depth key i) at room r ⌝ }
 {
     let a = put_margin(room, at, 10, depth);
     let b = text_names::put_parameter(room, a, key);

@@ -2,8 +2,9 @@
 ghost use mathlib.Core.Path.{_≡_};
 ghost use Prim.Native.Nat.{_+_, _≤_};
 ghost use lib.ListN.{length, getD};
+ghost use Rattle.rules.specs.Lent.{was};
 ghost use Rattle.rules.specs.ProgramFormat.{nameSize, lengthFrom};
-ghost use Rattle.text.specs.Text.{Wrote};
+ghost use Rattle.text.specs.Text.{Writes};
 ghost use Rattle.depot_listing.specs.Listing.{componentSize, componentText, componentsText, afterComponents};
 use byte_buffer::wide;
 use rules::program_format::NAME_BYTES;
@@ -14,7 +15,7 @@ use text::put_hex;
 
 // How long the component at the start of the bytes is, 0 if none lies there.
 fn size_of(s: &[u8]) -> usize
-    ensures { λ r. ⌜ (r ≡ componentSize (now (s .entry))) × (r ≤ length (now (s .entry))) ⌝ }
+    ensures { λ r. ⌜ (r ≡ componentSize (was s)) × (r ≤ length (was s)) ⌝ }
 {
     if s.len() < NAME_BYTES {
         return 0;
@@ -28,7 +29,7 @@ fn size_of(s: &[u8]) -> usize
 
 fn put_component(room: &mut [u8], at: usize, n: usize, s: &[u8]) -> usize
     requires { ⌜ nameSize + getD (now s) lengthFrom 0 ≤ length (now s) ⌝ }
-    ensures { λ r. ⌜ Wrote (componentText n (now (s .entry))) at (now (room .entry)) r (now (room .exit)) ⌝ }
+    ensures { λ r. ⌜ Writes (componentText n (was s)) at room r ⌝ }
 {
     let a = put_labelled(room, at, b"component ", n);
     let b = put(room, a, b"  ");
@@ -38,7 +39,7 @@ fn put_component(room: &mut [u8], at: usize, n: usize, s: &[u8]) -> usize
 }
 
 pub(crate) fn put_components(room: &mut [u8], at: usize, s: &[u8], count: usize) -> usize
-    ensures { λ r. ⌜ Wrote (componentsText count (now (s .entry))) at (now (room .entry)) r (now (room .exit)) ⌝ }
+    ensures { λ r. ⌜ Writes (componentsText count (was s)) at room r ⌝ }
 {
     let mut to = at;
     let mut rest = s;
@@ -57,7 +58,7 @@ pub(crate) fn put_components(room: &mut [u8], at: usize, s: &[u8], count: usize)
 
 // What follows the components, nothing if one is missing.
 pub(crate) fn after_components(s: &[u8], count: usize) -> &[u8]
-    ensures { λ r. ⌜ now r ≡ afterComponents count (now (s .entry)) ⌝ }
+    ensures { λ r. ⌜ now r ≡ afterComponents count (was s) ⌝ }
 {
     let mut rest = s;
     let mut n = 0;

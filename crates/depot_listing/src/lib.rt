@@ -1,8 +1,9 @@
 // The listing of a program: a line for the program, for each component, each record and each parameter.
 ghost use Prim.Native.Nat.{_≤_};
 ghost use lib.ListN.{length};
+ghost use Rattle.rules.specs.Lent.{was};
 ghost use Rattle.rules.specs.ProgramFormat.{startSize};
-ghost use Rattle.text.specs.Text.{Wrote};
+ghost use Rattle.text.specs.Text.{Writes};
 ghost use Rattle.depot_listing.specs.Listing.{groupText, countsText, startText, programText};
 
 mod components;
@@ -24,7 +25,7 @@ use text::pieces::put_labelled;
 use text::put;
 
 fn put_group(room: &mut [u8], at: usize, group: usize) -> usize
-    ensures { λ r. ⌜ Wrote (groupText group) at (now (room .entry)) r (now (room .exit)) ⌝ }
+    ensures { λ r. ⌜ Writes (groupText group) at room r ⌝ }
 {
     let boot = Group::Boot;
     if group == wide(boot.number()) {
@@ -34,7 +35,7 @@ fn put_group(room: &mut [u8], at: usize, group: usize) -> usize
 }
 
 fn put_counts(room: &mut [u8], at: usize, components: usize, records: usize) -> usize
-    ensures { λ r. ⌜ Wrote (countsText components records) at (now (room .entry)) r (now (room .exit)) ⌝ }
+    ensures { λ r. ⌜ Writes (countsText components records) at room r ⌝ }
 {
     let a = put_counted(room, at, b", ", components, b" component");
     let b = put_counted(room, a, b", ", records, b" record");
@@ -43,7 +44,7 @@ fn put_counts(room: &mut [u8], at: usize, components: usize, records: usize) -> 
 
 fn put_start(room: &mut [u8], at: usize, p: &[u8]) -> usize
     requires { ⌜ startSize ≤ length (now p) ⌝ }
-    ensures { λ r. ⌜ Wrote (startText (now (p .entry))) at (now (room .entry)) r (now (room .exit)) ⌝ }
+    ensures { λ r. ⌜ Writes (startText (was p)) at room r ⌝ }
 {
     let a = put_group(room, at, wide(p[START_GROUP]));
     let b = put_labelled(room, a, b" program, number ", four(p, START_NUMBER));
@@ -51,7 +52,7 @@ fn put_start(room: &mut [u8], at: usize, p: &[u8]) -> usize
 }
 
 pub fn put_program(room: &mut [u8], at: usize, p: &[u8]) -> usize
-    ensures { λ r. ⌜ Wrote (programText (now (p .entry))) at (now (room .entry)) r (now (room .exit)) ⌝ }
+    ensures { λ r. ⌜ Writes (programText (was p)) at room r ⌝ }
 {
     if p.len() < START_BYTES {
         return put(room, at, b"?\n");

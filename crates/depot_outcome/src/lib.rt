@@ -1,9 +1,10 @@
 // What a run did, as text in lent room.
 ghost use Prim.Native.Nat.{_+_, _≤_};
 ghost use lib.ListN.{length};
+ghost use Rattle.rules.specs.Lent.{was};
 ghost use Rattle.rules.specs.Slots.{slotBytes};
 ghost use Rattle.run_slots.specs.Slot.{Holds};
-ghost use Rattle.text.specs.Text.{Wrote};
+ghost use Rattle.text.specs.Text.{Writes};
 ghost use Rattle.depot_outcome.specs.Outcome.{endText, countsText, ranText, nameText, presentText, imageText, slotText, slotsText, runText};
 use byte_buffer::wide;
 use depot_events::put_events;
@@ -25,7 +26,7 @@ use text::put_byte;
 use text::put_spaces;
 
 fn put_end(room: &mut [u8], at: usize, end: usize, place: usize) -> usize
-    ensures { λ r. ⌜ Wrote (endText end place) at (now (room .entry)) r (now (room .exit)) ⌝ }
+    ensures { λ r. ⌜ Writes (endText end place) at room r ⌝ }
 {
     let a = put_labelled(room, at, b"end ", end);
     let b = put(room, a, b" (");
@@ -34,7 +35,7 @@ fn put_end(room: &mut [u8], at: usize, end: usize, place: usize) -> usize
 }
 
 fn put_counts(room: &mut [u8], at: usize, events: usize, used: usize) -> usize
-    ensures { λ r. ⌜ Wrote (countsText events used) at (now (room .entry)) r (now (room .exit)) ⌝ }
+    ensures { λ r. ⌜ Writes (countsText events used) at room r ⌝ }
 {
     let a = put_counted(room, at, b", ", events, b" event");
     put_counted(room, a, b", ", used, b" answer")
@@ -42,7 +43,7 @@ fn put_counts(room: &mut [u8], at: usize, events: usize, used: usize) -> usize
 
 // The end of a run that was not refused.
 pub(crate) fn put_ran(room: &mut [u8], at: usize, answer: RunAnswer) -> usize
-    ensures { λ r. ⌜ Wrote (ranText answer) at (now (room .entry)) r (now (room .exit)) ⌝ }
+    ensures { λ r. ⌜ Writes (ranText answer) at room r ⌝ }
 {
     let a = put_end(room, at, answer.end, answer.place);
     let b = put_counts(room, a, answer.events, answer.used);
@@ -52,7 +53,7 @@ pub(crate) fn put_ran(room: &mut [u8], at: usize, answer: RunAnswer) -> usize
 
 fn put_name(room: &mut [u8], at: usize, slots: &[u8], p: usize) -> usize
     requires { ⌜ p + slotBytes ≤ length (now slots) ⌝ }
-    ensures { λ r. ⌜ Wrote (nameText (now (slots .entry)) p) at (now (room .entry)) r (now (room .exit)) ⌝ }
+    ensures { λ r. ⌜ Writes (nameText (was slots) p) at room r ⌝ }
 {
     let n = least(wide(slots[p]), Controller::IDENTIFIER_BYTES);
     let a = put_spaces(room, at, 2);
@@ -60,7 +61,7 @@ fn put_name(room: &mut [u8], at: usize, slots: &[u8], p: usize) -> usize
 }
 
 fn put_present(room: &mut [u8], at: usize, present: u8) -> usize
-    ensures { λ r. ⌜ Wrote (presentText present) at (now (room .entry)) r (now (room .exit)) ⌝ }
+    ensures { λ r. ⌜ Writes (presentText present) at room r ⌝ }
 {
     if present == 0 {
         return put(room, at, b"  absent ");
@@ -70,7 +71,7 @@ fn put_present(room: &mut [u8], at: usize, present: u8) -> usize
 
 fn put_image(room: &mut [u8], at: usize, slots: &[u8], k: usize) -> usize
     requires { ⌜ Holds (now slots) k ⌝ }
-    ensures { λ r. ⌜ Wrote (imageText (now (slots .entry)) k) at (now (room .entry)) r (now (room .exit)) ⌝ }
+    ensures { λ r. ⌜ Writes (imageText (was slots) k) at room r ⌝ }
 {
     let p = SLOT_BYTES * k;
     let a = put_present(room, at, slots[p + IMAGE]);
@@ -82,7 +83,7 @@ fn put_image(room: &mut [u8], at: usize, slots: &[u8], k: usize) -> usize
 
 fn put_slot(room: &mut [u8], at: usize, slots: &[u8], k: usize) -> usize
     requires { ⌜ Holds (now slots) k ⌝ }
-    ensures { λ r. ⌜ Wrote (slotText (now (slots .entry)) k) at (now (room .entry)) r (now (room .exit)) ⌝ }
+    ensures { λ r. ⌜ Writes (slotText (was slots) k) at room r ⌝ }
 {
     let a = put_labelled(room, at, b"slot ", k);
     let b = put_name(room, a, slots, SLOT_BYTES * k);
@@ -92,7 +93,7 @@ fn put_slot(room: &mut [u8], at: usize, slots: &[u8], k: usize) -> usize
 
 // The slots, as many as are whole.
 pub(crate) fn put_slots(room: &mut [u8], at: usize, slots: &[u8]) -> usize
-    ensures { λ r. ⌜ Wrote (slotsText (now (slots .entry))) at (now (room .entry)) r (now (room .exit)) ⌝ }
+    ensures { λ r. ⌜ Writes (slotsText (was slots)) at room r ⌝ }
 {
     let n = slots.len() / SLOT_BYTES;
     let mut to = at;
@@ -113,7 +114,7 @@ pub fn put_run(
     trace: &[u8],
     slots: &[u8],
 ) -> usize
-    ensures { λ r. ⌜ Wrote (runText answer (now (s .entry)) (now (trace .entry)) (now (slots .entry))) at (now (room .entry)) r (now (room .exit)) ⌝ }
+    ensures { λ r. ⌜ Writes (runText answer (was s) (was trace) (was slots)) at room r ⌝ }
 {
     if answer.refusal == 0 {
         let a = put_events(room, at, trace, answer.events);

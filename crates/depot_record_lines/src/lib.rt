@@ -2,9 +2,10 @@
 ghost use mathlib.Core.Path.{_≡_};
 ghost use Prim.Native.Nat.{_+_, _-_, _≤_};
 ghost use lib.ListN.{length};
+ghost use Rattle.rules.specs.Lent.{was};
 ghost use Rattle.rules.specs.ProgramFormat.{argumentFrom};
 ghost use Rattle.rules.specs.ProgramFormat.{recordSize as ProgramFormat·recordSize};
-ghost use Rattle.text.specs.Text.{Wrote};
+ghost use Rattle.text.specs.Text.{Writes};
 ghost use Rattle.text_names.specs.Words.{wide as Words·wide};
 ghost use Rattle.rules.specs.Bytes.{twoAt};
 ghost use Rattle.depot_record_lines.specs.Lines.{column, nameText, lineText, targetText, failureText, jumpText, recordSize, commandText, recordText, recordsText};
@@ -31,7 +32,7 @@ use text_names::put_command;
 const COLUMN: usize = 26;
 
 fn put_name(room: &mut [u8], at: usize, code: usize) -> usize
-    ensures { λ r. ⌜ Wrote (nameText code) at (now (room .entry)) r (now (room .exit)) ⌝ }
+    ensures { λ r. ⌜ Writes (nameText code) at room r ⌝ }
 {
     let to = put_command(room, at, code);
     put_code(room, to, code)
@@ -51,14 +52,14 @@ fn gap(from: usize, to: usize) -> usize
 }
 
 fn put_label(room: &mut [u8], at: usize, code: usize) -> usize
-    ensures { λ r. ⌜ Wrote (Words·wide column (nameText code)) at (now (room .entry)) r (now (room .exit)) ⌝ }
+    ensures { λ r. ⌜ Writes (Words·wide column (nameText code)) at room r ⌝ }
 {
     let a = put_name(room, at, code);
     put_spaces(room, a, gap(at, a))
 }
 
 fn put_line(room: &mut [u8], at: usize, code: usize, component: usize, place: usize) -> usize
-    ensures { λ r. ⌜ Wrote (lineText code component place) at (now (room .entry)) r (now (room .exit)) ⌝ }
+    ensures { λ r. ⌜ Writes (lineText code component place) at room r ⌝ }
 {
     let a = put_label(room, at, code);
     let b = put_labelled(room, a, b"component ", component);
@@ -67,7 +68,7 @@ fn put_line(room: &mut [u8], at: usize, code: usize, component: usize, place: us
 }
 
 fn put_target(room: &mut [u8], at: usize, total: usize, target: usize) -> usize
-    ensures { λ r. ⌜ Wrote (targetText total target) at (now (room .entry)) r (now (room .exit)) ⌝ }
+    ensures { λ r. ⌜ Writes (targetText total target) at room r ⌝ }
 {
     if target == NO_TARGET {
         return put(room, at, b"ends");
@@ -80,7 +81,7 @@ fn put_target(room: &mut [u8], at: usize, total: usize, target: usize) -> usize
 
 // Where a failed condition goes on.
 fn put_failure(room: &mut [u8], at: usize, total: usize, code: usize, target: usize) -> usize
-    ensures { λ r. ⌜ Wrote (failureText total code target) at (now (room .entry)) r (now (room .exit)) ⌝ }
+    ensures { λ r. ⌜ Writes (failureText total code target) at room r ⌝ }
 {
     if condition_of(code) {
         let a = put(room, at, b"  on failure: ");
@@ -91,7 +92,7 @@ fn put_failure(room: &mut [u8], at: usize, total: usize, code: usize, target: us
 }
 
 fn put_jump(room: &mut [u8], at: usize, total: usize, target: usize) -> usize
-    ensures { λ r. ⌜ Wrote (jumpText total target) at (now (room .entry)) r (now (room .exit)) ⌝ }
+    ensures { λ r. ⌜ Writes (jumpText total target) at room r ⌝ }
 {
     if target == total {
         return put(room, at, b"jump, finished\n");
@@ -102,7 +103,7 @@ fn put_jump(room: &mut [u8], at: usize, total: usize, target: usize) -> usize
 
 // How long the record at the start of the bytes is, 0 if none lies there.
 fn size_of(s: &[u8]) -> usize
-    ensures { λ r. ⌜ (r ≡ recordSize (now (s .entry))) × (r ≤ length (now (s .entry))) ⌝ }
+    ensures { λ r. ⌜ (r ≡ recordSize (was s)) × (r ≤ length (was s)) ⌝ }
 {
     if s.len() < RECORD_BYTES {
         return 0;
@@ -116,7 +117,7 @@ fn size_of(s: &[u8]) -> usize
 
 fn put_command_record(room: &mut [u8], at: usize, total: usize, s: &[u8]) -> usize
     requires { ⌜ ProgramFormat·recordSize + twoAt (now s) argumentFrom ≤ length (now s) ⌝ }
-    ensures { λ r. ⌜ Wrote (commandText total (now (s .entry))) at (now (room .entry)) r (now (room .exit)) ⌝ }
+    ensures { λ r. ⌜ Writes (commandText total (was s)) at room r ⌝ }
 {
     let code = wide(s[CODE]);
     let a = put_line(room, at, code, wide(s[COMPONENT]), two(s, PLACE));
@@ -127,7 +128,7 @@ fn put_command_record(room: &mut [u8], at: usize, total: usize, s: &[u8]) -> usi
 
 fn put_record(room: &mut [u8], at: usize, total: usize, n: usize, s: &[u8]) -> usize
     requires { ⌜ ProgramFormat·recordSize + twoAt (now s) argumentFrom ≤ length (now s) ⌝ }
-    ensures { λ r. ⌜ Wrote (recordText total n (now (s .entry))) at (now (room .entry)) r (now (room .exit)) ⌝ }
+    ensures { λ r. ⌜ Writes (recordText total n (was s)) at room r ⌝ }
 {
     let a = put_padded(room, at, n, 4);
     let b = put(room, a, b"  ");
@@ -138,7 +139,7 @@ fn put_record(room: &mut [u8], at: usize, total: usize, n: usize, s: &[u8]) -> u
 }
 
 pub fn put_records(room: &mut [u8], at: usize, s: &[u8], total: usize) -> usize
-    ensures { λ r. ⌜ Wrote (recordsText total (now (s .entry))) at (now (room .entry)) r (now (room .exit)) ⌝ }
+    ensures { λ r. ⌜ Writes (recordsText total (was s)) at room r ⌝ }
 {
     let mut to = at;
     let mut rest = s;

@@ -2,7 +2,8 @@
 ghost use mathlib.Core.Path.{_≡_};
 ghost use Prim.Native.Nat.{_<_, _+_, _-_};
 ghost use lib.ListN.{length};
-ghost use Rattle.text.specs.Text.{Wrote};
+ghost use Rattle.rules.specs.Lent.{was};
+ghost use Rattle.text.specs.Text.{Writes};
 ghost use Rattle.text.specs.Pieces.{part, spaced};
 ghost use Rattle.depot_refusals.specs.Refusals.{shown, refusedLine, beforeText, aroundText, refusedText};
 use rules::answers::Refusal;
@@ -19,7 +20,7 @@ const SHOWN: usize = 8;
 const END: usize = 1 + SHOWN;
 
 fn put_refused_line(room: &mut [u8], at: usize, number: usize, place: usize) -> usize
-    ensures { λ r. ⌜ Wrote (refusedLine number place) at (now (room .entry)) r (now (room .exit)) ⌝ }
+    ensures { λ r. ⌜ Writes (refusedLine number place) at room r ⌝ }
 {
     let a = put_labelled(room, at, b"refused with ", number);
     let b = put_labelled(room, a, b" at ", place);
@@ -38,7 +39,7 @@ fn back(p: usize) -> usize
 }
 
 fn put_before(room: &mut [u8], at: usize, s: &[u8], p: usize) -> usize
-    ensures { λ r. ⌜ Wrote (beforeText (now (s .entry)) p) at (now (room .entry)) r (now (room .exit)) ⌝ }
+    ensures { λ r. ⌜ Writes (beforeText (was s) p) at room r ⌝ }
 {
     let from = back(p);
     let a = put_labelled(room, at, b"  ", from);
@@ -49,7 +50,7 @@ fn put_before(room: &mut [u8], at: usize, s: &[u8], p: usize) -> usize
 // The bytes shown after p, or as many as there are.
 fn put_after(room: &mut [u8], at: usize, s: &[u8], p: usize) -> usize
     requires { ⌜ p < length (now s) ⌝ }
-    ensures { λ r. ⌜ Wrote (spaced (part (now (s .entry)) (p + 1) (p + (1 + shown)))) at (now (room .entry)) r (now (room .exit)) ⌝ }
+    ensures { λ r. ⌜ Writes (spaced (part (was s) (p + 1) (p + (1 + shown)))) at room r ⌝ }
 {
     let end = s.len();
     if end - p < END {
@@ -60,7 +61,7 @@ fn put_after(room: &mut [u8], at: usize, s: &[u8], p: usize) -> usize
 
 // The bytes around a place.
 fn put_around(room: &mut [u8], at: usize, s: &[u8], p: usize) -> usize
-    ensures { λ r. ⌜ Wrote (aroundText (now (s .entry)) p) at (now (room .entry)) r (now (room .exit)) ⌝ }
+    ensures { λ r. ⌜ Writes (aroundText (was s) p) at room r ⌝ }
 {
     let end = s.len();
     if end <= p {
@@ -76,7 +77,7 @@ fn put_around(room: &mut [u8], at: usize, s: &[u8], p: usize) -> usize
 }
 
 pub fn put_refused(room: &mut [u8], at: usize, number: usize, place: usize, s: &[u8]) -> usize
-    ensures { λ r. ⌜ Wrote (refusedText number place (now (s .entry))) at (now (room .entry)) r (now (room .exit)) ⌝ }
+    ensures { λ r. ⌜ Writes (refusedText number place (was s)) at room r ⌝ }
 {
     let to = put_refused_line(room, at, number, place);
     if number < Refusal::NOT_CBOR {

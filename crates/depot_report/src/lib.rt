@@ -1,7 +1,8 @@
 // The answers of check, newer and translate, as text in lent room.
 ghost use Prim.Native.Nat.{_<_};
+ghost use Rattle.rules.specs.Lent.{was};
 ghost use Rattle.rules.specs.Limits.{limits, sectionCount};
-ghost use Rattle.text.specs.Text.{Wrote};
+ghost use Rattle.text.specs.Text.{Writes};
 ghost use Rattle.depot_report.specs.Report.{componentText, componentsText, sectionText, sectionsText, spanText, manifestText, headText, acceptedText, checkedText, whichText, newerText, translatedText};
 use depot_refusals::put_refused;
 use pitvorgas::CheckAnswer;
@@ -21,7 +22,7 @@ use text_names::section_key;
 
 fn put_component(room: &mut [u8], at: usize, s: &[u8], ids: &Places, k: usize) -> usize
     requires { ⌜ k < limits .components ⌝ }
-    ensures { λ r. ⌜ Wrote (componentText (now (s .entry)) (now (ids .entry)) k) at (now (room .entry)) r (now (room .exit)) ⌝ }
+    ensures { λ r. ⌜ Writes (componentText (was s) (was ids) k) at room r ⌝ }
 {
     let a = put_labelled(room, at, b"component ", k);
     let b = put_spaces(room, a, 2);
@@ -30,7 +31,7 @@ fn put_component(room: &mut [u8], at: usize, s: &[u8], ids: &Places, k: usize) -
 }
 
 fn put_components(room: &mut [u8], at: usize, s: &[u8], ids: &Places, n: usize) -> usize
-    ensures { λ r. ⌜ Wrote (componentsText (now (s .entry)) (now (ids .entry)) n) at (now (room .entry)) r (now (room .exit)) ⌝ }
+    ensures { λ r. ⌜ Writes (componentsText (was s) (was ids) n) at room r ⌝ }
 {
     let end = least(n, Controller::COMPONENTS);
     let mut to = at;
@@ -43,7 +44,7 @@ fn put_components(room: &mut [u8], at: usize, s: &[u8], ids: &Places, n: usize) 
 }
 
 fn put_span(room: &mut [u8], at: usize, from: usize, to: usize) -> usize
-    ensures { λ r. ⌜ Wrote (spanText from to) at (now (room .entry)) r (now (room .exit)) ⌝ }
+    ensures { λ r. ⌜ Writes (spanText from to) at room r ⌝ }
 {
     let a = put_labelled(room, at, b" at ", from);
     let b = put_labelled(room, a, b" to ", to);
@@ -52,7 +53,7 @@ fn put_span(room: &mut [u8], at: usize, from: usize, to: usize) -> usize
 
 fn put_one_section(room: &mut [u8], at: usize, sections: &SectionPlaces, j: usize) -> usize
     requires { ⌜ j < sectionCount ⌝ }
-    ensures { λ r. ⌜ Wrote (sectionText (now (sections .entry)) j) at (now (room .entry)) r (now (room .exit)) ⌝ }
+    ensures { λ r. ⌜ Writes (sectionText (was sections) j) at room r ⌝ }
 {
     let end = sections[2 * j + 1];
     if end == 0 {
@@ -64,7 +65,7 @@ fn put_one_section(room: &mut [u8], at: usize, sections: &SectionPlaces, j: usiz
 }
 
 fn put_sections(room: &mut [u8], at: usize, sections: &SectionPlaces) -> usize
-    ensures { λ r. ⌜ Wrote (sectionsText (now (sections .entry))) at (now (room .entry)) r (now (room .exit)) ⌝ }
+    ensures { λ r. ⌜ Writes (sectionsText (was sections)) at room r ⌝ }
 {
     let mut to = at;
     let mut j = 0;
@@ -76,21 +77,21 @@ fn put_sections(room: &mut [u8], at: usize, sections: &SectionPlaces) -> usize
 }
 
 fn put_manifest(room: &mut [u8], at: usize, from: usize, to: usize) -> usize
-    ensures { λ r. ⌜ Wrote (manifestText from to) at (now (room .entry)) r (now (room .exit)) ⌝ }
+    ensures { λ r. ⌜ Writes (manifestText from to) at room r ⌝ }
 {
     let a = put(room, at, b"manifest");
     put_span(room, a, from, to)
 }
 
 fn put_head(room: &mut [u8], at: usize, number: usize) -> usize
-    ensures { λ r. ⌜ Wrote (headText number) at (now (room .entry)) r (now (room .exit)) ⌝ }
+    ensures { λ r. ⌜ Writes (headText number) at room r ⌝ }
 {
     let a = put_labelled(room, at, b"accepted\nnumber ", number);
     put_byte(room, a, b'\n')
 }
 
 fn put_accepted(room: &mut [u8], at: usize, answer: CheckAnswer, envelope: &[u8]) -> usize
-    ensures { λ r. ⌜ Wrote (acceptedText answer (now (envelope .entry))) at (now (room .entry)) r (now (room .exit)) ⌝ }
+    ensures { λ r. ⌜ Writes (acceptedText answer (was envelope)) at room r ⌝ }
 {
     let ids = answer.ids;
     let sections = answer.sections;
@@ -102,7 +103,7 @@ fn put_accepted(room: &mut [u8], at: usize, answer: CheckAnswer, envelope: &[u8]
 
 // What check answered for the envelope.
 pub fn put_checked(room: &mut [u8], at: usize, answer: CheckAnswer, envelope: &[u8]) -> usize
-    ensures { λ r. ⌜ Wrote (checkedText answer (now (envelope .entry))) at (now (room .entry)) r (now (room .exit)) ⌝ }
+    ensures { λ r. ⌜ Writes (checkedText answer (was envelope)) at room r ⌝ }
 {
     if answer.refusal == 0 {
         return put_accepted(room, at, answer, envelope);
@@ -112,7 +113,7 @@ pub fn put_checked(room: &mut [u8], at: usize, answer: CheckAnswer, envelope: &[
 
 // What newer answered, and the number of the manifest that it handed back.
 pub fn put_newer(room: &mut [u8], at: usize, answer: NewerAnswer, number: usize) -> usize
-    ensures { λ r. ⌜ Wrote (newerText answer number) at (now (room .entry)) r (now (room .exit)) ⌝ }
+    ensures { λ r. ⌜ Writes (newerText answer number) at room r ⌝ }
 {
     if answer.to == 0 {
         return put(room, at, b"both refused\n");
@@ -124,7 +125,7 @@ pub fn put_newer(room: &mut [u8], at: usize, answer: NewerAnswer, number: usize)
 }
 
 fn put_which(room: &mut [u8], at: usize, second: usize) -> usize
-    ensures { λ r. ⌜ Wrote (whichText second) at (now (room .entry)) r (now (room .exit)) ⌝ }
+    ensures { λ r. ⌜ Writes (whichText second) at room r ⌝ }
 {
     if second == 0 {
         return put(room, at, b"first");
@@ -134,7 +135,7 @@ fn put_which(room: &mut [u8], at: usize, second: usize) -> usize
 
 // A program that translate wrote.
 pub fn put_translated(room: &mut [u8], at: usize, length: usize) -> usize
-    ensures { λ r. ⌜ Wrote (translatedText length) at (now (room .entry)) r (now (room .exit)) ⌝ }
+    ensures { λ r. ⌜ Writes (translatedText length) at room r ⌝ }
 {
     let a = put_labelled(room, at, b"program of ", length);
     put(room, a, b" bytes\n")

@@ -1,7 +1,8 @@
 // A manifest as a person reads it, in lent room.
 ghost use Prim.Native.Nat.{_≤_};
+ghost use Rattle.rules.specs.Lent.{was};
 ghost use Rattle.rules.specs.Limits.{limits};
-ghost use Rattle.text.specs.Text.{Wrote};
+ghost use Rattle.text.specs.Text.{Writes};
 ghost use Rattle.depot_show.specs.Manifest.{componentText, componentsText, sectionText, sectionsText, partsText, manifestText};
 use check_envelope::report::Report;
 use depot_items::line::NEWLINE;
@@ -22,7 +23,7 @@ mod walk;
 
 // Component `k`, whose identifier stands from `from` to `end`.
 fn put_component(room: &mut [u8], at: usize, s: &[u8], k: usize, from: usize, end: usize) -> usize
-    ensures { λ r. ⌜ Wrote (componentText (now (s .entry)) k from end) at (now (room .entry)) r (now (room .exit)) ⌝ }
+    ensures { λ r. ⌜ Writes (componentText (was s) k from end) at room r ⌝ }
 {
     let a = put_labelled(room, at, b"component ", k);
     let b = put(room, a, b"  ");
@@ -34,7 +35,7 @@ fn put_component(room: &mut [u8], at: usize, s: &[u8], k: usize, from: usize, en
 // The first `n` components.
 fn put_components(room: &mut [u8], at: usize, s: &[u8], n: usize, ids: &Places) -> usize
     requires { ⌜ n ≤ limits .components ⌝ }
-    ensures { λ r. ⌜ Wrote (componentsText (now (s .entry)) (now (ids .entry)) n) at (now (room .entry)) r (now (room .exit)) ⌝ }
+    ensures { λ r. ⌜ Writes (componentsText (was s) (was ids) n) at room r ⌝ }
 {
     let mut to = at;
     let mut k = 0;
@@ -47,7 +48,7 @@ fn put_components(room: &mut [u8], at: usize, s: &[u8], n: usize, ids: &Places) 
 
 // The section under `key`, whose sequence stands from `from` to `end`; an end of 0 says that it is not there.
 fn put_section(room: &mut [u8], at: usize, s: &[u8], key: usize, from: usize, end: usize) -> usize
-    ensures { λ r. ⌜ Wrote (sectionText (now (s .entry)) key from end) at (now (room .entry)) r (now (room .exit)) ⌝ }
+    ensures { λ r. ⌜ Writes (sectionText (was s) key from end) at room r ⌝ }
 {
     if end == 0 {
         return at;
@@ -60,7 +61,7 @@ fn put_section(room: &mut [u8], at: usize, s: &[u8], key: usize, from: usize, en
 }
 
 fn put_sections(room: &mut [u8], at: usize, s: &[u8], sections: &SectionPlaces) -> usize
-    ensures { λ r. ⌜ Wrote (sectionsText (now (s .entry)) (now (sections .entry))) at (now (room .entry)) r (now (room .exit)) ⌝ }
+    ensures { λ r. ⌜ Writes (sectionsText (was s) (was sections)) at room r ⌝ }
 {
     let mut to = at;
     let mut j = 0;
@@ -88,7 +89,7 @@ pub fn put_parts(
     ids: &Places,
     sections: &SectionPlaces,
 ) -> usize
-    ensures { λ r. ⌜ Wrote (partsText (now (s .entry)) number components (now (ids .entry)) (now (sections .entry))) at (now (room .entry)) r (now (room .exit)) ⌝ }
+    ensures { λ r. ⌜ Writes (partsText (was s) number components (was ids) (was sections)) at room r ⌝ }
 {
     let a = put_labelled(room, at, b"number ", number);
     let b = put_byte(room, a, NEWLINE);
@@ -98,7 +99,7 @@ pub fn put_parts(
 
 // The manifest of an envelope that check has accepted, by check's report.
 pub(crate) fn put_manifest(room: &mut [u8], at: usize, s: &[u8], report: Report) -> usize
-    ensures { λ r. ⌜ Wrote (manifestText (now (s .entry)) report) at (now (room .entry)) r (now (room .exit)) ⌝ }
+    ensures { λ r. ⌜ Writes (manifestText (was s) report) at room r ⌝ }
 {
     let ids = report.ids;
     let sections = report.sections;

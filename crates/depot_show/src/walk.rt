@@ -1,6 +1,7 @@
 // Commands and sequences of any bytes. Where a code, a key, a string or a sequence is not there, a mark stands for it, and the walk goes on
 // after its container.
 ghost use mathlib.Core.Path.{_≡_};
+ghost use Rattle.rules.specs.Lent.{was, left};
 ghost use Rattle.rules_tables.specs.Kinds.{kindOf};
 ghost use Rattle.depot_show.specs.Shown.{holdsSequence, Shows, stopped, parametersShown, nestedShown, alternativesShown, commandShown, commandsShown, sequenceShown};
 use depot_items::line::NEWLINE;
@@ -24,7 +25,7 @@ pub struct Put {
 
 // For a sequence that is not there.
 fn put_stop(room: &mut [u8], to: usize, depth: usize, e: usize) -> Put
-    ensures { λ r. ⌜ Shows (stopped depth e) to (now (room .entry)) r (now (room .exit)) ⌝ }
+    ensures { λ r. ⌜ Shows (stopped depth e) to (was room) r (left room) ⌝ }
 {
     let a = put_margin(room, to, 8, depth);
     let b = put(room, a, b"?");
@@ -42,7 +43,7 @@ fn put_parameters(
     at: usize,
     count: usize,
 ) -> Put
-    ensures { λ r. ⌜ Shows (parametersShown (now (s .entry)) depth count e at) to (now (room .entry)) r (now (room .exit)) ⌝ }
+    ensures { λ r. ⌜ Shows (parametersShown (was s) depth count e at) to (was room) r (left room) ⌝ }
 {
     let mut next = at;
     let mut end = to;
@@ -62,7 +63,7 @@ fn put_parameters(
 
 // The sequence in the byte string at `at`.
 fn put_nested(room: &mut [u8], to: usize, s: &[u8], depth: usize, e: usize, at: usize) -> Put
-    ensures { λ r. ⌜ Shows (nestedShown (now (s .entry)) (sequenceShown (now (s .entry)) depth) e at) to (now (room .entry)) r (now (room .exit)) ⌝ }
+    ensures { λ r. ⌜ Shows (nestedShown (was s) (sequenceShown (was s) depth) e at) to (was room) r (left room) ⌝ }
 {
     let b = want(s, e, at, cbor::BYTES);
     let r = put_sequence(room, to, s, depth, b.after, b.next);
@@ -81,7 +82,7 @@ fn put_alternatives(
     at: usize,
     count: usize,
 ) -> Put
-    ensures { λ r. ⌜ Shows (alternativesShown (now (s .entry)) (sequenceShown (now (s .entry)) depth) depth count count e at) to (now (room .entry)) r (now (room .exit)) ⌝ }
+    ensures { λ r. ⌜ Shows (alternativesShown (was s) (sequenceShown (was s) depth) depth count count e at) to (was room) r (left room) ⌝ }
 {
     let mut next = at;
     let mut end = to;
@@ -116,7 +117,7 @@ fn holds_sequence(code: usize) -> bool
 
 // The command at `at`; the sequences that it holds may be `depth` deep.
 fn put_command(room: &mut [u8], to: usize, s: &[u8], depth: usize, e: usize, at: usize) -> Put
-    ensures { λ r. ⌜ Shows (commandShown (now (s .entry)) (sequenceShown (now (s .entry)) depth) depth e at) to (now (room .entry)) r (now (room .exit)) ⌝ }
+    ensures { λ r. ⌜ Shows (commandShown (was s) (sequenceShown (was s) depth) depth e at) to (was room) r (left room) ⌝ }
 {
     let c = want(s, e, at, cbor::NUMBER);
     let i = look(s, e, c.next);
@@ -150,7 +151,7 @@ fn put_commands(
     at: usize,
     count: usize,
 ) -> Put
-    ensures { λ r. ⌜ Shows (commandsShown (now (s .entry)) (sequenceShown (now (s .entry)) depth) depth count e at) to (now (room .entry)) r (now (room .exit)) ⌝ }
+    ensures { λ r. ⌜ Shows (commandsShown (was s) (sequenceShown (was s) depth) depth count e at) to (was room) r (left room) ⌝ }
 {
     let mut next = at;
     let mut end = to;
@@ -176,7 +177,7 @@ pub(crate) fn put_sequence(
     e: usize,
     at: usize,
 ) -> Put
-    ensures { λ r. ⌜ Shows (sequenceShown (now (s .entry)) depth e at) to (now (room .entry)) r (now (room .exit)) ⌝ }
+    ensures { λ r. ⌜ Shows (sequenceShown (was s) depth e at) to (was room) r (left room) ⌝ }
 {
     if depth == 0 {
         return put_stop(room, to, 0, e);

@@ -1,5 +1,6 @@
 // The command line of the depot tool: which job its words ask for.
 ghost use mathlib.Core.Path.{_≡_};
+ghost use Rattle.rules.specs.Lent.{was};
 ghost use Rattle.depot_usage.specs.Usage.{named, jobOf, askedOf};
 use device_text::is;
 
@@ -23,7 +24,7 @@ pub enum Asked {
 
 // Whether the word is that name, on a command line of that many words.
 fn is_named(word: &[u8], count: usize, name: &[u8], wanted: usize) -> bool
-    ensures { λ r. ⌜ r ≡ named (now (word .entry)) count (now (name .entry)) wanted ⌝ }
+    ensures { λ r. ⌜ r ≡ named (was word) count (was name) wanted ⌝ }
 {
     if count != wanted {
         return false;
@@ -33,7 +34,7 @@ fn is_named(word: &[u8], count: usize, name: &[u8], wanted: usize) -> bool
 
 // The job, by the first word and how many words there are with the program's own name.
 pub fn job_of(word: &[u8], count: usize) -> Job
-    ensures { λ r. ⌜ r ≡ jobOf (now (word .entry)) count ⌝ }
+    ensures { λ r. ⌜ r ≡ jobOf (was word) count ⌝ }
 {
     if is_named(word, count, b"check", 3) {
         return Job::Check;
@@ -61,7 +62,7 @@ pub fn job_of(word: &[u8], count: usize) -> Job
 
 // The group that a word names.
 pub fn asked_group(word: &[u8]) -> Asked
-    ensures { λ r. ⌜ r ≡ askedOf (now (word .entry)) ⌝ }
+    ensures { λ r. ⌜ r ≡ askedOf (was word) ⌝ }
 {
     if is_named(word, 0, b"install", 0) {
         return Asked::Install;

@@ -4,6 +4,7 @@ ghost use mathlib.Core.Bool.{_&&_};
 ghost use Prim.Native.Nat.{_+_};
 ghost use lib.Dec.{leb};
 ghost use lib.ListN.{length};
+ghost use Rattle.rules.specs.Lent.{was, left};
 ghost use Rattle.rules.specs.Bytes.{same, put};
 ghost use Rattle.device_description.specs.Scenario as Rule;
 ghost use Rattle.device_description.specs.Values.{flagIf, nameOf};
@@ -87,7 +88,7 @@ struct Name {
 }
 
 fn read_flag(t: &[u8], yes: &[u8], no: &[u8], before: bool) -> Flag
-    ensures { λ r. ⌜ r ≡ flagIf (same (now (t .entry)) (now (yes .entry))) (same (now (t .entry)) (now (no .entry))) before ⌝ }
+    ensures { λ r. ⌜ r ≡ flagIf (same (was t) (was yes)) (same (was t) (was no)) before ⌝ }
 {
     if is(t, yes) {
         return Flag {
@@ -108,7 +109,7 @@ fn read_flag(t: &[u8], yes: &[u8], no: &[u8], before: bool) -> Flag
 }
 
 fn read_name(t: &[u8], before: Sixteen) -> Name
-    ensures { λ r. ⌜ r ≡ nameOf (now (t .entry)) before ⌝ }
+    ensures { λ r. ⌜ r ≡ nameOf (was t) before ⌝ }
 {
     if is_bytes(Controller::CLASS_BYTES, t) {
         let bytes = sixteen(t);
@@ -122,7 +123,7 @@ fn read_name(t: &[u8], before: Sixteen) -> Name
 
 // The lines that set a value: n is the number of the line, t what stands behind the word in front.
 fn verdict_line(mut d: Scenario, n: usize, t: &[u8]) -> Scenario
-    ensures { λ r. ⌜ r ≡ Rule.verdictLine n d (now (t .entry)) ⌝ }
+    ensures { λ r. ⌜ r ≡ Rule.verdictLine n d (was t) ⌝ }
 {
     let f = read_flag(t, b"good", b"bad", d.verdict);
     d.verdict = f.on;
@@ -130,7 +131,7 @@ fn verdict_line(mut d: Scenario, n: usize, t: &[u8]) -> Scenario
 }
 
 fn event_line(mut d: Scenario, n: usize, t: &[u8]) -> Scenario
-    ensures { λ r. ⌜ r ≡ Rule.eventLine n d (now (t .entry)) ⌝ }
+    ensures { λ r. ⌜ r ≡ Rule.eventLine n d (was t) ⌝ }
 {
     let f = read_flag(t, b"open", b"closed", d.event);
     d.event = f.on;
@@ -138,7 +139,7 @@ fn event_line(mut d: Scenario, n: usize, t: &[u8]) -> Scenario
 }
 
 fn vendor_line(mut d: Scenario, n: usize, t: &[u8]) -> Scenario
-    ensures { λ r. ⌜ r ≡ Rule.vendorLine n d (now (t .entry)) ⌝ }
+    ensures { λ r. ⌜ r ≡ Rule.vendorLine n d (was t) ⌝ }
 {
     let before = d.vendor;
     let name = read_name(t, before);
@@ -148,7 +149,7 @@ fn vendor_line(mut d: Scenario, n: usize, t: &[u8]) -> Scenario
 }
 
 fn class_line(mut d: Scenario, n: usize, t: &[u8]) -> Scenario
-    ensures { λ r. ⌜ r ≡ Rule.classLine n d (now (t .entry)) ⌝ }
+    ensures { λ r. ⌜ r ≡ Rule.classLine n d (was t) ⌝ }
 {
     let before = d.class;
     let name = read_name(t, before);
@@ -158,7 +159,7 @@ fn class_line(mut d: Scenario, n: usize, t: &[u8]) -> Scenario
 }
 
 fn number_line(mut d: Scenario, n: usize, t: &[u8]) -> Scenario
-    ensures { λ r. ⌜ r ≡ Rule.numberLine n d (now (t .entry)) ⌝ }
+    ensures { λ r. ⌜ r ≡ Rule.numberLine n d (was t) ⌝ }
 {
     let number = decimal(t);
     if number < NO_NUMBER {
@@ -169,7 +170,7 @@ fn number_line(mut d: Scenario, n: usize, t: &[u8]) -> Scenario
 }
 
 fn setting(d: Scenario, n: usize, w: &[u8], t: &[u8]) -> Scenario
-    ensures { λ r. ⌜ r ≡ Rule.setting n d (now (w .entry)) (now (t .entry)) ⌝ }
+    ensures { λ r. ⌜ r ≡ Rule.setting n d (was w) (was t) ⌝ }
 {
     if is(w, b"verdict") {
         return verdict_line(d, n, t);
@@ -206,7 +207,7 @@ fn fits(good: bool, at: usize, width: usize, length: usize) -> bool
 }
 
 fn slot_line(mut d: Scenario, n: usize, t: &[u8], slots: &mut [u8]) -> Scenario
-    ensures { λ r. ⌜ (r ≡ Rule.slotLine (length (now (slots .entry))) n d (now (t .entry)) .scenario) × (now (slots .exit) ≡ put (now (slots .entry)) (d .slots) (Rule.slotLine (length (now (slots .entry))) n d (now (t .entry)) .slots)) ⌝ }
+    ensures { λ r. ⌜ (r ≡ Rule.slotLine (length (was slots)) n d (was t) .scenario) × (left slots ≡ put (was slots) (d .slots) (Rule.slotLine (length (was slots)) n d (was t) .slots)) ⌝ }
 {
     let at = d.slots;
     if !fits(is_slot(t), at, SLOT_BYTES, slots.len()) {
@@ -218,7 +219,7 @@ fn slot_line(mut d: Scenario, n: usize, t: &[u8], slots: &mut [u8]) -> Scenario
 }
 
 fn answer_line(mut d: Scenario, n: usize, t: &[u8], answers: &mut [u8]) -> Scenario
-    ensures { λ r. ⌜ (r ≡ Rule.answerLine (length (now (answers .entry))) n d (now (t .entry)) .scenario) × (now (answers .exit) ≡ put (now (answers .entry)) (d .answers) (Rule.answerLine (length (now (answers .entry))) n d (now (t .entry)) .answers)) ⌝ }
+    ensures { λ r. ⌜ (r ≡ Rule.answerLine (length (was answers)) n d (was t) .scenario) × (left answers ≡ put (was answers) (d .answers) (Rule.answerLine (length (was answers)) n d (was t) .answers)) ⌝ }
 {
     let at = d.answers;
     if !fits(is_answer(t), at, IMAGE_BYTES, answers.len()) {
@@ -231,7 +232,7 @@ fn answer_line(mut d: Scenario, n: usize, t: &[u8], answers: &mut [u8]) -> Scena
 
 // An empty line, or a comment.
 fn passed(l: &[u8]) -> bool
-    ensures { λ r. ⌜ r ≡ Rule.passed (now (l .entry)) ⌝ }
+    ensures { λ r. ⌜ r ≡ Rule.passed (was l) ⌝ }
 {
     if l.len() == 0 {
         return true;
@@ -241,7 +242,7 @@ fn passed(l: &[u8]) -> bool
 
 // One line.
 fn take_line(d: Scenario, n: usize, l: &[u8], slots: &mut [u8], answers: &mut [u8]) -> Scenario
-    ensures { λ r. ⌜ Rule.Took (Rule.line (length (now (slots .entry))) (length (now (answers .entry))) n d (now (l .entry))) d (now (slots .entry)) (now (answers .entry)) r (now (slots .exit)) (now (answers .exit)) ⌝ }
+    ensures { λ r. ⌜ Rule.Took (Rule.line (length (was slots)) (length (was answers)) n d (was l)) d (was slots) (was answers) r (left slots) (left answers) ⌝ }
 {
     if passed(l) {
         return d;
@@ -259,7 +260,7 @@ fn take_line(d: Scenario, n: usize, l: &[u8], slots: &mut [u8], answers: &mut [u
 
 // A description, whatever its bytes. Slots and answers are put into the lent rooms, each from the start; more than fit are refused as a line is.
 pub fn describe(text: &[u8], slots: &mut [u8], answers: &mut [u8]) -> Scenario
-    ensures { λ r. ⌜ Rule.Describes (Rule.described (length (now (slots .entry))) (length (now (answers .entry))) (now (text .entry))) (now (slots .entry)) (now (answers .entry)) r (now (slots .exit)) (now (answers .exit)) ⌝ }
+    ensures { λ r. ⌜ Rule.Describes (Rule.described (length (was slots)) (length (was answers)) (was text)) (was slots) (was answers) r (left slots) (left answers) ⌝ }
 {
     let mut d = start();
     let mut n = 1;

@@ -2,6 +2,7 @@
 ghost use mathlib.Core.Path.{_≡_};
 ghost use Prim.Native.Nat.{_≤_};
 ghost use lib.ListN.{length, take};
+ghost use Rattle.rules.specs.Lent.{was};
 ghost use Rattle.rules.specs.Bytes.{same};
 ghost use Rattle.device_text.specs.Words as Words;
 use byte_buffer::equal;
@@ -17,7 +18,7 @@ const RETURN: u8 = 13;
 
 // Where b first stands in s; the length of s, if it does not.
 pub(crate) fn until(s: &[u8], b: u8) -> usize
-    ensures { λ r. ⌜ (r ≡ Words.until b (now (s .entry))) × (r ≤ length (now (s .entry))) ⌝ }
+    ensures { λ r. ⌜ (r ≡ Words.until b (was s)) × (r ≤ length (was s)) ⌝ }
 {
     let mut i = 0;
     while i < s.len() {
@@ -31,14 +32,14 @@ pub(crate) fn until(s: &[u8], b: u8) -> usize
 
 // The first word, and what stands behind it.
 pub fn word(s: &[u8]) -> &[u8]
-    ensures { λ r. ⌜ now r ≡ Words.word (now (s .entry)) ⌝ }
+    ensures { λ r. ⌜ now r ≡ Words.word (was s) ⌝ }
 {
     let n = until(s, SPACE);
     &s[..n]
 }
 
 pub fn rest(s: &[u8]) -> &[u8]
-    ensures { λ r. ⌜ now r ≡ Words.rest (now (s .entry)) ⌝ }
+    ensures { λ r. ⌜ now r ≡ Words.rest (was s) ⌝ }
 {
     let n = until(s, SPACE);
     if n < s.len() {
@@ -49,7 +50,7 @@ pub fn rest(s: &[u8]) -> &[u8]
 }
 
 pub fn is(a: &[u8], b: &[u8]) -> bool
-    ensures { λ r. ⌜ r ≡ same (now (a .entry)) (now (b .entry)) ⌝ }
+    ensures { λ r. ⌜ r ≡ same (was a) (was b) ⌝ }
 {
     if a.len() != b.len() {
         return false;
@@ -68,7 +69,7 @@ fn blank(x: u8) -> bool
 
 // How long a line is without the blanks at its end.
 pub(crate) fn trimmed(s: &[u8]) -> usize
-    ensures { λ r. ⌜ (r ≤ length (now (s .entry))) × (take r (now (s .entry)) ≡ Words.trim (now (s .entry))) ⌝ }
+    ensures { λ r. ⌜ (r ≤ length (was s)) × (take r (was s) ≡ Words.trim (was s)) ⌝ }
 {
     let mut n = s.len();
     while 0 < n {

@@ -2,6 +2,7 @@
 ghost use mathlib.Core.Path.{_≡_};
 ghost use Prim.Native.Nat.{_<_, _≤_};
 ghost use lib.ListN.{length, drop};
+ghost use Rattle.rules.specs.Lent.{was};
 ghost use Rattle.device_text.specs.Words as Words;
 use crate::trimmed;
 use crate::until;
@@ -9,7 +10,7 @@ use crate::until;
 const LINE_FEED: u8 = 10;
 
 fn behind(text: &[u8], at: usize) -> &[u8]
-    ensures { λ r. ⌜ now r ≡ drop at (now (text .entry)) ⌝ }
+    ensures { λ r. ⌜ now r ≡ drop at (was text) ⌝ }
 {
     if at < text.len() {
         return &text[at..];
@@ -20,7 +21,7 @@ fn behind(text: &[u8], at: usize) -> &[u8]
 
 // The line at a place, without the blanks at its end.
 pub fn line_at(text: &[u8], at: usize) -> &[u8]
-    ensures { λ r. ⌜ now r ≡ Words.trim (Words.before Words.lineFeed (drop at (now (text .entry)))) ⌝ }
+    ensures { λ r. ⌜ now r ≡ Words.trim (Words.before Words.lineFeed (drop at (was text))) ⌝ }
 {
     let t = behind(text, at);
     let n = until(t, LINE_FEED);
@@ -31,7 +32,7 @@ pub fn line_at(text: &[u8], at: usize) -> &[u8]
 
 // The place after it.
 pub fn next_line(text: &[u8], at: usize) -> usize
-    ensures { λ r. ⌜ (drop r (now (text .entry)) ≡ Words.after Words.lineFeed (drop at (now (text .entry)))) × (r ≤ length (now (text .entry))) × (at < length (now (text .entry)) → at < r) ⌝ }
+    ensures { λ r. ⌜ (drop r (was text) ≡ Words.after Words.lineFeed (drop at (was text))) × (r ≤ length (was text)) × (at < length (was text) → at < r) ⌝ }
 {
     let t = behind(text, at);
     let n = until(t, LINE_FEED);

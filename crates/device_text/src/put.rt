@@ -2,10 +2,11 @@
 ghost use mathlib.Core.Path.{_≡_};
 ghost use Prim.Native.Nat.{_%_};
 ghost use lib.ListN.{replicate};
+ghost use Rattle.rules.specs.Lent.{was, left};
 ghost use Rattle.rules.specs.Bytes.{be4};
 ghost use Rattle.rules.specs.Bytes.{put as Bytes·put};
 ghost use Rattle.rules.specs.Limits.{limits};
-ghost use Rattle.text.specs.Text.{Wrote};
+ghost use Rattle.text.specs.Text.{Writes};
 ghost use Rattle.device_text.specs.Words as Words;
 ghost use Rattle.device_text.specs.SlotText as Rule;
 use crate::is;
@@ -32,7 +33,7 @@ fn low(n: usize) -> u8
 
 // A number in four bytes.
 fn put_four(room: &mut [u8], at: usize, n: usize) -> usize
-    ensures { λ r. ⌜ Wrote (be4 n) at (now (room .entry)) r (now (room .exit)) ⌝ }
+    ensures { λ r. ⌜ Writes (be4 n) at room r ⌝ }
 {
     let a = put_byte(room, at, low(n / 16777216));
     let b = put_byte(room, a, low(n / 65536));
@@ -49,7 +50,7 @@ fn pair(a: u8, b: u8) -> u8
 
 // The bytes that a word writes in hexadecimal.
 fn put_bytes(room: &mut [u8], at: usize, w: &[u8]) -> usize
-    ensures { λ r. ⌜ Wrote (Words.bytes (now (w .entry))) at (now (room .entry)) r (now (room .exit)) ⌝ }
+    ensures { λ r. ⌜ Writes (Words.bytes (was w)) at room r ⌝ }
 {
     let n = w.len() / 2;
     let mut to = at;
@@ -63,7 +64,7 @@ fn put_bytes(room: &mut [u8], at: usize, w: &[u8]) -> usize
 
 // A vendor or a class.
 pub fn sixteen(w: &[u8]) -> Sixteen
-    ensures { λ r. ⌜ r ≡ Bytes·put (replicate (limits .class) 0) 0 (Words.bytes (now (w .entry))) ⌝ }
+    ensures { λ r. ⌜ r ≡ Bytes·put (replicate (limits .class) 0) 0 (Words.bytes (was w)) ⌝ }
 {
     let mut b = [0u8; Controller::CLASS_BYTES];
     put_bytes(&mut b, 0, w);
@@ -72,7 +73,7 @@ pub fn sixteen(w: &[u8]) -> Sixteen
 
 // An image: size and digest, which may be left out.
 fn put_image(room: &mut [u8], at: usize, t: &[u8]) -> usize
-    ensures { λ r. ⌜ Wrote (Rule.image (now (t .entry))) at (now (room .entry)) r (now (room .exit)) ⌝ }
+    ensures { λ r. ⌜ Writes (Rule.image (was t)) at room r ⌝ }
 {
     if t.len() == 0 {
         return put_times(room, at, 0, CONTENT);
@@ -83,7 +84,7 @@ fn put_image(room: &mut [u8], at: usize, t: &[u8]) -> usize
 
 // An identifier's length, and the identifier in as many bytes as a slot has for it.
 fn put_identifier(room: &mut [u8], at: usize, w: &[u8]) -> usize
-    ensures { λ r. ⌜ Wrote (Rule.identifier (now (w .entry))) at (now (room .entry)) r (now (room .exit)) ⌝ }
+    ensures { λ r. ⌜ Writes (Rule.identifier (was w)) at room r ⌝ }
 {
     let n = w.len() / 2;
     let a = put_byte(room, at, low(n));
@@ -95,7 +96,7 @@ fn put_identifier(room: &mut [u8], at: usize, w: &[u8]) -> usize
 }
 
 fn presence(w: &[u8]) -> u8
-    ensures { λ r. ⌜ r ≡ Rule.presence (now (w .entry)) ⌝ }
+    ensures { λ r. ⌜ r ≡ Rule.presence (was w) ⌝ }
 {
     if is(w, b"present") {
         return 1;
@@ -104,7 +105,7 @@ fn presence(w: &[u8]) -> u8
 }
 
 pub fn put_slot(room: &mut [u8], at: usize, t: &[u8]) -> usize
-    ensures { λ r. ⌜ Wrote (Rule.slot (now (t .entry))) at (now (room .entry)) r (now (room .exit)) ⌝ }
+    ensures { λ r. ⌜ Writes (Rule.slot (was t)) at room r ⌝ }
 {
     let a = put_identifier(room, at, word(t));
     let t2 = rest(t);
@@ -115,7 +116,7 @@ pub fn put_slot(room: &mut [u8], at: usize, t: &[u8]) -> usize
 }
 
 pub fn put_answer(room: &mut [u8], at: usize, t: &[u8]) -> usize
-    ensures { λ r. ⌜ Wrote (Rule.answer (now (t .entry))) at (now (room .entry)) r (now (room .exit)) ⌝ }
+    ensures { λ r. ⌜ Writes (Rule.answer (was t)) at room r ⌝ }
 {
     let a = put_byte(room, at, low(status(word(t))));
     put_image(room, a, rest(t))

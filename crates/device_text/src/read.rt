@@ -1,5 +1,6 @@
 // Numbers and bytes that words write.
 ghost use mathlib.Core.Path.{_≡_};
+ghost use Rattle.rules.specs.Lent.{was};
 ghost use Rattle.device_text.specs.Words as Words;
 use byte_buffer::wide;
 use rules::controller::Controller;
@@ -31,7 +32,7 @@ fn one_more(n: usize, b: u8) -> usize
 }
 
 pub fn decimal(w: &[u8]) -> usize
-    ensures { λ r. ⌜ r ≡ Words.number (now (w .entry)) ⌝ }
+    ensures { λ r. ⌜ r ≡ Words.number (was w) ⌝ }
 {
     if w.len() == 0 {
         return NO_NUMBER;
@@ -72,7 +73,7 @@ pub(crate) fn digit(b: u8) -> usize
 }
 
 fn all_digits(w: &[u8]) -> bool
-    ensures { λ r. ⌜ r ≡ Words.allDigits (now (w .entry)) ⌝ }
+    ensures { λ r. ⌜ r ≡ Words.allDigits (was w) ⌝ }
 {
     let mut i = 0;
     while i < w.len() {
@@ -86,7 +87,7 @@ fn all_digits(w: &[u8]) -> bool
 
 // A word is n bytes in hexadecimal; or 1 to n.
 pub fn is_bytes(n: usize, w: &[u8]) -> bool
-    ensures { λ r. ⌜ r ≡ Words.isBytes n (now (w .entry)) ⌝ }
+    ensures { λ r. ⌜ r ≡ Words.isBytes n (was w) ⌝ }
 {
     if w.len() / 2 != n {
         return false;
@@ -98,7 +99,7 @@ pub fn is_bytes(n: usize, w: &[u8]) -> bool
 }
 
 pub(crate) fn up_to_bytes(n: usize, w: &[u8]) -> bool
-    ensures { λ r. ⌜ r ≡ Words.upToBytes n (now (w .entry)) ⌝ }
+    ensures { λ r. ⌜ r ≡ Words.upToBytes n (was w) ⌝ }
 {
     if w.len() % 2 != 0 {
         return false;

@@ -1,5 +1,6 @@
 // Whether what stands in a line is a slot, or an answer.
 ghost use mathlib.Core.Path.{_≡_};
+ghost use Rattle.rules.specs.Lent.{was};
 ghost use Rattle.device_text.specs.SlotText as Rule;
 use crate::is;
 use crate::read::NO_NUMBER;
@@ -12,7 +13,7 @@ use rules::controller::Controller;
 
 // A size and a digest.
 fn is_image(t: &[u8]) -> bool
-    ensures { λ r. ⌜ r ≡ Rule.isImage (now (t .entry)) ⌝ }
+    ensures { λ r. ⌜ r ≡ Rule.isImage (was t) ⌝ }
 {
     if NO_NUMBER <= decimal(word(t)) {
         return false;
@@ -22,7 +23,7 @@ fn is_image(t: &[u8]) -> bool
 
 // Whether a slot is present, and its image.
 fn is_state(w: &[u8], t: &[u8]) -> bool
-    ensures { λ r. ⌜ r ≡ Rule.isState (now (w .entry)) (now (t .entry)) ⌝ }
+    ensures { λ r. ⌜ r ≡ Rule.isState (was w) (was t) ⌝ }
 {
     if is(w, b"present") {
         return is_image(t);
@@ -37,7 +38,7 @@ fn is_state(w: &[u8], t: &[u8]) -> bool
 }
 
 pub fn is_slot(t: &[u8]) -> bool
-    ensures { λ r. ⌜ r ≡ Rule.isSlot (now (t .entry)) ⌝ }
+    ensures { λ r. ⌜ r ≡ Rule.isSlot (was t) ⌝ }
 {
     if !up_to_bytes(Controller::IDENTIFIER_BYTES, word(t)) {
         return false;
@@ -52,7 +53,7 @@ pub fn is_slot(t: &[u8]) -> bool
 
 // The status of an answer: good, bad or a number.
 pub(crate) fn status(w: &[u8]) -> usize
-    ensures { λ r. ⌜ r ≡ Rule.status (now (w .entry)) ⌝ }
+    ensures { λ r. ⌜ r ≡ Rule.status (was w) ⌝ }
 {
     if is(w, b"good") {
         return 0;
@@ -64,7 +65,7 @@ pub(crate) fn status(w: &[u8]) -> usize
 }
 
 pub fn is_answer(t: &[u8]) -> bool
-    ensures { λ r. ⌜ r ≡ Rule.isAnswer (now (t .entry)) ⌝ }
+    ensures { λ r. ⌜ r ≡ Rule.isAnswer (was t) ⌝ }
 {
     if 255 < status(word(t)) {
         return false;

@@ -1,5 +1,6 @@
 // The arguments of commands that write an event, in an envelope that check has accepted.
 ghost use mathlib.Core.Path.{_≡_};
+ghost use Rattle.rules.specs.Lent.{was};
 ghost use Rattle.run_slots.specs.Params.{Fit};
 ghost use Rattle.manifest_accessors.specs.Arguments.{paramsOf, flagOf, givenOf, Within, bareAt, componentOf, EntryAt, EntryPut, Entries, ArgumentAt, ArgumentRead};
 use crate::heads::open;
@@ -64,7 +65,7 @@ fn flag(b: u8) -> usize
 // The parameter under that key at `at`, after those of `a`.
 fn entry(s: &[u8], key: usize, at: usize, a: Args) -> Args
     requires { ⌜ EntryAt (now s) key at ⌝ }
-    ensures { λ r. ⌜ ((x : EntryAt (now (s .entry)) key at) → EntryPut (now (s .entry)) key at x a r) ⌝ }
+    ensures { λ r. ⌜ ((x : EntryAt (was s) key at) → EntryPut (was s) key at x a r) ⌝ }
 {
     if key == COERCE {
         let mut r = a;
@@ -104,7 +105,7 @@ fn entry(s: &[u8], key: usize, at: usize, a: Args) -> Args
 // k entries of a map of parameters.
 fn read_entries(s: &[u8], k: usize, at: usize) -> Args
     requires { ⌜ Entries (now s) k at ⌝ }
-    ensures { λ r. ⌜ ((x : Entries (now (s .entry)) k at) → (givenOf (now (s .entry)) r ≡ x .given) × (r .next ≡ x .to) × Fit (now (s .entry)) (x .n) (paramsOf r) × Within (now (s .entry)) (paramsOf r)) ⌝ }
+    ensures { λ r. ⌜ ((x : Entries (was s) k at) → (givenOf (was s) r ≡ x .given) × (r .next ≡ x .to) × Fit (was s) (x .n) (paramsOf r) × Within (was s) (paramsOf r)) ⌝ }
 {
     let mut a = bare(0, at);
     let mut left = k;
@@ -119,7 +120,7 @@ fn read_entries(s: &[u8], k: usize, at: usize) -> Args
 // The argument at `at` of the command of that code. The codes of each kind of argument are the table's (proofs/KindLaws).
 pub fn read_one(s: &[u8], code: usize, at: usize) -> Args
     requires { ⌜ ArgumentAt (now s) code at ⌝ }
-    ensures { λ r. ⌜ ((x : ArgumentAt (now (s .entry)) code at) → ArgumentRead (now (s .entry)) code at x r) ⌝ }
+    ensures { λ r. ⌜ ((x : ArgumentAt (was s) code at) → ArgumentRead (was s) code at x r) ⌝ }
 {
     match code {
         VENDOR | CLASS => {

@@ -1,6 +1,7 @@
 // Heads of an envelope that check has accepted: nothing is tested again.
 ghost use mathlib.Core.Path.{_≡_};
 ghost use Prim.Native.Nat.{_+_};
+ghost use Rattle.rules.specs.Lent.{was};
 ghost use Rattle.manifest_accessors.specs.Heads.{HeadAt, Strings};
 use byte_buffer::four;
 use byte_buffer::two;
@@ -14,7 +15,7 @@ pub struct Opened {
 // The number of the head at `at`, and the place after it.
 pub fn open(s: &[u8], at: usize) -> Opened
     requires { ⌜ HeadAt (now s) at ⌝ }
-    ensures { λ r. ⌜ ((x : HeadAt (now (s .entry)) at) → (r .value ≡ x .head .num) × (r .next ≡ x .head .next)) ⌝ }
+    ensures { λ r. ⌜ ((x : HeadAt (was s) at) → (r .value ≡ x .head .num) × (r .next ≡ x .head .next)) ⌝ }
 {
     let low = wide(s[at]) % 32;
     let next = at + 1;
@@ -42,7 +43,7 @@ pub fn open(s: &[u8], at: usize) -> Opened
 // The place after k byte strings.
 pub fn skip(s: &[u8], k: usize, at: usize) -> usize
     requires { ⌜ Strings (now s) k at ⌝ }
-    ensures { λ r. ⌜ ((x : Strings (now (s .entry)) k at) → r ≡ x .to) ⌝ }
+    ensures { λ r. ⌜ ((x : Strings (was s) k at) → r ≡ x .to) ⌝ }
 {
     let mut p = at;
     let mut left = k;

@@ -3,6 +3,7 @@
 // (rules/specs/Answers.antt: refusalNumber, endNumber).
 ghost use mathlib.Core.Path.{_≡_};
 ghost use lib.ListN.{length};
+ghost use Rattle.rules.specs.Lent.{was, left};
 ghost use Rattle.rules.specs.Check as Check;
 ghost use Rattle.rules.specs.Newer as Newer;
 ghost use Rattle.rules.specs.Run.{runEnvelope};
@@ -129,7 +130,7 @@ fn answer_of(o: Outcome) -> RunAnswer
 
 #[no_mangle]
 pub extern "C" fn pitvorgas_check(envelope: &[u8]) -> CheckAnswer
-    ensures { λ r. ⌜ r ≡ checkedOf (Check.check (now (envelope .entry))) ⌝ }
+    ensures { λ r. ⌜ r ≡ checkedOf (Check.check (was envelope)) ⌝ }
 {
     let report = check(envelope);
     let answer = report.answer;
@@ -162,7 +163,7 @@ pub extern "C" fn pitvorgas_check(envelope: &[u8]) -> CheckAnswer
 
 #[no_mangle]
 pub extern "C" fn pitvorgas_newer(first: &[u8], second: &[u8]) -> NewerAnswer
-    ensures { λ r. ⌜ r ≡ newerOf (Newer.newer (now (first .entry)) (now (second .entry))) ⌝ }
+    ensures { λ r. ⌜ r ≡ newerOf (Newer.newer (was first) (was second)) ⌝ }
 {
     let n = choose(first, second);
     NewerAnswer {
@@ -178,7 +179,7 @@ pub extern "C" fn pitvorgas_translate(
     boot: bool,
     room: &mut [u8],
 ) -> TranslateAnswer
-    ensures { λ r. ⌜ (r ≡ translatedOf (Program.translate (now (envelope .entry)) (groupOf boot) (length (now (room .entry))))) × (now (room .exit) ≡ roomAfter (now (room .entry)) (Program.translate (now (envelope .entry)) (groupOf boot) (length (now (room .entry))))) ⌝ }
+    ensures { λ r. ⌜ (r ≡ translatedOf (Program.translate (was envelope) (groupOf boot) (length (was room)))) × (left room ≡ roomAfter (was room) (Program.translate (was envelope) (groupOf boot) (length (was room)))) ⌝ }
 {
     let answer = translate(envelope, group_of(boot), room);
     match answer {
@@ -205,7 +206,7 @@ pub extern "C" fn pitvorgas_run(
     answers: &[u8],
     trace: &mut [u8],
 ) -> RunAnswer
-    ensures { λ r. ⌜ (r ≡ ranOf (controllerOf device) (runEnvelope (now (envelope .entry)) (groupOf boot) (inputOf verdict (controllerOf device) (now (slots .entry)) (now (answers .entry)) (now (trace .entry))))) × (now (slots .exit) ≡ slotsAfter (now (slots .entry)) (runEnvelope (now (envelope .entry)) (groupOf boot) (inputOf verdict (controllerOf device) (now (slots .entry)) (now (answers .entry)) (now (trace .entry))))) × (now (trace .exit) ≡ traceAfter (now (trace .entry)) (runEnvelope (now (envelope .entry)) (groupOf boot) (inputOf verdict (controllerOf device) (now (slots .entry)) (now (answers .entry)) (now (trace .entry))))) ⌝ }
+    ensures { λ r. ⌜ (r ≡ ranOf (controllerOf device) (runEnvelope (was envelope) (groupOf boot) (inputOf verdict (controllerOf device) (was slots) (was answers) (was trace)))) × (left slots ≡ slotsAfter (was slots) (runEnvelope (was envelope) (groupOf boot) (inputOf verdict (controllerOf device) (was slots) (was answers) (was trace)))) × (left trace ≡ traceAfter (was trace) (runEnvelope (was envelope) (groupOf boot) (inputOf verdict (controllerOf device) (was slots) (was answers) (was trace)))) ⌝ }
 {
     let o = run(
         envelope,
@@ -228,7 +229,7 @@ pub extern "C" fn pitvorgas_run_program(
     answers: &[u8],
     trace: &mut [u8],
 ) -> RunAnswer
-    ensures { λ r. ⌜ (r ≡ ranOf (controllerOf device) (runProgram (now (program .entry)) (inputOf verdict (controllerOf device) (now (slots .entry)) (now (answers .entry)) (now (trace .entry))))) × (now (slots .exit) ≡ slotsAfter (now (slots .entry)) (runProgram (now (program .entry)) (inputOf verdict (controllerOf device) (now (slots .entry)) (now (answers .entry)) (now (trace .entry))))) × (now (trace .exit) ≡ traceAfter (now (trace .entry)) (runProgram (now (program .entry)) (inputOf verdict (controllerOf device) (now (slots .entry)) (now (answers .entry)) (now (trace .entry))))) ⌝ }
+    ensures { λ r. ⌜ (r ≡ ranOf (controllerOf device) (runProgram (was program) (inputOf verdict (controllerOf device) (was slots) (was answers) (was trace)))) × (left slots ≡ slotsAfter (was slots) (runProgram (was program) (inputOf verdict (controllerOf device) (was slots) (was answers) (was trace)))) × (left trace ≡ traceAfter (was trace) (runProgram (was program) (inputOf verdict (controllerOf device) (was slots) (was answers) (was trace)))) ⌝ }
 {
     let o = run_program(
         program,

@@ -2,6 +2,7 @@
 ghost use mathlib.Core.Path.{_≡_};
 ghost use Prim.Native.Nat.{ℕ, _-_, _≤_, _<_};
 ghost use lib.ListN.{length};
+ghost use Rattle.rules.specs.Lent.{was};
 ghost use Rattle.rules.specs.Bytes.{part};
 ghost use Rattle.rules.specs.Commands.{Form};
 ghost use Rattle.rules.specs.Tables.{kindOf};
@@ -27,7 +28,7 @@ const BOOT_SECTIONS: u8 = COMMON + VALIDATE + LOAD + RUN;
 // Whether the bytes from `from` to `to` are an argument of that kind, for n components.
 pub(crate) fn argument_fits(p: &[u8], argument: Argument, from: usize, to: usize, n: usize) -> bool
     requires { ⌜ (0 < from) × (from ≤ to) × (to ≤ length (now p)) ⌝ }
-    ensures { λ r. ⌜ ((form : Form) (i : ℕ) → kindOf form ≡ argument → r ≡ accepted (Rule.opIn n i form (part (now (p .entry)) from (to - from)))) ⌝ }
+    ensures { λ r. ⌜ ((form : Form) (i : ℕ) → kindOf form ≡ argument → r ≡ accepted (Rule.opIn n i form (part (was p) from (to - from)))) ⌝ }
 {
     match argument {
         Argument::Sixteen => to - from == Controller::CLASS_BYTES,

@@ -2,6 +2,7 @@
 ghost use mathlib.Core.Path.{_≡_};
 ghost use Prim.Native.Nat.{_+_, _-_, _≤_, _<_};
 ghost use lib.ListN.{length};
+ghost use Rattle.rules.specs.Lent.{was};
 ghost use Rattle.rules.specs.Bytes.{part};
 ghost use Rattle.rules.specs.ProgramFormat.{entrySize, sourceBytes, sizeBytes};
 ghost use Rattle.rules.specs.ProgramTest as Rule;
@@ -25,7 +26,7 @@ pub struct Entries {
 // The place after the parameter of that key, of lo to hi bytes, if it stands at `at` before `to`; 0 if it is not well formed.
 fn optional(p: &[u8], at: usize, to: usize, key: usize, lo: usize, hi: usize) -> usize
     requires { ⌜ (0 < at) × (at ≤ to) × (to ≤ length (now p)) ⌝ }
-    ensures { λ r. ⌜ r ≡ nextIn to (Rule.optional key lo hi (λ b. b) (part (now (p .entry)) at (to - at))) ⌝ }
+    ensures { λ r. ⌜ r ≡ nextIn to (Rule.optional key lo hi (λ b. b) (part (was p) at (to - at))) ⌝ }
 {
     if at == to {
         return at;
@@ -89,7 +90,7 @@ fn length_of(at: usize, next: usize) -> usize
 // One more than its value of one byte, and of four.
 fn source_of(p: &[u8], at: usize, next: usize) -> usize
     requires { ⌜ ((at ≡ next → ⊥) → at + entrySize + sourceBytes ≤ length (now p)) ⌝ }
-    ensures { λ r. ⌜ r ≡ sourceIn (now (p .entry)) at next ⌝ }
+    ensures { λ r. ⌜ r ≡ sourceIn (was p) at next ⌝ }
 {
     if at == next {
         return 0;
@@ -99,7 +100,7 @@ fn source_of(p: &[u8], at: usize, next: usize) -> usize
 
 fn size_of(p: &[u8], at: usize, next: usize) -> usize
     requires { ⌜ ((at ≡ next → ⊥) → at + entrySize + sizeBytes ≤ length (now p)) ⌝ }
-    ensures { λ r. ⌜ r ≡ sizeIn (now (p .entry)) at next ⌝ }
+    ensures { λ r. ⌜ r ≡ sizeIn (was p) at next ⌝ }
 {
     if at == next {
         return 0;
@@ -110,7 +111,7 @@ fn size_of(p: &[u8], at: usize, next: usize) -> usize
 // The parameters from `from` to `to`, for n components.
 pub fn read_params(p: &[u8], from: usize, to: usize, n: usize) -> Entries
     requires { ⌜ (0 < from) × (from ≤ to) × (to ≤ length (now p)) ⌝ }
-    ensures { λ r. ⌜ ParamsAre (now (p .entry)) n from to (Rule.paramsIn n (part (now (p .entry)) from (to - from))) r ⌝ }
+    ensures { λ r. ⌜ ParamsAre (was p) n from to (Rule.paramsIn n (part (was p) from (to - from))) r ⌝ }
 {
     let a = optional(p, from, to, codes::URI, 1, Controller::URI_BYTES);
     if a == 0 {

@@ -2,6 +2,7 @@
 ghost use mathlib.Core.Path.{_≡_};
 ghost use Prim.Native.Nat.{_+_, _≤_, _<_};
 ghost use lib.ListN.{length, drop};
+ghost use Rattle.rules.specs.Lent.{was};
 ghost use Rattle.rules.specs.ProgramFormat.{recordSize};
 ghost use Rattle.rules.specs.Tables.{byNumber};
 ghost use Rattle.rules.specs.ProgramTest as Rule;
@@ -30,7 +31,7 @@ use rules_tables::look_up;
 // Whether the jump at `at`, record n of `total` with an argument of `size` bytes, is well formed.
 fn jump_fits(p: &[u8], at: usize, size: usize, total: usize, n: usize) -> bool
     requires { ⌜ at + recordSize ≤ length (now p) ⌝ }
-    ensures { λ r. ⌜ r ≡ jumpFits (now (p .entry)) at size total n ⌝ }
+    ensures { λ r. ⌜ r ≡ jumpFits (was p) at size total n ⌝ }
 {
     if p[at + COMPONENT] != 0 {
         return false;
@@ -60,7 +61,7 @@ fn command_fits(
     n: usize,
 ) -> bool
     requires { ⌜ (at + recordSize ≤ next) × (next ≤ length (now p)) × (now table ≡ byNumber) ⌝ }
-    ensures { λ r. ⌜ r ≡ accepted (commandAt group components total n (now (p .entry)) at next) ⌝ }
+    ensures { λ r. ⌜ r ≡ accepted (commandAt group components total n (was p) at next) ⌝ }
 {
     let code = wide(p[at + CODE]);
     let Listed::Command(row) = look_up(table, code) else {
@@ -91,7 +92,7 @@ pub(crate) fn test_record(
     n: usize,
 ) -> usize
     requires { ⌜ (at ≤ length (now p)) × (now table ≡ byNumber) ⌝ }
-    ensures { λ r. ⌜ r ≡ nextIn (length (now (p .entry))) (Rule.recordIn group components total n (drop at (now (p .entry)))) ⌝ }
+    ensures { λ r. ⌜ r ≡ nextIn (length (was p)) (Rule.recordIn group components total n (drop at (was p))) ⌝ }
 {
     let left = p.len() - at;
     if left < RECORD_BYTES {

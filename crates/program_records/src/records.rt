@@ -2,6 +2,7 @@
 ghost use mathlib.Core.Path.{_≡_};
 ghost use Prim.Native.Nat.{_+_, _≤_, _<_};
 ghost use lib.ListN.{length, drop};
+ghost use Rattle.rules.specs.Lent.{was};
 ghost use Rattle.rules.specs.Limits.{limits};
 ghost use Rattle.rules.specs.Tables.{byNumber};
 ghost use Rattle.rules.specs.ProgramTest as Rule;
@@ -29,7 +30,7 @@ pub fn test_records(
     total: usize,
 ) -> Records
     requires { ⌜ (at ≤ length (now p)) × (now table ≡ byNumber) × (total ≤ limits .records) ⌝ }
-    ensures { λ r. ⌜ r ≡ recordsAre (length (now (p .entry))) (Rule.recordsIn group components total total 0 (drop at (now (p .entry)))) ⌝ }
+    ensures { λ r. ⌜ r ≡ recordsAre (length (was p)) (Rule.recordsIn group components total total 0 (drop at (was p))) ⌝ }
 {
     let mut next = at;
     let mut commands = 0;

@@ -1,5 +1,6 @@
 // The way through a program's records, which only goes forward.
 ghost use mathlib.Core.Path.{_≡_};
+ghost use Rattle.rules.specs.Lent.{was};
 ghost use Rattle.program_run.specs.Jump.{AdvanceJob, Advanced, LandJob, Landed};
 use byte_buffer::two;
 use byte_buffer::wide;
@@ -18,7 +19,7 @@ pub struct RecordPlace {
 // Where record t is, from record n at `at`.
 pub(crate) fn advance(p: &[u8], at: usize, n: usize, t: usize) -> usize
     requires { ⌜ AdvanceJob (now p) at n t ⌝ }
-    ensures { λ r. ⌜ ((j : AdvanceJob (now (p .entry)) at n t) → Advanced (now (p .entry)) (j .group) (j .components) (j .total) n at (j .place) t r) ⌝ }
+    ensures { λ r. ⌜ ((j : AdvanceJob (was p) at n t) → Advanced (was p) (j .group) (j .components) (j .total) n at (j .place) t r) ⌝ }
 {
     let mut next = at;
     let mut k = n;
@@ -32,7 +33,7 @@ pub(crate) fn advance(p: &[u8], at: usize, n: usize, t: usize) -> usize
 // The first record from number n at `at` on that is no jump, through the jumps before it; or the end.
 pub(crate) fn land(p: &[u8], at: usize, n: usize, total: usize) -> RecordPlace
     requires { ⌜ LandJob (now p) at n total ⌝ }
-    ensures { λ r. ⌜ ((j : LandJob (now (p .entry)) at n total) → Landed (now (p .entry)) (j .group) (j .components) total n at (j .place) r) ⌝ }
+    ensures { λ r. ⌜ ((j : LandJob (was p) at n total) → Landed (was p) (j .group) (j .components) total n at (j .place) r) ⌝ }
 {
     let mut next = at;
     let mut k = n;

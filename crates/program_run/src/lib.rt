@@ -1,5 +1,6 @@
 // The run of a program.
 ghost use mathlib.Core.Path.{_≡_};
+ghost use Rattle.rules.specs.Lent.{was, left};
 ghost use Rattle.rules.specs.ProgramRun.{runProgram};
 ghost use Rattle.run_admission.specs.Answer.{inputOf, Settles};
 ghost use Rattle.program_run.specs.Known.{Known};
@@ -30,7 +31,7 @@ fn run_tested(
     trace: &mut [u8],
 ) -> Outcome
     requires { ⌜ Known (now p) t ⌝ }
-    ensures { λ r. ⌜ Settles device (runProgram (now (p .entry)) (inputOf verdict device (now (slots .entry)) (now (answers .entry)) (now (trace .entry)))) r (now (slots .entry)) (now (slots .exit)) (now (trace .entry)) (now (trace .exit)) ⌝ }
+    ensures { λ r. ⌜ Settles device (runProgram (was p) (inputOf verdict device (was slots) (was answers) (was trace))) r (was slots) (left slots) (was trace) (left trace) ⌝ }
 {
     let group = t.group;
     let number = t.number;
@@ -85,7 +86,7 @@ pub fn run_program(
     answers: &[u8],
     trace: &mut [u8],
 ) -> Outcome
-    ensures { λ r. ⌜ Settles device (runProgram (now (p .entry)) (inputOf verdict device (now (slots .entry)) (now (answers .entry)) (now (trace .entry)))) r (now (slots .entry)) (now (slots .exit)) (now (trace .entry)) (now (trace .exit)) ⌝ }
+    ensures { λ r. ⌜ Settles device (runProgram (was p) (inputOf verdict device (was slots) (was answers) (was trace))) r (was slots) (left slots) (was trace) (left trace) ⌝ }
 {
     let t = test_program(p);
     let good = t.good;

@@ -1,5 +1,6 @@
 // One step of a program's run: the next record that writes an event.
 ghost use mathlib.Core.Path.{_≡_};
+ghost use Rattle.rules.specs.Lent.{was, left};
 ghost use Rattle.program_run.specs.Step.{ArgumentAt, GivenAs, valueOf, OnwardJob, Onward, ExecJob, Executed, StepJob, Stepped, startAt, Ran};
 use crate::jump::advance;
 use crate::jump::land;
@@ -45,7 +46,7 @@ fn value(code: usize, i: usize, from: usize) -> usize
 // The parameters that a command of that code gives, from `from` to `to`.
 fn given(p: &[u8], components: usize, code: usize, from: usize, to: usize) -> Params
     requires { ⌜ ArgumentAt (now p) components code from to ⌝ }
-    ensures { λ r. ⌜ ((x : ArgumentAt (now (p .entry)) components code from to) → GivenAs (now (p .entry)) components code from to x r) ⌝ }
+    ensures { λ r. ⌜ ((x : ArgumentAt (was p) components code from to) → GivenAs (was p) components code from to x r) ⌝ }
 {
     match code {
         codes::SET_PARAMETERS | codes::OVERRIDE_PARAMETERS => {
@@ -65,7 +66,7 @@ fn given(p: &[u8], components: usize, code: usize, from: usize, to: usize) -> Pa
 // Where a run goes on after a command whose next record is record n at `at`: there or, where its condition failed, at its target.
 fn onward(p: &[u8], at: usize, n: usize, target: usize, done: Progress) -> ProgramState
     requires { ⌜ OnwardJob (now p) at n target ⌝ }
-    ensures { λ r. ⌜ ((j : OnwardJob (now (p .entry)) at n target) → Onward (now (p .entry)) (j .group) (j .components) (j .total) n at (j .place) target done r) ⌝ }
+    ensures { λ r. ⌜ ((j : OnwardJob (was p) at n target) → Onward (was p) (j .group) (j .components) (j .total) n at (j .place) target done r) ⌝ }
 {
     let end = done.end;
     if end == End::CONDITION_FAILED {
@@ -102,7 +103,7 @@ fn execute(
     trace: &mut [u8],
 ) -> ProgramState
     requires { ⌜ ExecJob (now p) components current (now vendor) (now class) (now assigned) (now answers) (now slots) (now params) (now trace) ⌝ }
-    ensures { λ r. ⌜ ((j : ExecJob (now (p .entry)) components current (now (vendor .entry)) (now (class .entry)) (now (assigned .entry)) (now (answers .entry)) (now (slots .entry)) (now (params .entry)) (now (trace .entry))) → Executed (now (p .entry)) components current (now (vendor .entry)) (now (class .entry)) (now (assigned .entry)) (now (answers .entry)) (now (slots .entry)) (now (params .entry)) (now (trace .entry)) j r (now (slots .exit)) (now (params .exit)) (now (trace .exit))) ⌝ }
+    ensures { λ r. ⌜ ((j : ExecJob (was p) components current (was vendor) (was class) (was assigned) (was answers) (was slots) (was params) (was trace)) → Executed (was p) components current (was vendor) (was class) (was assigned) (was answers) (was slots) (was params) (was trace) j r (left slots) (left params) (left trace)) ⌝ }
 {
     let at = current.at;
     let code = wide(p[at + CODE]);
@@ -145,7 +146,7 @@ fn step(
     trace: &mut [u8],
 ) -> ProgramState
     requires { ⌜ StepJob (now p) components total current (now vendor) (now class) (now assigned) (now answers) (now slots) (now params) (now trace) ⌝ }
-    ensures { λ r. ⌜ ((j : StepJob (now (p .entry)) components total current (now (vendor .entry)) (now (class .entry)) (now (assigned .entry)) (now (answers .entry)) (now (slots .entry)) (now (params .entry)) (now (trace .entry))) → Stepped (now (p .entry)) components total current (now (vendor .entry)) (now (class .entry)) (now (assigned .entry)) (now (answers .entry)) (now (slots .entry)) (now (params .entry)) (now (trace .entry)) j r (now (slots .exit)) (now (params .exit)) (now (trace .exit))) ⌝ }
+    ensures { λ r. ⌜ ((j : StepJob (was p) components total current (was vendor) (was class) (was assigned) (was answers) (was slots) (was params) (was trace)) → Stepped (was p) components total current (was vendor) (was class) (was assigned) (was answers) (was slots) (was params) (was trace) j r (left slots) (left params) (left trace)) ⌝ }
 {
     let place = land(p, current.at, current.n, total);
     let n = place.n;
@@ -188,7 +189,7 @@ pub(crate) fn run_records(
     trace: &mut [u8],
 ) -> ProgramState
     requires { ⌜ StepJob (now p) components total (startAt from) (now vendor) (now class) (now assigned) (now answers) (now slots) (now params) (now trace) ⌝ }
-    ensures { λ r. ⌜ ((j : StepJob (now (p .entry)) components total (startAt from) (now (vendor .entry)) (now (class .entry)) (now (assigned .entry)) (now (answers .entry)) (now (slots .entry)) (now (params .entry)) (now (trace .entry))) → Ran (now (p .entry)) components total from (now (vendor .entry)) (now (class .entry)) (now (assigned .entry)) (now (answers .entry)) (now (slots .entry)) (now (params .entry)) (now (trace .entry)) j r (now (slots .exit)) (now (params .exit)) (now (trace .exit))) ⌝ }
+    ensures { λ r. ⌜ ((j : StepJob (was p) components total (startAt from) (was vendor) (was class) (was assigned) (was answers) (was slots) (was params) (was trace)) → Ran (was p) components total from (was vendor) (was class) (was assigned) (was answers) (was slots) (was params) (was trace) j r (left slots) (left params) (left trace)) ⌝ }
 {
     let mut current = ProgramState {
         at: from,

@@ -2,6 +2,7 @@
 ghost use mathlib.Core.Path.{_≡_};
 ghost use Prim.Native.Nat.{_+_, _≤_, _<_};
 ghost use lib.ListN.{length, drop, replicate};
+ghost use Rattle.rules.specs.Lent.{was, left};
 ghost use Rattle.rules.specs.Limits.{limits, places};
 ghost use Rattle.rules.specs.ProgramTest as Rule;
 ghost use Rattle.program_records.specs.Entries.{nextIn};
@@ -21,7 +22,7 @@ const NAME_CODE: u8 = NAME as u8;
 // The place after the identifier at `at`; 0 if it is not well formed.
 fn test_name(p: &[u8], at: usize) -> usize
     requires { ⌜ at ≤ length (now p) ⌝ }
-    ensures { λ r. ⌜ r ≡ nextIn (length (now (p .entry))) (Rule.idsIn 1 (drop at (now (p .entry)))) ⌝ }
+    ensures { λ r. ⌜ r ≡ nextIn (length (was p)) (Rule.idsIn 1 (drop at (was p))) ⌝ }
 {
     let left = p.len() - at;
     if left < NAME_BYTES {
@@ -52,7 +53,7 @@ fn test_name(p: &[u8], at: usize) -> usize
 // The place after the n identifiers from `at` on, 0 if one is not well formed; and their places.
 pub(crate) fn test_names(p: &[u8], at: usize, n: usize, ids: &mut Places) -> usize
     requires { ⌜ (0 < at) × (at ≤ length (now p)) × (n ≤ limits .components) × (now ids ≡ replicate places 0) ⌝ }
-    ensures { λ r. ⌜ (r ≡ nextIn (length (now (p .entry))) (Rule.idsIn n (drop at (now (p .entry))))) × NamesAre (now (p .entry)) at n (Rule.idsIn n (drop at (now (p .entry)))) (now (ids .exit)) ⌝ }
+    ensures { λ r. ⌜ (r ≡ nextIn (length (was p)) (Rule.idsIn n (drop at (was p)))) × NamesAre (was p) at n (Rule.idsIn n (drop at (was p))) (left ids) ⌝ }
 {
     let places: &mut [usize] = ids;
     let mut next = at;

@@ -2,6 +2,7 @@
 ghost use mathlib.Core.Path.{_≡_};
 ghost use mathlib.Core.Option.{some};
 ghost use Prim.Native.Nat.{_≤_};
+ghost use Rattle.rules.specs.Lent.{was};
 ghost use Rattle.rules.specs.ProgramTest as Rule;
 ghost use Rattle.program_test.specs.Test.{startFits, noProgram, TestedAs};
 use crate::names::test_names;
@@ -56,7 +57,7 @@ fn bad() -> Tested
 
 // Whether the start is well formed: its mark, the group, and how many components and records it names.
 fn start_fits(p: &[u8]) -> bool
-    ensures { λ r. ⌜ r ≡ startFits (now (p .entry)) ⌝ }
+    ensures { λ r. ⌜ r ≡ startFits (was p) ⌝ }
 {
     if Controller::PROGRAM_BYTES < p.len() {
         return false;
@@ -97,7 +98,7 @@ fn group_of(mark: u8) -> Group
 }
 
 pub fn test_program(p: &[u8]) -> Tested
-    ensures { λ r. ⌜ TestedAs (now (p .entry)) (Rule.programIn (now (p .entry))) r ⌝ }
+    ensures { λ r. ⌜ TestedAs (was p) (Rule.programIn (was p)) r ⌝ }
 {
     if !start_fits(p) {
         return bad();

@@ -1,4 +1,5 @@
 pub mod Base
+pub mod Lent
 pub mod Limits
 pub mod Answers
 pub mod Bytes

@@ -2,6 +2,7 @@
 ghost use mathlib.Core.Path.{_≡_};
 ghost use Prim.Native.Nat.{ℕ, _+_, _≤_, _<_};
 ghost use lib.ListN.{length};
+ghost use Rattle.rules.specs.Lent.{was};
 ghost use Rattle.rules.specs.Answers.{endOf};
 ghost use Rattle.rules.specs.Bytes.{part, same};
 ghost use Rattle.rules.specs.Commands.{run};
@@ -24,7 +25,7 @@ use run_slots::slot::size;
 // 1 and 2: pass on equal bytes.
 pub fn equal_sixteen(s: &[u8], at: usize, own: &Sixteen) -> usize
     requires { ⌜ at + limits .class ≤ length (now s) ⌝ }
-    ensures { λ r. ⌜ Ends r × ((st : Step.State) → Step.out (endOf r) st ≡ Step.passes (same (part (now (s .entry)) at (limits .class)) (now (own .entry))) st) ⌝ }
+    ensures { λ r. ⌜ Ends r × ((st : Step.State) → Step.out (endOf r) st ≡ Step.passes (same (part (was s) at (limits .class)) (was own)) st) ⌝ }
 {
     if !equal(s, at, own, 0, Controller::CLASS_BYTES) {
         return End::CONDITION_FAILED;
@@ -35,7 +36,7 @@ pub fn equal_sixteen(s: &[u8], at: usize, own: &Sixteen) -> usize
 // 3, with the parameters p, for the slot of number k.
 pub fn matches(s: &[u8], p: Params, slots: &[u8], k: usize) -> usize
     requires { ⌜ Holds (now slots) k × (0 < p .digest → p .digest + limits .digest ≤ length (now s)) ⌝ }
-    ensures { λ r. ⌜ Ends r × ((env : Step.Env) (i : ℕ) (st : Step.State) → At env i st (now (slots .entry)) k (meaning (now (s .entry)) p) → Step.out (endOf r) st ≡ Step.matches env i st) ⌝ }
+    ensures { λ r. ⌜ Ends r × ((env : Step.Env) (i : ℕ) (st : Step.State) → At env i st (was slots) k (meaning (was s) p) → Step.out (endOf r) st ≡ Step.matches env i st) ⌝ }
 {
     let digest = p.digest;
     if digest == 0 {
@@ -66,7 +67,7 @@ pub fn matches(s: &[u8], p: Params, slots: &[u8], k: usize) -> usize
 // 23, for the slot of number k.
 pub fn runs(slots: &[u8], k: usize) -> usize
     requires { ⌜ Holds (now slots) k ⌝ }
-    ensures { λ r. ⌜ Ends r × ((env : Step.Env) (i : ℕ) (st : Step.State) → st .slots ≡ now (slots .entry) → Step.slotNo env i st ≡ k → Step.out (endOf r) st ≡ Step.acts env run i st) ⌝ }
+    ensures { λ r. ⌜ Ends r × ((env : Step.Env) (i : ℕ) (st : Step.State) → st .slots ≡ was slots → Step.slotNo env i st ≡ k → Step.out (endOf r) st ≡ Step.acts env run i st) ⌝ }
 {
     if present(slots, k) {
         return End::STARTED;

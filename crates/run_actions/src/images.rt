@@ -2,6 +2,7 @@
 ghost use mathlib.Core.Path.{_≡_};
 ghost use Prim.Native.Nat.{ℕ, _+_, _%_, _≤_, _<_};
 ghost use lib.ListN.{length};
+ghost use Rattle.rules.specs.Lent.{was, left};
 ghost use Rattle.rules.specs.Answers.{endOf};
 ghost use Rattle.rules.specs.Bytes.{Bytes};
 ghost use Rattle.rules.specs.Limits.{limits};
@@ -36,7 +37,7 @@ pub fn fetch(
     k: usize,
 ) -> Progress
     requires { ⌜ Holds (now slots) k × (length (now answers) % answerBytes ≡ 0) ⌝ }
-    ensures { λ r. ⌜ (r .events ≡ events) × Ends (r .end) × ((s : Bytes) (env : Step.Env) (i : ℕ) (st : Step.State) → At env i st (now (slots .entry)) k (meaning s p) → env .answers ≡ now (answers .entry) → st .used ≡ used → Step.out (endOf (r .end)) (Step.withUsed (Step.withSlots st (now (slots .exit))) (r .used)) ≡ Step.fetches env i st) ⌝ }
+    ensures { λ r. ⌜ (r .events ≡ events) × Ends (r .end) × ((s : Bytes) (env : Step.Env) (i : ℕ) (st : Step.State) → At env i st (was slots) k (meaning s p) → env .answers ≡ was answers → st .used ≡ used → Step.out (endOf (r .end)) (Step.withUsed (Step.withSlots st (left slots)) (r .used)) ≡ Step.fetches env i st) ⌝ }
 {
     let uri = p.uri;
     if uri == 0 {
@@ -62,7 +63,7 @@ pub fn fetch(
 // 22, with the parameters p, to the slot of number k.
 pub fn copy(p: Params, assigned: &SlotNumbers, slots: &mut [u8], k: usize) -> usize
     requires { ⌜ Holds (now slots) k × AllHold (now assigned) (now slots) × (p .source ≤ limits .components) ⌝ }
-    ensures { λ r. ⌜ Ends r × ((s : Bytes) (env : Step.Env) (i : ℕ) (st : Step.State) → At env i st (now (slots .entry)) k (meaning s p) → SourceAt env st (p .source) (now (assigned .entry)) → Step.out (endOf r) (Step.withSlots st (now (slots .exit))) ≡ Step.copies env i st) ⌝ }
+    ensures { λ r. ⌜ Ends r × ((s : Bytes) (env : Step.Env) (i : ℕ) (st : Step.State) → At env i st (was slots) k (meaning s p) → SourceAt env st (p .source) (was assigned) → Step.out (endOf r) (Step.withSlots st (left slots)) ≡ Step.copies env i st) ⌝ }
 {
     let source = p.source;
     if source == 0 {
@@ -82,7 +83,7 @@ pub fn copy(p: Params, assigned: &SlotNumbers, slots: &mut [u8], k: usize) -> us
 // 32, with the parameters p, between the slot of number k and the source's.
 pub fn swap(p: Params, assigned: &SlotNumbers, slots: &mut [u8], k: usize) -> usize
     requires { ⌜ Holds (now slots) k × AllHold (now assigned) (now slots) × (p .source ≤ limits .components) ⌝ }
-    ensures { λ r. ⌜ Ends r × ((s : Bytes) (env : Step.Env) (i : ℕ) (st : Step.State) → At env i st (now (slots .entry)) k (meaning s p) → SourceAt env st (p .source) (now (assigned .entry)) → Step.out (endOf r) (Step.withSlots st (now (slots .exit))) ≡ Step.swaps env i st) ⌝ }
+    ensures { λ r. ⌜ Ends r × ((s : Bytes) (env : Step.Env) (i : ℕ) (st : Step.State) → At env i st (was slots) k (meaning s p) → SourceAt env st (p .source) (was assigned) → Step.out (endOf r) (Step.withSlots st (left slots)) ≡ Step.swaps env i st) ⌝ }
 {
     let source = p.source;
     if source == 0 {

@@ -2,6 +2,7 @@
 ghost use mathlib.Core.Path.{_≡_};
 ghost use Prim.Native.Nat.{ℕ, _≤_, _<_};
 ghost use lib.ListN.{length};
+ghost use Rattle.rules.specs.Lent.{was, left};
 ghost use Rattle.rules.specs.Bytes.{spanAt};
 ghost use Rattle.rules.specs.Limits.{limits};
 ghost use Rattle.rules.specs.Run as Rule;
@@ -52,7 +53,7 @@ pub fn admit(
     assigned: &mut SlotNumbers,
 ) -> usize
     requires { ⌜ (n ≤ limits .components) × ((k : ℕ) → k < n → (spanAt (now ids) k .from ≤ spanAt (now ids) k .to) × (spanAt (now ids) k .to ≤ length (now s))) ⌝ }
-    ensures { λ r. ⌜ (r ≡ refusalIn (Rule.admit group number (namesAt (now (s .entry)) (now (ids .entry)) n) (inputOf verdict device (now (slots .entry)) (now (answers .entry)) (now (trace .entry))))) × (r ≡ 0 → Found (namesAt (now (s .entry)) (now (ids .entry)) n) (now (slots .entry)) (now (assigned .entry)) (now (assigned .exit))) × (now (assigned .exit) ≡ assignedAfter group number (namesAt (now (s .entry)) (now (ids .entry)) n) (inputOf verdict device (now (slots .entry)) (now (answers .entry)) (now (trace .entry))) (now (assigned .entry))) ⌝ }
+    ensures { λ r. ⌜ (r ≡ refusalIn (Rule.admit group number (namesAt (was s) (was ids) n) (inputOf verdict device (was slots) (was answers) (was trace)))) × (r ≡ 0 → Found (namesAt (was s) (was ids) n) (was slots) (was assigned) (left assigned)) × (left assigned ≡ assignedAfter group number (namesAt (was s) (was ids) n) (inputOf verdict device (was slots) (was answers) (was trace)) (was assigned)) ⌝ }
 {
     if !verdict {
         return Refusal::NOT_VERIFIED;

@@ -4,6 +4,7 @@ ghost use mathlib.Core.Bool.{cond};
 ghost use Prim.Native.Nat.{_-_, _*_, _≤_, _<_};
 ghost use lib.Dec.{eqb};
 ghost use lib.ListN.{length};
+ghost use Rattle.rules.specs.Lent.{was};
 ghost use Rattle.rules.specs.Answers.{endOf};
 ghost use Rattle.rules.specs.Bytes.{num, part};
 ghost use Rattle.rules.specs.Run.{numberAfter};
@@ -22,7 +23,7 @@ const FROM_PLACE: usize = EVENT_BYTES - PLACE;
 // The place of the last event, 0 where the run finished.
 fn last_place(end: usize, events: usize, trace: &[u8]) -> usize
     requires { ⌜ (0 < end → 0 < events) × (eventBytes * events ≤ length (now trace)) ⌝ }
-    ensures { λ r. ⌜ r ≡ cond (eqb end 0) 0 (num (part (now (trace .entry)) (eventBytes * events - (eventBytes - eventPlace)) 2)) ⌝ }
+    ensures { λ r. ⌜ r ≡ cond (eqb end 0) 0 (num (part (was trace) (eventBytes * events - (eventBytes - eventPlace)) 2)) ⌝ }
 {
     if end == End::FINISHED {
         return 0;
@@ -33,7 +34,7 @@ fn last_place(end: usize, events: usize, trace: &[u8]) -> usize
 // How a run ended, by the number of its end.
 pub fn ended(end: usize, events: usize, used: usize, trace: &[u8]) -> Ending
     requires { ⌜ (0 < end → 0 < events) × (eventBytes * events ≤ length (now trace)) ⌝ }
-    ensures { λ r. ⌜ r ≡ endingOf end events used (now (trace .entry)) ⌝ }
+    ensures { λ r. ⌜ r ≡ endingOf end events used (was trace) ⌝ }
 {
     Ending {
         end: End::of(end),

@@ -2,6 +2,7 @@
 ghost use mathlib.Core.Path.{_≡_};
 ghost use Prim.Native.Nat.{_+_, _*_, _≤_, _<_};
 ghost use lib.ListN.{length};
+ghost use Rattle.rules.specs.Lent.{was, left};
 ghost use Rattle.rules.specs.Answers.{endOf, resultNumber};
 ghost use Rattle.rules.specs.Bytes.{put};
 ghost use Rattle.rules.specs.Step.{eventBytes, event};
@@ -39,7 +40,7 @@ pub(crate) fn put_event(
     end: usize,
 )
     requires { ⌜ (eventBytes * events + eventBytes ≤ length (now trace)) × (code < 256) × (component < 256) × Ends end ⌝ }
-    ensures { λ _. ⌜ now (trace .exit) ≡ put (now (trace .entry)) (eventBytes * events) (event code component place (resultNumber (endOf end))) ⌝ }
+    ensures { λ _. ⌜ left trace ≡ put (was trace) (eventBytes * events) (event code component place (resultNumber (endOf end))) ⌝ }
 {
     let at = EVENT_BYTES * events;
     trace[at] = MARK;

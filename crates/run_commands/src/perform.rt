@@ -2,6 +2,7 @@
 ghost use mathlib.Core.Path.{_≡_};
 ghost use Prim.Native.Nat.{ℕ, _+_, _*_, _%_, _≤_, _<_};
 ghost use lib.ListN.{length, getD};
+ghost use Rattle.rules.specs.Lent.{was, left};
 ghost use Rattle.rules.specs.Bytes.{Bytes};
 ghost use Rattle.rules.specs.Limits.{limits};
 ghost use Rattle.rules.specs.Slots.{answerBytes};
@@ -57,7 +58,7 @@ fn act(
     used: usize,
 ) -> Progress
     requires { ⌜ (i < limits .components) × (k ≡ getD (now assigned) i 0) × SixteenAt (now s) code value × AllHold (now assigned) (now slots) × FitAll (now s) (limits .components) (now params) × (length (now answers) % answerBytes ≡ 0) × IsCode (now s) code value given ⌝ }
-    ensures { λ r. ⌜ (r .events ≡ events) × Ends (r .end) × ((env : Env) (trace : Bytes) → Host env (now (vendor .entry)) (now (class .entry)) (now (answers .entry)) (now (assigned .entry)) (now (slots .entry)) → i < length (env .ids) → FitAll (now (s .entry)) (length (env .ids)) (now (params .entry)) → outAt (now (s .entry)) (length (env .ids)) (now (params .exit)) (now (slots .exit)) trace r ≡ acts env (opOf (now (s .entry)) code value given) i (stateAt (now (s .entry)) (length (env .ids)) (now (params .entry)) (now (slots .entry)) trace events used)) × ((n : ℕ) → FitAll (now (s .entry)) n (now (params .entry)) → Fit (now (s .entry)) n given → FitAll (now (s .entry)) n (now (params .exit))) ⌝ }
+    ensures { λ r. ⌜ (r .events ≡ events) × Ends (r .end) × ((env : Env) (trace : Bytes) → Host env (was vendor) (was class) (was answers) (was assigned) (was slots) → i < length (env .ids) → FitAll (was s) (length (env .ids)) (was params) → outAt (was s) (length (env .ids)) (left params) (left slots) trace r ≡ acts env (opOf (was s) code value given) i (stateAt (was s) (length (env .ids)) (was params) (was slots) trace events used)) × ((n : ℕ) → FitAll (was s) n (was params) → Fit (was s) n given → FitAll (was s) n (left params)) ⌝ }
 {
     let p = load(params, i);
     match code {
@@ -100,7 +101,7 @@ pub fn perform(
     used: usize,
 ) -> Progress
     requires { ⌜ (i < limits .components) × SixteenAt (now s) code value × AllHold (now assigned) (now slots) × FitAll (now s) (limits .components) (now params) × (length (now answers) % answerBytes ≡ 0) × IsCode (now s) code value given × (eventBytes * events + eventBytes ≤ length (now trace)) ⌝ }
-    ensures { λ r. ⌜ (r .events ≡ events + 1) × Ends (r .end) × ((env : Env) → Host env (now (vendor .entry)) (now (class .entry)) (now (answers .entry)) (now (assigned .entry)) (now (slots .entry)) → i < length (env .ids) → FitAll (now (s .entry)) (length (env .ids)) (now (params .entry)) → outAt (now (s .entry)) (length (env .ids)) (now (params .exit)) (now (slots .exit)) (now (trace .exit)) r ≡ step env (opOf (now (s .entry)) code value given) i place (stateAt (now (s .entry)) (length (env .ids)) (now (params .entry)) (now (slots .entry)) (now (trace .entry)) events used)) × ((n : ℕ) → FitAll (now (s .entry)) n (now (params .entry)) → Fit (now (s .entry)) n given → FitAll (now (s .entry)) n (now (params .exit))) ⌝ }
+    ensures { λ r. ⌜ (r .events ≡ events + 1) × Ends (r .end) × ((env : Env) → Host env (was vendor) (was class) (was answers) (was assigned) (was slots) → i < length (env .ids) → FitAll (was s) (length (env .ids)) (was params) → outAt (was s) (length (env .ids)) (left params) (left slots) (left trace) r ≡ step env (opOf (was s) code value given) i place (stateAt (was s) (length (env .ids)) (was params) (was slots) (was trace) events used)) × ((n : ℕ) → FitAll (was s) n (was params) → Fit (was s) n given → FitAll (was s) n (left params)) ⌝ }
 {
     let k = assigned[i];
     let d = act(

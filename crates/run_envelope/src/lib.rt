@@ -1,6 +1,7 @@
 // A run: the envelope is checked, the run is admitted, and the sections of the group are run.
 ghost use mathlib.Core.Path.{_≡_};
 ghost use Prim.Native.Nat.{_-_};
+ghost use Rattle.rules.specs.Lent.{was, left};
 ghost use Rattle.rules.specs.Run.{runEnvelope};
 ghost use Rattle.run_admission.specs.Answer.{inputOf, Settles};
 ghost use Rattle.manifest_accessors.specs.Accepted.{Accepted};
@@ -37,7 +38,7 @@ fn run_checked(
     trace: &mut [u8],
 ) -> Outcome
     requires { ⌜ Accepted (now s) number n (now ids) (now sections) ⌝ }
-    ensures { λ r. ⌜ Settles device (runEnvelope (now (s .entry)) group (inputOf verdict device (now (slots .entry)) (now (answers .entry)) (now (trace .entry)))) r (now (slots .entry)) (now (slots .exit)) (now (trace .entry)) (now (trace .exit)) ⌝ }
+    ensures { λ r. ⌜ Settles device (runEnvelope (was s) group (inputOf verdict device (was slots) (was answers) (was trace))) r (was slots) (left slots) (was trace) (left trace) ⌝ }
 {
     let mut assigned = [0usize; Controller::COMPONENTS];
     let refusal = admit(
@@ -87,7 +88,7 @@ pub fn run(
     answers: &[u8],
     trace: &mut [u8],
 ) -> Outcome
-    ensures { λ r. ⌜ Settles device (runEnvelope (now (s .entry)) group (inputOf verdict device (now (slots .entry)) (now (answers .entry)) (now (trace .entry)))) r (now (slots .entry)) (now (slots .exit)) (now (trace .entry)) (now (trace .exit)) ⌝ }
+    ensures { λ r. ⌜ Settles device (runEnvelope (was s) group (inputOf verdict device (was slots) (was answers) (was trace))) r (was slots) (left slots) (was trace) (left trace) ⌝ }
 {
     let report = check(s);
     let answer = report.answer;

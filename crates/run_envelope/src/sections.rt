@@ -1,6 +1,7 @@
 // The sections of a group, one after the other.
 ghost use mathlib.Core.Path.{_≡_};
 ghost use mathlib.Core.Bool.{true, false};
+ghost use Rattle.rules.specs.Lent.{was, left};
 ghost use Rattle.rules.specs.Limits.{limits};
 ghost use Rattle.rules.specs.Run.{planOf};
 ghost use Rattle.run_sequence.specs.Cycle.{SequenceJob, SequenceRan};
@@ -33,7 +34,7 @@ fn run_section(
     trace: &mut [u8],
 ) -> Run
     requires { ⌜ (wanted ≡ true → SequenceJob (now s) (limits .depth) (startOf from run) (now vendor) (now class) (now assigned) (now answers) (now slots) (now params) (now trace)) ⌝ }
-    ensures { λ r. ⌜ (wanted ≡ true → (j : SequenceJob (now (s .entry)) (limits .depth) (startOf from run) (now (vendor .entry)) (now (class .entry)) (now (assigned .entry)) (now (answers .entry)) (now (slots .entry)) (now (params .entry)) (now (trace .entry))) → SequenceRan (now (s .entry)) (j .ready .env) (j .place .seq) false (startOf from run) (now (slots .entry)) (now (params .entry)) (now (trace .entry)) r (now (slots .exit)) (now (params .exit)) (now (trace .exit))) × (wanted ≡ false → (r ≡ run) × (now (slots .exit) ≡ now (slots .entry)) × (now (params .exit) ≡ now (params .entry)) × (now (trace .exit) ≡ now (trace .entry))) ⌝ }
+    ensures { λ r. ⌜ (wanted ≡ true → (j : SequenceJob (was s) (limits .depth) (startOf from run) (was vendor) (was class) (was assigned) (was answers) (was slots) (was params) (was trace)) → SequenceRan (was s) (j .ready .env) (j .place .seq) false (startOf from run) (was slots) (was params) (was trace) r (left slots) (left params) (left trace)) × (wanted ≡ false → (r ≡ run) × (left slots ≡ was slots) × (left params ≡ was params) × (left trace ≡ was trace)) ⌝ }
 {
     if !wanted {
         return run;
@@ -74,7 +75,7 @@ pub(crate) fn run_sections(
     trace: &mut [u8],
 ) -> Run
     requires { ⌜ SectionsJob (now s) (now sections) (now vendor) (now class) (now assigned) (now answers) (now slots) (now params) (now trace) ⌝ }
-    ensures { λ r. ⌜ ((j : SectionsJob (now (s .entry)) (now (sections .entry)) (now (vendor .entry)) (now (class .entry)) (now (assigned .entry)) (now (answers .entry)) (now (slots .entry)) (now (params .entry)) (now (trace .entry))) → SectionsRan (now (s .entry)) (j .ready .env) (planOf group (j .manifest)) (now (slots .entry)) (now (params .entry)) (now (trace .entry)) r (now (slots .exit)) (now (params .exit)) (now (trace .exit))) ⌝ }
+    ensures { λ r. ⌜ ((j : SectionsJob (was s) (was sections) (was vendor) (was class) (was assigned) (was answers) (was slots) (was params) (was trace)) → SectionsRan (was s) (j .ready .env) (planOf group (j .manifest)) (was slots) (was params) (was trace) r (left slots) (left params) (left trace)) ⌝ }
 {
     let mut now = Run {
         next: 0,

@@ -1,5 +1,6 @@
 // The run of sequences and commands: sequences hold commands and commands hold sequences.
 ghost use mathlib.Core.Path.{_≡_};
+ghost use Rattle.rules.specs.Lent.{was, left};
 ghost use Rattle.rules.specs.Manifest.{one};
 ghost use Rattle.run_sequence.specs.Cycle.{LeafJob, CommandJob, SequenceJob, CommandRan, SequenceRan, runAt, caughtBy};
 use manifest_accessors::arguments::COERCE_FALSE;
@@ -43,7 +44,7 @@ fn leaf(
     trace: &mut [u8],
 ) -> Run
     requires { ⌜ LeafJob (now s) code at run (now vendor) (now class) (now assigned) (now answers) (now slots) (now params) (now trace) ⌝ }
-    ensures { λ r. ⌜ ((j : LeafJob (now (s .entry)) code at run (now (vendor .entry)) (now (class .entry)) (now (assigned .entry)) (now (answers .entry)) (now (slots .entry)) (now (params .entry)) (now (trace .entry))) → CommandRan (now (s .entry)) (j .ready .env) (one (run .next) (j .argument .op) (j .argument .coerce)) (j .argument .to) run (now (slots .entry)) (now (params .entry)) (now (trace .entry)) r (now (slots .exit)) (now (params .exit)) (now (trace .exit))) ⌝ }
+    ensures { λ r. ⌜ ((j : LeafJob (was s) code at run (was vendor) (was class) (was assigned) (was answers) (was slots) (was params) (was trace)) → CommandRan (was s) (j .ready .env) (one (run .next) (j .argument .op) (j .argument .coerce)) (j .argument .to) run (was slots) (was params) (was trace) r (left slots) (left params) (left trace)) ⌝ }
 {
     let a = read_one(s, code, at);
     let index = component(code, a.value, run.index);
@@ -103,7 +104,7 @@ pub fn run_sequence(
     trace: &mut [u8],
 ) -> Run
     requires { ⌜ SequenceJob (now s) depth run (now vendor) (now class) (now assigned) (now answers) (now slots) (now params) (now trace) ⌝ }
-    ensures { λ r. ⌜ ((j : SequenceJob (now (s .entry)) depth run (now (vendor .entry)) (now (class .entry)) (now (assigned .entry)) (now (answers .entry)) (now (slots .entry)) (now (params .entry)) (now (trace .entry))) → SequenceRan (now (s .entry)) (j .ready .env) (j .place .seq) coercible run (now (slots .entry)) (now (params .entry)) (now (trace .entry)) r (now (slots .exit)) (now (params .exit)) (now (trace .exit))) ⌝ }
+    ensures { λ r. ⌜ ((j : SequenceJob (was s) depth run (was vendor) (was class) (was assigned) (was answers) (was slots) (was params) (was trace)) → SequenceRan (was s) (j .ready .env) (j .place .seq) coercible run (was slots) (was params) (was trace) r (left slots) (left params) (left trace)) ⌝ }
 {
     let h = open(s, run.next);
     let mut left = h.value / 2;
@@ -169,7 +170,7 @@ fn run_command(
     trace: &mut [u8],
 ) -> Run
     requires { ⌜ CommandJob (now s) depth run (now vendor) (now class) (now assigned) (now answers) (now slots) (now params) (now trace) ⌝ }
-    ensures { λ r. ⌜ ((j : CommandJob (now (s .entry)) depth run (now (vendor .entry)) (now (class .entry)) (now (assigned .entry)) (now (answers .entry)) (now (slots .entry)) (now (params .entry)) (now (trace .entry))) → CommandRan (now (s .entry)) (j .ready .env) (j .place .cmd) (j .place .to) run (now (slots .entry)) (now (params .entry)) (now (trace .entry)) r (now (slots .exit)) (now (params .exit)) (now (trace .exit))) ⌝ }
+    ensures { λ r. ⌜ ((j : CommandJob (was s) depth run (was vendor) (was class) (was assigned) (was answers) (was slots) (was params) (was trace)) → CommandRan (was s) (j .ready .env) (j .place .cmd) (j .place .to) run (was slots) (was params) (was trace) r (left slots) (left params) (left trace)) ⌝ }
 {
     let c = open(s, run.next);
     let code = c.value;

@@ -2,6 +2,7 @@
 ghost use mathlib.Core.Path.{_≡_};
 ghost use Prim.Native.Nat.{_+_, _*_, _≤_};
 ghost use lib.ListN.{length};
+ghost use Rattle.rules.specs.Lent.{was, left};
 ghost use Rattle.rules.specs.Bytes.{part};
 ghost use Rattle.rules.specs.Slots.{answerBytes, imageAt, putImage};
 ghost use Rattle.run_slots.specs.Slot.{Holds};
@@ -13,7 +14,7 @@ use rules::slot_format::SLOT_BYTES;
 // The answer or the image at `at`.
 pub fn take(b: &[u8], at: usize) -> Image
     requires { ⌜ at + answerBytes ≤ length (now b) ⌝ }
-    ensures { λ r. ⌜ r ≡ part (now (b .entry)) at answerBytes ⌝ }
+    ensures { λ r. ⌜ r ≡ part (was b) at answerBytes ⌝ }
 {
     let mut image = [0u8; IMAGE_BYTES];
     let mut k = 0;
@@ -26,7 +27,7 @@ pub fn take(b: &[u8], at: usize) -> Image
 
 pub fn image(slots: &[u8], k: usize) -> Image
     requires { ⌜ Holds (now slots) k ⌝ }
-    ensures { λ r. ⌜ r ≡ imageAt (now (slots .entry)) k ⌝ }
+    ensures { λ r. ⌜ r ≡ imageAt (was slots) k ⌝ }
 {
     take(slots, SLOT_BYTES * k + IMAGE)
 }
@@ -34,7 +35,7 @@ pub fn image(slots: &[u8], k: usize) -> Image
 // Puts the image into the slot of number k.
 pub fn put_image(slots: &mut [u8], k: usize, image: Image)
     requires { ⌜ Holds (now slots) k ⌝ }
-    ensures { λ _. ⌜ now (slots .exit) ≡ putImage (now (slots .entry)) k image ⌝ }
+    ensures { λ _. ⌜ left slots ≡ putImage (was slots) k image ⌝ }
 {
     let at = SLOT_BYTES * k + IMAGE;
     let mut i = 0;

@@ -4,6 +4,7 @@ ghost use Prim.Native.Nat.{_+_, _*_, _≤_, _<_};
 ghost use mathlib.Core.Bool.{cond};
 ghost use lib.Dec.{eqb};
 ghost use lib.ListN.{length};
+ghost use Rattle.rules.specs.Lent.{was, left};
 ghost use Rattle.rules.specs.Limits.{limits, paramNumbers};
 ghost use Rattle.run_slots.specs.Params.{paramsAt, stored, overParams};
 use rules::controller::AllParameters;
@@ -20,7 +21,7 @@ pub struct Params {
 
 pub fn load(params: &AllParameters, i: usize) -> Params
     requires { ⌜ i < limits .components ⌝ }
-    ensures { λ r. ⌜ r ≡ paramsAt (now (params .entry)) i ⌝ }
+    ensures { λ r. ⌜ r ≡ paramsAt (was params) i ⌝ }
 {
     let at = PARAMETER_NUMBERS * i;
     Params {
@@ -34,7 +35,7 @@ pub fn load(params: &AllParameters, i: usize) -> Params
 
 pub fn store(params: &mut [usize], i: usize, p: Params)
     requires { ⌜ paramNumbers * i + paramNumbers ≤ length (now params) ⌝ }
-    ensures { λ _. ⌜ now (params .exit) ≡ stored (now (params .entry)) i p ⌝ }
+    ensures { λ _. ⌜ left params ≡ stored (was params) i p ⌝ }
 {
     let at = PARAMETER_NUMBERS * i;
     params[at] = p.uri;

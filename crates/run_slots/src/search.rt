@@ -4,6 +4,7 @@ ghost use mathlib.Core.Bool.{true};
 ghost use Prim.Native.Nat.{ℕ, _+_, _-_, _*_, _≤_, _<_};
 ghost use lib.ListN.{length, getD};
 ghost use lib.Seq.{sets};
+ghost use Rattle.rules.specs.Lent.{was, left};
 ghost use Rattle.rules.specs.Bytes.{part, same, allIn, spanAt};
 ghost use Rattle.rules.specs.Limits.{limits};
 ghost use Rattle.rules.specs.Slots.{slotBytes, slotAt, slotOf, slotNames};
@@ -17,7 +18,7 @@ use rules::slot_format::SLOT_BYTES;
 // Whether the slot of number k has the identifier of n bytes at `at`.
 pub(crate) fn named(s: &[u8], at: usize, n: usize, slots: &[u8], k: usize) -> bool
     requires { ⌜ (at + n ≤ length (now s)) × Holds (now slots) k × (getD (now slots) (slotBytes * k) 0 ≤ limits .identifier) ⌝ }
-    ensures { λ r. ⌜ r ≡ same (part (now (s .entry)) at n) (slotAt (now (slots .entry)) k .id) ⌝ }
+    ensures { λ r. ⌜ r ≡ same (part (was s) at n) (slotAt (was slots) k .id) ⌝ }
 {
     let length = slots[SLOT_BYTES * k] as usize;
     if n != length {
@@ -29,7 +30,7 @@ pub(crate) fn named(s: &[u8], at: usize, n: usize, slots: &[u8], k: usize) -> bo
 // The number of the slot with that identifier, or how many slots there are.
 pub(crate) fn slot_of(s: &[u8], at: usize, n: usize, slots: &[u8]) -> usize
     requires { ⌜ (at + n ≤ length (now s)) × Short (now slots) ⌝ }
-    ensures { λ r. ⌜ r ≡ slotOf (part (now (s .entry)) at n) (now (slots .entry)) ⌝ }
+    ensures { λ r. ⌜ r ≡ slotOf (part (was s) at n) (was slots) ⌝ }
 {
     let count = slots.len() / SLOT_BYTES;
     let mut k = 0;
@@ -52,7 +53,7 @@ pub fn find_slots(
     assigned: &mut SlotNumbers,
 ) -> bool
     requires { ⌜ (n ≤ limits .components) × ((k : ℕ) → k < n → (spanAt (now ids) k .from ≤ spanAt (now ids) k .to) × (spanAt (now ids) k .to ≤ length (now s))) × Short (now slots) ⌝ }
-    ensures { λ r. ⌜ (r ≡ allIn (namesAt (now (s .entry)) (now (ids .entry)) n) (slotNames (now (slots .entry)))) × (r ≡ true → Found (namesAt (now (s .entry)) (now (ids .entry)) n) (now (slots .entry)) (now (assigned .entry)) (now (assigned .exit))) × (now (assigned .exit) ≡ sets (now (assigned .entry)) 0 (slotNumbers (namesAt (now (s .entry)) (now (ids .entry)) n) (now (slots .entry)))) ⌝ }
+    ensures { λ r. ⌜ (r ≡ allIn (namesAt (was s) (was ids) n) (slotNames (was slots))) × (r ≡ true → Found (namesAt (was s) (was ids) n) (was slots) (was assigned) (left assigned)) × (left assigned ≡ sets (was assigned) 0 (slotNumbers (namesAt (was s) (was ids) n) (was slots))) ⌝ }
 {
     let numbers: &mut [usize] = assigned;
     let count = slots.len() / SLOT_BYTES;

@@ -1,5 +1,6 @@
 // The fields of a slot.
 ghost use mathlib.Core.Path.{_≡_};
+ghost use Rattle.rules.specs.Lent.{was};
 ghost use Rattle.rules.specs.Slots.{slotAt, goodSlot};
 ghost use Rattle.run_slots.specs.Slot.{Holds};
 use byte_buffer::four;
@@ -11,21 +12,21 @@ use rules::slot_format::SLOT_SIZE;
 
 pub fn capacity(slots: &[u8], k: usize) -> usize
     requires { ⌜ Holds (now slots) k ⌝ }
-    ensures { λ r. ⌜ r ≡ slotAt (now (slots .entry)) k .capacity ⌝ }
+    ensures { λ r. ⌜ r ≡ slotAt (was slots) k .capacity ⌝ }
 {
     four(slots, SLOT_BYTES * k + CAPACITY)
 }
 
 pub fn present(slots: &[u8], k: usize) -> bool
     requires { ⌜ Holds (now slots) k ⌝ }
-    ensures { λ r. ⌜ r ≡ slotAt (now (slots .entry)) k .present ⌝ }
+    ensures { λ r. ⌜ r ≡ slotAt (was slots) k .present ⌝ }
 {
     slots[SLOT_BYTES * k + IMAGE] != 0
 }
 
 pub fn size(slots: &[u8], k: usize) -> usize
     requires { ⌜ Holds (now slots) k ⌝ }
-    ensures { λ r. ⌜ r ≡ slotAt (now (slots .entry)) k .size ⌝ }
+    ensures { λ r. ⌜ r ≡ slotAt (was slots) k .size ⌝ }
 {
     four(slots, SLOT_BYTES * k + SLOT_SIZE)
 }
@@ -33,7 +34,7 @@ pub fn size(slots: &[u8], k: usize) -> usize
 // 85, of one slot.
 pub(crate) fn good_slot(slots: &[u8], k: usize) -> bool
     requires { ⌜ Holds (now slots) k ⌝ }
-    ensures { λ r. ⌜ r ≡ goodSlot (slotAt (now (slots .entry)) k) ⌝ }
+    ensures { λ r. ⌜ r ≡ goodSlot (slotAt (was slots) k) ⌝ }
 {
     let length = slots[SLOT_BYTES * k] as usize;
     if length < 1 {

@@ -3,6 +3,7 @@ ghost use mathlib.Core.Path.{_≡_};
 ghost use mathlib.Core.Bool.{true};
 ghost use Prim.Native.Nat.{_+_, _*_, _≤_, _<_};
 ghost use lib.ListN.{length};
+ghost use Rattle.rules.specs.Lent.{was};
 ghost use Rattle.rules.specs.Bytes.{member, repeats};
 ghost use Rattle.rules.specs.Slots.{slotBytes, slotAt, allGood, goodSlots};
 ghost use Rattle.run_slots.specs.Slot.{Short, slotsFrom, namesFrom};
@@ -15,7 +16,7 @@ use rules::slot_format::SLOT_BYTES;
 // Whether each of the n slots is good.
 pub(crate) fn all_good(slots: &[u8], n: usize) -> bool
     requires { ⌜ slotBytes * n ≤ length (now slots) ⌝ }
-    ensures { λ r. ⌜ r ≡ allGood (slotsFrom (now (slots .entry)) 0 n) ⌝ }
+    ensures { λ r. ⌜ r ≡ allGood (slotsFrom (was slots) 0 n) ⌝ }
 {
     let mut k = 0;
     while k < n {
@@ -30,7 +31,7 @@ pub(crate) fn all_good(slots: &[u8], n: usize) -> bool
 // Whether one of the slots after number i has its identifier.
 pub(crate) fn named_again(slots: &[u8], i: usize, n: usize) -> bool
     requires { ⌜ (i < n) × (slotBytes * n ≤ length (now slots)) × Short (now slots) ⌝ }
-    ensures { λ r. ⌜ r ≡ member (slotAt (now (slots .entry)) i .id) (namesFrom (now (slots .entry)) (i + 1) n) ⌝ }
+    ensures { λ r. ⌜ r ≡ member (slotAt (was slots) i .id) (namesFrom (was slots) (i + 1) n) ⌝ }
 {
     let at = SLOT_BYTES * i;
     let length = slots[at] as usize;
@@ -46,7 +47,7 @@ pub(crate) fn named_again(slots: &[u8], i: usize, n: usize) -> bool
 
 pub(crate) fn one_twice(slots: &[u8], n: usize) -> bool
     requires { ⌜ (slotBytes * n ≤ length (now slots)) × Short (now slots) ⌝ }
-    ensures { λ r. ⌜ r ≡ repeats (namesFrom (now (slots .entry)) 0 n) ⌝ }
+    ensures { λ r. ⌜ r ≡ repeats (namesFrom (was slots) 0 n) ⌝ }
 {
     let mut i = 0;
     while i < n {
@@ -59,7 +60,7 @@ pub(crate) fn one_twice(slots: &[u8], n: usize) -> bool
 }
 
 pub fn good_slots(slots: &[u8]) -> bool
-    ensures { λ r. ⌜ r ≡ goodSlots (now (slots .entry)) ⌝ }
+    ensures { λ r. ⌜ r ≡ goodSlots (was slots) ⌝ }
 {
     let bytes = slots.len();
     if bytes % SLOT_BYTES != 0 {

@@ -8,9 +8,8 @@ use mathlib.Core.List.{List, [], _∷_, _++_, map}
 use lib.Dec.{ltb}
 use lib.ListN.{length, replicate}
 use lib.Seq.{sets}
-
-abbrev pub Bytes : Type 0
-Bytes = List ℕ
+use Rattle.rules.specs.Lent.{Lent, was, left}
+pub use Rattle.rules.specs.Bytes.{Bytes}
 
 -- a text in ASCII
 abbrev pub ascii : String → Bytes
@@ -24,6 +23,10 @@ least a b = a - (a - b)
 pub record Wrote (b : Bytes) (at : ℕ) (room : Bytes) (r : ℕ) (room′ : Bytes) : Type 0 where
   pub filled : room′ ≡ sets room at b
   pub next : r ≡ at + least (length b) (length room - at)
+
+-- the same of a lent room
+abbrev pub Writes : Bytes → ℕ → Lent → ℕ → Type 0
+Writes b at room r = Wrote b at (was room) r (left room)
 
 -- the digit of a number below 16
 abbrev pub digit : ℕ → ℕ

@@ -3,7 +3,8 @@ ghost use mathlib.Core.Path.{_≡_};
 ghost use mathlib.Core.List.{[], _∷_, map};
 ghost use Prim.Native.Nat.{_<_};
 ghost use lib.ListN.{length, replicate};
-ghost use Rattle.text.specs.Text.{Wrote, decimal, padded, hex, quoted};
+ghost use Rattle.rules.specs.Lent.{was};
+ghost use Rattle.text.specs.Text.{Writes, decimal, padded, hex, quoted};
 ghost use Rattle.text.specs.Text.{digits as Text·digits, digit as Text·digit, least as Text·least, printable as Text·printable};
 
 pub mod pieces;
@@ -28,7 +29,7 @@ pub fn least(a: usize, b: usize) -> usize
 }
 
 pub fn put_byte(room: &mut [u8], at: usize, b: u8) -> usize
-    ensures { λ r. ⌜ Wrote (b ∷ []) at (now (room .entry)) r (now (room .exit)) ⌝ }
+    ensures { λ r. ⌜ Writes (b ∷ []) at room r ⌝ }
 {
     if room.len() <= at {
         return at;
@@ -38,7 +39,7 @@ pub fn put_byte(room: &mut [u8], at: usize, b: u8) -> usize
 }
 
 pub fn put(room: &mut [u8], at: usize, s: &[u8]) -> usize
-    ensures { λ r. ⌜ Wrote (now (s .entry)) at (now (room .entry)) r (now (room .exit)) ⌝ }
+    ensures { λ r. ⌜ Writes (was s) at room r ⌝ }
 {
     let mut to = at;
     let mut i = 0;
@@ -51,7 +52,7 @@ pub fn put(room: &mut [u8], at: usize, s: &[u8]) -> usize
 
 // A byte, n times.
 pub fn put_times(room: &mut [u8], at: usize, b: u8, n: usize) -> usize
-    ensures { λ r. ⌜ Wrote (replicate n b) at (now (room .entry)) r (now (room .exit)) ⌝ }
+    ensures { λ r. ⌜ Writes (replicate n b) at room r ⌝ }
 {
     let mut to = at;
     let mut i = 0;
@@ -63,7 +64,7 @@ pub fn put_times(room: &mut [u8], at: usize, b: u8, n: usize) -> usize
 }
 
 pub fn put_spaces(room: &mut [u8], at: usize, n: usize) -> usize
-    ensures { λ r. ⌜ Wrote (replicate n 32) at (now (room .entry)) r (now (room .exit)) ⌝ }
+    ensures { λ r. ⌜ Writes (replicate n 32) at room r ⌝ }
 {
     put_times(room, at, SPACE, n)
 }
@@ -80,7 +81,7 @@ fn digit(d: usize) -> u8
 
 // A number in decimal, in at most k digits.
 fn put_digits(room: &mut [u8], at: usize, n: usize, k: usize) -> usize
-    ensures { λ r. ⌜ Wrote (Text·digits k n) at (now (room .entry)) r (now (room .exit)) ⌝ }
+    ensures { λ r. ⌜ Writes (Text·digits k n) at room r ⌝ }
 {
     if k == 0 {
         return at;
@@ -93,7 +94,7 @@ fn put_digits(room: &mut [u8], at: usize, n: usize, k: usize) -> usize
 }
 
 pub fn put_decimal(room: &mut [u8], at: usize, n: usize) -> usize
-    ensures { λ r. ⌜ Wrote (decimal n) at (now (room .entry)) r (now (room .exit)) ⌝ }
+    ensures { λ r. ⌜ Writes (decimal n) at room r ⌝ }
 {
     put_digits(room, at, n, DIGITS)
 }
@@ -113,7 +114,7 @@ fn count_digits(n: usize, k: usize) -> usize
 
 // A number in decimal, behind spaces up to a width.
 pub fn put_padded(room: &mut [u8], at: usize, n: usize, width: usize) -> usize
-    ensures { λ r. ⌜ Wrote (padded width n) at (now (room .entry)) r (now (room .exit)) ⌝ }
+    ensures { λ r. ⌜ Writes (padded width n) at room r ⌝ }
 {
     let count = count_digits(n, DIGITS);
     if width <= count {
@@ -124,7 +125,7 @@ pub fn put_padded(room: &mut [u8], at: usize, n: usize, width: usize) -> usize
 }
 
 pub fn put_hex(room: &mut [u8], at: usize, s: &[u8]) -> usize
-    ensures { λ r. ⌜ Wrote (hex (now (s .entry))) at (now (room .entry)) r (now (room .exit)) ⌝ }
+    ensures { λ r. ⌜ Writes (hex (was s)) at room r ⌝ }
 {
     let mut to = at;
     let mut i = 0;
@@ -136,7 +137,7 @@ pub fn put_hex(room: &mut [u8], at: usize, s: &[u8]) -> usize
 }
 
 fn put_hex_byte(room: &mut [u8], at: usize, b: u8) -> usize
-    ensures { λ r. ⌜ Wrote (hex (b ∷ [])) at (now (room .entry)) r (now (room .exit)) ⌝ }
+    ensures { λ r. ⌜ Writes (hex (b ∷ [])) at room r ⌝ }
 {
     let n = b as usize;
     let to = put_byte(room, at, digit(n / 16));
@@ -156,7 +157,7 @@ fn printable(b: u8) -> u8
 }
 
 fn put_printed(room: &mut [u8], at: usize, s: &[u8]) -> usize
-    ensures { λ r. ⌜ Wrote (map Text·printable (now (s .entry))) at (now (room .entry)) r (now (room .exit)) ⌝ }
+    ensures { λ r. ⌜ Writes (map Text·printable (was s)) at room r ⌝ }
 {
     let mut to = at;
     let mut i = 0;
@@ -169,7 +170,7 @@ fn put_printed(room: &mut [u8], at: usize, s: &[u8]) -> usize
 
 // A text in quotes.
 pub fn put_quoted(room: &mut [u8], at: usize, s: &[u8]) -> usize
-    ensures { λ r. ⌜ Wrote (quoted (now (s .entry))) at (now (room .entry)) r (now (room .exit)) ⌝ }
+    ensures { λ r. ⌜ Writes (quoted (was s)) at room r ⌝ }
 {
     let a = put_byte(room, at, QUOTE);
     let b = put_printed(room, a, s);

@@ -3,7 +3,8 @@ ghost use mathlib.Core.Path.{_≡_};
 ghost use mathlib.Core.List.{[], _∷_};
 ghost use Prim.Native.Nat.{_≤_};
 ghost use lib.ListN.{length};
-ghost use Rattle.text.specs.Text.{Wrote, hex};
+ghost use Rattle.rules.specs.Lent.{was};
+ghost use Rattle.text.specs.Text.{Writes, hex};
 ghost use Rattle.text.specs.Pieces.{part, spaced, labelled, counted, coded};
 use crate::put;
 use crate::put_byte;
@@ -17,7 +18,7 @@ struct Range {
 
 // The part's own places in the bytes.
 fn within(s: &[u8], from: usize, to: usize) -> Range
-    ensures { λ r. ⌜ (r .from ≤ r .to) × (r .to ≤ length (now (s .entry))) × (part (now (s .entry)) (r .from) (r .to) ≡ part (now (s .entry)) from to) ⌝ }
+    ensures { λ r. ⌜ (r .from ≤ r .to) × (r .to ≤ length (was s)) × (part (was s) (r .from) (r .to) ≡ part (was s) from to) ⌝ }
 {
     let end = s.len();
     if to <= from {
@@ -34,7 +35,7 @@ fn within(s: &[u8], from: usize, to: usize) -> Range
 
 // The bytes from one place to before another.
 pub fn put_part(room: &mut [u8], at: usize, s: &[u8], from: usize, to: usize) -> usize
-    ensures { λ r. ⌜ Wrote (hex (part (now (s .entry)) from to)) at (now (room .entry)) r (now (room .exit)) ⌝ }
+    ensures { λ r. ⌜ Writes (hex (part (was s) from to)) at room r ⌝ }
 {
     let p = within(s, from, to);
     let a = p.from;
@@ -44,7 +45,7 @@ pub fn put_part(room: &mut [u8], at: usize, s: &[u8], from: usize, to: usize) ->
 
 // The same, each byte behind a space.
 pub fn put_spaced(room: &mut [u8], at: usize, s: &[u8], from: usize, to: usize) -> usize
-    ensures { λ r. ⌜ Wrote (spaced (part (now (s .entry)) from to)) at (now (room .entry)) r (now (room .exit)) ⌝ }
+    ensures { λ r. ⌜ Writes (spaced (part (was s) from to)) at room r ⌝ }
 {
     let p = within(s, from, to);
     let a = p.from;
@@ -53,7 +54,7 @@ pub fn put_spaced(room: &mut [u8], at: usize, s: &[u8], from: usize, to: usize) 
 }
 
 fn put_each(room: &mut [u8], at: usize, s: &[u8]) -> usize
-    ensures { λ r. ⌜ Wrote (spaced (now (s .entry))) at (now (room .entry)) r (now (room .exit)) ⌝ }
+    ensures { λ r. ⌜ Writes (spaced (was s)) at room r ⌝ }
 {
     let mut to = at;
     let mut i = 0;
@@ -65,21 +66,21 @@ fn put_each(room: &mut [u8], at: usize, s: &[u8]) -> usize
 }
 
 fn put_one(room: &mut [u8], at: usize, b: u8) -> usize
-    ensures { λ r. ⌜ Wrote (spaced (b ∷ [])) at (now (room .entry)) r (now (room .exit)) ⌝ }
+    ensures { λ r. ⌜ Writes (spaced (b ∷ [])) at room r ⌝ }
 {
     let to = put_byte(room, at, b' ');
     put_hex(room, to, &[b])
 }
 
 pub fn put_labelled(room: &mut [u8], at: usize, label: &[u8], n: usize) -> usize
-    ensures { λ r. ⌜ Wrote (labelled (now (label .entry)) n) at (now (room .entry)) r (now (room .exit)) ⌝ }
+    ensures { λ r. ⌜ Writes (labelled (was label) n) at room r ⌝ }
 {
     let to = put(room, at, label);
     put_decimal(room, to, n)
 }
 
 pub fn put_counted(room: &mut [u8], at: usize, label: &[u8], n: usize, thing: &[u8]) -> usize
-    ensures { λ r. ⌜ Wrote (counted (now (label .entry)) n (now (thing .entry))) at (now (room .entry)) r (now (room .exit)) ⌝ }
+    ensures { λ r. ⌜ Writes (counted (was label) n (was thing)) at room r ⌝ }
 {
     let a = put_labelled(room, at, label, n);
     let b = put(room, a, thing);
@@ -91,7 +92,7 @@ pub fn put_counted(room: &mut [u8], at: usize, label: &[u8], n: usize, thing: &[
 
 // A code or key, behind its name.
 pub fn put_code(room: &mut [u8], at: usize, n: usize) -> usize
-    ensures { λ r. ⌜ Wrote (coded n) at (now (room .entry)) r (now (room .exit)) ⌝ }
+    ensures { λ r. ⌜ Writes (coded n) at room r ⌝ }
 {
     let to = put_labelled(room, at, b" (", n);
     put_byte(room, to, b')')

@@ -2,8 +2,9 @@
 ghost use mathlib.Core.Path.{_≡_};
 ghost use Prim.Native.Nat.{_≤_, _<_};
 ghost use lib.ListN.{length, take, drop};
+ghost use Rattle.rules.specs.Lent.{was, left};
 ghost use Rattle.rules.specs.Limits.{sectionCount};
-ghost use Rattle.text.specs.Text.{Wrote};
+ghost use Rattle.text.specs.Text.{Writes};
 ghost use Rattle.text_names.specs.Rows.{before, after};
 ghost use Rattle.text_names.specs.Rows.{position as Rows·position};
 ghost use Rattle.text_names.specs.Words.{wide, commandWords, parameterWords, sectionKey, sectionWords, refusalWords, endWords, resultWords};
@@ -93,7 +94,7 @@ const ENDS: [u8; 10] = [
 
 // A word, and spaces up to a width.
 pub(crate) fn put_wide(room: &mut [u8], at: usize, word: &[u8], width: usize) -> usize
-    ensures { λ r. ⌜ Wrote (wide width (now (word .entry))) at (now (room .entry)) r (now (room .exit)) ⌝ }
+    ensures { λ r. ⌜ Writes (wide width (was word)) at room r ⌝ }
 {
     let to = put(room, at, word);
     let count = word.len();
@@ -105,7 +106,7 @@ pub(crate) fn put_wide(room: &mut [u8], at: usize, word: &[u8], width: usize) ->
 
 // The first place of a number, or the length.
 fn position(s: &[u8], n: usize) -> usize
-    ensures { λ r. ⌜ r ≡ Rows·position n (now (s .entry)) ⌝ }
+    ensures { λ r. ⌜ r ≡ Rows·position n (was s) ⌝ }
 {
     let mut i = 0;
     while i < s.len() {
@@ -119,7 +120,7 @@ fn position(s: &[u8], n: usize) -> usize
 
 // The place after k bars.
 fn skip(s: &[u8], k: usize) -> usize
-    ensures { λ r. ⌜ (r ≤ length (now (s .entry))) × (drop r (now (s .entry)) ≡ after k (now (s .entry))) ⌝ }
+    ensures { λ r. ⌜ (r ≤ length (was s)) × (drop r (was s) ≡ after k (was s)) ⌝ }
 {
     let mut left = k;
     let mut i = 0;
@@ -137,7 +138,7 @@ fn skip(s: &[u8], k: usize) -> usize
 
 // The place of the first bar, or the length.
 fn bar(s: &[u8]) -> usize
-    ensures { λ r. ⌜ (r ≤ length (now (s .entry))) × (take r (now (s .entry)) ≡ before (now (s .entry))) ⌝ }
+    ensures { λ r. ⌜ (r ≤ length (was s)) × (take r (was s) ≡ before (was s)) ⌝ }
 {
     let mut i = 0;
     while i < s.len() {
@@ -158,7 +159,7 @@ fn put_word(
     n: usize,
     width: usize,
 ) -> usize
-    ensures { λ r. ⌜ Wrote (wide width (before (after (Rows·position n (now (numbers .entry))) (now (words .entry))))) at (now (room .entry)) r (now (room .exit)) ⌝ }
+    ensures { λ r. ⌜ Writes (wide width (before (after (Rows·position n (was numbers)) (was words)))) at room r ⌝ }
 {
     let from = skip(words, position(numbers, n));
     let rest = &words[from..];
@@ -168,7 +169,7 @@ fn put_word(
 
 // The word of a command, and spaces up to a width.
 pub fn put_command_wide(room: &mut [u8], at: usize, code: usize, width: usize) -> usize
-    ensures { λ r. ⌜ Wrote (wide width (commandWords code)) at (now (room .entry)) r (now (room .exit)) ⌝ }
+    ensures { λ r. ⌜ Writes (wide width (commandWords code)) at room r ⌝ }
 {
     put_word(
         room,
@@ -181,13 +182,13 @@ pub fn put_command_wide(room: &mut [u8], at: usize, code: usize, width: usize) -
 }
 
 pub fn put_command(room: &mut [u8], at: usize, code: usize) -> usize
-    ensures { λ r. ⌜ Wrote (commandWords code) at (now (room .entry)) r (now (room .exit)) ⌝ }
+    ensures { λ r. ⌜ Writes (commandWords code) at room r ⌝ }
 {
     put_command_wide(room, at, code, 0)
 }
 
 pub fn put_parameter(room: &mut [u8], at: usize, key: usize) -> usize
-    ensures { λ r. ⌜ Wrote (parameterWords key) at (now (room .entry)) r (now (room .exit)) ⌝ }
+    ensures { λ r. ⌜ Writes (parameterWords key) at room r ⌝ }
 {
     put_word(
         room,
@@ -211,7 +212,7 @@ pub fn section_key(j: usize) -> usize
 }
 
 pub fn put_section(room: &mut [u8], at: usize, key: usize) -> usize
-    ensures { λ r. ⌜ Wrote (sectionWords key) at (now (room .entry)) r (now (room .exit)) ⌝ }
+    ensures { λ r. ⌜ Writes (sectionWords key) at room r ⌝ }
 {
     put_word(
         room,
@@ -224,7 +225,7 @@ pub fn put_section(room: &mut [u8], at: usize, key: usize) -> usize
 }
 
 pub fn put_refusal(room: &mut [u8], at: usize, number: usize) -> usize
-    ensures { λ r. ⌜ Wrote (refusalWords number) at (now (room .entry)) r (now (room .exit)) ⌝ }
+    ensures { λ r. ⌜ Writes (refusalWords number) at room r ⌝ }
 {
     put_word(
         room,
@@ -237,7 +238,7 @@ pub fn put_refusal(room: &mut [u8], at: usize, number: usize) -> usize
 }
 
 pub fn put_end(room: &mut [u8], at: usize, number: usize) -> usize
-    ensures { λ r. ⌜ Wrote (endWords number) at (now (room .entry)) r (now (room .exit)) ⌝ }
+    ensures { λ r. ⌜ Writes (endWords number) at room r ⌝ }
 {
     put_word(
         room,
@@ -251,7 +252,7 @@ pub fn put_end(room: &mut [u8], at: usize, number: usize) -> usize
 
 // The result of an event.
 pub fn put_result(room: &mut [u8], at: usize, number: usize) -> usize
-    ensures { λ r. ⌜ Wrote (resultWords number) at (now (room .entry)) r (now (room .exit)) ⌝ }
+    ensures { λ r. ⌜ Writes (resultWords number) at room r ⌝ }
 {
     if number == End::FINISHED {
         return put(room, at, b"success");

@@ -1,5 +1,6 @@
 // Translate: the program of an accepted envelope's group, written to lent room.
 ghost use lib.ListN.{length};
+ghost use Rattle.rules.specs.Lent.{was, left};
 ghost use Rattle.rules.specs.Program as Rule;
 ghost use Rattle.manifest_accessors.specs.Accepted.{Accepted};
 ghost use Rattle.translate.specs.Translate.{Translates};
@@ -39,7 +40,7 @@ fn translate_checked(
     room: &mut [u8],
 ) -> Translated
     requires { ⌜ Accepted (now s) number n (now ids) (now sections) ⌝ }
-    ensures { λ r. ⌜ Translates (Rule.translate (now (s .entry)) group (length (now (room .entry)))) r (now (room .entry)) (now (room .exit)) ⌝ }
+    ensures { λ r. ⌜ Translates (Rule.translate (was s) group (length (was room))) r (was room) (left room) ⌝ }
 {
     let table = tables();
     let size = size_sections(s, &table, group, sections);
@@ -56,7 +57,7 @@ fn translate_checked(
 
 // Translates the envelope s for a group into the room. On a refusal the room is as lent; else the program is at its start.
 pub fn translate(s: &[u8], group: Group, room: &mut [u8]) -> Translated
-    ensures { λ r. ⌜ Translates (Rule.translate (now (s .entry)) group (length (now (room .entry)))) r (now (room .entry)) (now (room .exit)) ⌝ }
+    ensures { λ r. ⌜ Translates (Rule.translate (was s) group (length (was room))) r (was room) (left room) ⌝ }
 {
     let report = check(s);
     let answer = report.answer;

@@ -3,6 +3,7 @@ ghost use mathlib.Core.Path.{_≡_};
 ghost use mathlib.Core.List.{map};
 ghost use Prim.Native.Nat.{ℕ, _+_, _-_, _*_, _≤_, _<_};
 ghost use lib.ListN.{length};
+ghost use Rattle.rules.specs.Lent.{was, left};
 ghost use Rattle.rules.specs.Bytes.{Bytes, part, flat, spanAt};
 ghost use Rattle.rules.specs.Limits.{limits};
 ghost use Rattle.rules.specs.ProgramFormat.{nameSize};
@@ -18,7 +19,7 @@ use rules::program_format::NAME_BYTES;
 // How many bytes the records of the n identifiers have.
 pub(crate) fn size_names(ids: &Places, n: usize) -> usize
     requires { ⌜ (n ≤ limits .components) × InBytes (now ids) n (limits .envelope) ⌝ }
-    ensures { λ r. ⌜ ((s : Bytes) → InBytes (now (ids .entry)) n (length s) → r ≡ length (flat (map idBytes (namesAt s (now (ids .entry)) n)))) ⌝ }
+    ensures { λ r. ⌜ ((s : Bytes) → InBytes (was ids) n (length s) → r ≡ length (flat (map idBytes (namesAt s (was ids) n)))) ⌝ }
 {
     let mut sum = 0;
     let mut k = 0;
@@ -32,7 +33,7 @@ pub(crate) fn size_names(ids: &Places, n: usize) -> usize
 // The record of the identifier of n bytes at `from`: the place after it.
 fn put_name(s: &[u8], from: usize, n: usize, room: &mut [u8], to: usize) -> usize
     requires { ⌜ (from + n ≤ length (now s)) × (n < 256) × (to + nameSize + n ≤ length (now room)) ⌝ }
-    ensures { λ r. ⌜ Filled (idBytes (part (now (s .entry)) from n)) to (now (room .entry)) r (now (room .exit)) ⌝ }
+    ensures { λ r. ⌜ Filled (idBytes (part (was s) from n)) to (was room) r (left room) ⌝ }
 {
     room[to] = program_format::MARK;
     room[to + 1] = program_format::MARK_2;
@@ -45,7 +46,7 @@ fn put_name(s: &[u8], from: usize, n: usize, room: &mut [u8], to: usize) -> usiz
 // The records of the n identifiers at the places `ids` of s, written from `at` on: the place after them.
 pub(crate) fn write_names(s: &[u8], ids: &Places, n: usize, room: &mut [u8], at: usize) -> usize
     requires { ⌜ (n ≤ limits .components) × InBytes (now ids) n (length (now s)) × ((k : ℕ) → k < n → spanAt (now ids) k .to - spanAt (now ids) k .from < 256) × (at + length (flat (map idBytes (namesAt (now s) (now ids) n))) ≤ length (now room)) ⌝ }
-    ensures { λ r. ⌜ Filled (flat (map idBytes (namesAt (now (s .entry)) (now (ids .entry)) n))) at (now (room .entry)) r (now (room .exit)) ⌝ }
+    ensures { λ r. ⌜ Filled (flat (map idBytes (namesAt (was s) (was ids) n))) at (was room) r (left room) ⌝ }
 {
     let mut to = at;
     let mut k = 0;

@@ -1,6 +1,7 @@
 // The sections of a group: sized, and written one after the other.
 ghost use mathlib.Core.Path.{_≡_};
 ghost use mathlib.Core.Bool.{true, false};
+ghost use Rattle.rules.specs.Lent.{was, left};
 ghost use Rattle.rules.specs.Bytes.{put};
 ghost use Rattle.rules.specs.Limits.{limits};
 ghost use Rattle.rules.specs.Program.{flatSeq, flatAll};
@@ -26,7 +27,7 @@ use translate_size::sizes::size_sequence;
 // The size of the sequence at `from`; nothing where it is not wanted.
 fn size_section(s: &[u8], table: &Table, wanted: bool, from: usize) -> Size
     requires { ⌜ (wanted ≡ true → SequenceHere (now s) (now table) (limits .depth) from) ⌝ }
-    ensures { λ r. ⌜ (wanted ≡ true → (j : SequenceHere (now (s .entry)) (now (table .entry)) (limits .depth) from) → SequenceSized (j .place .seq) r) × (wanted ≡ false → (r .records ≡ 0) × (r .arguments ≡ 0)) ⌝ }
+    ensures { λ r. ⌜ (wanted ≡ true → (j : SequenceHere (was s) (was table) (limits .depth) from) → SequenceSized (j .place .seq) r) × (wanted ≡ false → (r .records ≡ 0) × (r .arguments ≡ 0)) ⌝ }
 {
     if !wanted {
         return Size {
@@ -41,7 +42,7 @@ fn size_section(s: &[u8], table: &Table, wanted: bool, from: usize) -> Size
 // The size of the group's sections, from the places that check reported.
 pub(crate) fn size_sections(s: &[u8], table: &Table, group: Group, sections: &SectionPlaces) -> Size
     requires { ⌜ SectionsHere (now s) (now table) (now sections) ⌝ }
-    ensures { λ r. ⌜ ((j : SectionsHere (now (s .entry)) (now (table .entry)) (now (sections .entry))) → SectionsSized (planOf group (j .manifest)) r) ⌝ }
+    ensures { λ r. ⌜ ((j : SectionsHere (was s) (was table) (was sections)) → SectionsSized (planOf group (j .manifest)) r) ⌝ }
 {
     let mut now = Size {
         next: 0,
@@ -73,7 +74,7 @@ fn write_section(
     room: &mut [u8],
 ) -> WriteState
     requires { ⌜ (wanted ≡ true → SequenceJob (now s) (now table) (limits .depth) (startOf from state) (now room)) ⌝ }
-    ensures { λ r. ⌜ (wanted ≡ true → (j : SequenceJob (now (s .entry)) (now (table .entry)) (limits .depth) (startOf from state) (now (room .entry))) → Wrote (flatSeq (j .place .seq) false 0 false NONE 0 (state .n)) state (now (room .entry)) r (now (room .exit))) × (wanted ≡ false → (r ≡ state) × (now (room .exit) ≡ now (room .entry))) ⌝ }
+    ensures { λ r. ⌜ (wanted ≡ true → (j : SequenceJob (was s) (was table) (limits .depth) (startOf from state) (was room)) → Wrote (flatSeq (j .place .seq) false 0 false NONE 0 (state .n)) state (was room) r (left room)) × (wanted ≡ false → (r ≡ state) × (left room ≡ was room)) ⌝ }
 {
     if !wanted {
         return state;
@@ -106,7 +107,7 @@ pub(crate) fn write_sections(
     room: &mut [u8],
 )
     requires { ⌜ SectionsJob (now s) (now table) group (now sections) to (now room) ⌝ }
-    ensures { λ _. ⌜ ((j : SectionsJob (now (s .entry)) (now (table .entry)) group (now (sections .entry)) to (now (room .entry))) → now (room .exit) ≡ put (now (room .entry)) to (written (flatAll (planOf group (j .here .manifest)) 0))) ⌝ }
+    ensures { λ _. ⌜ ((j : SectionsJob (was s) (was table) group (was sections) to (was room)) → left room ≡ put (was room) to (written (flatAll (planOf group (j .here .manifest)) 0))) ⌝ }
 {
     let mut now = WriteState {
         next: 0,

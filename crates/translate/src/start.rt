@@ -2,6 +2,7 @@
 ghost use mathlib.Core.Path.{_≡_};
 ghost use Prim.Native.Nat.{_≤_, _<_};
 ghost use lib.ListN.{length};
+ghost use Rattle.rules.specs.Lent.{was, left};
 ghost use Rattle.rules.specs.Bytes.{put};
 ghost use Rattle.rules.specs.ProgramFormat.{startSize};
 ghost use Rattle.translate.specs.Start.{startBytes};
@@ -19,7 +20,7 @@ pub(crate) fn put_start(
     records: usize,
 )
     requires { ⌜ (startSize ≤ length (now room)) × (components < 256) ⌝ }
-    ensures { λ _. ⌜ now (room .exit) ≡ put (now (room .entry)) 0 (startBytes group number components records) ⌝ }
+    ensures { λ _. ⌜ left room ≡ put (was room) 0 (startBytes group number components records) ⌝ }
 {
     room[0] = program_format::MARK;
     room[1] = program_format::MARK_2;

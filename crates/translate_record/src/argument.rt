@@ -3,6 +3,7 @@ ghost use mathlib.Core.Path.{_≡_};
 ghost use mathlib.Core.List.{[], _∷_};
 ghost use Prim.Native.Nat.{_+_, _-_, _≤_, _<_};
 ghost use lib.ListN.{length};
+ghost use Rattle.rules.specs.Lent.{was, left};
 ghost use Rattle.rules.specs.Bytes.{part, be4};
 ghost use Rattle.rules.specs.Limits.{limits};
 ghost use Rattle.rules.specs.Tables.{byNumber};
@@ -27,7 +28,7 @@ use translate_size::kinds::kind_of;
 // The URI or the digest under that key: the n bytes of s from `from` on; 0 is unset.
 fn put_string(s: &[u8], key: u8, from: usize, n: usize, room: &mut [u8], to: usize) -> usize
     requires { ⌜ (0 < from → from + n ≤ length (now s)) × (n < 256) × (to + length (entry key (λ b. b) (optional from (part (now s) from n))) ≤ length (now room)) ⌝ }
-    ensures { λ r. ⌜ Filled (entry key (λ b. b) (optional from (part (now (s .entry)) from n))) to (now (room .entry)) r (now (room .exit)) ⌝ }
+    ensures { λ r. ⌜ Filled (entry key (λ b. b) (optional from (part (was s) from n))) to (was room) r (left room) ⌝ }
 {
     if from == 0 {
         return to;
@@ -41,7 +42,7 @@ fn put_string(s: &[u8], key: u8, from: usize, n: usize, room: &mut [u8], to: usi
 // The source, which is one less than the number; 0 is unset.
 fn put_source(source: usize, room: &mut [u8], to: usize) -> usize
     requires { ⌜ (source ≤ 256) × (to + length (entry sourceKey (λ n. n ∷ []) (optional source (source - 1))) ≤ length (now room)) ⌝ }
-    ensures { λ r. ⌜ Filled (entry sourceKey (λ n. n ∷ []) (optional source (source - 1))) to (now (room .entry)) r (now (room .exit)) ⌝ }
+    ensures { λ r. ⌜ Filled (entry sourceKey (λ n. n ∷ []) (optional source (source - 1))) to (was room) r (left room) ⌝ }
 {
     if source == 0 {
         return to;
@@ -55,7 +56,7 @@ fn put_source(source: usize, room: &mut [u8], to: usize) -> usize
 // The size, which is one less than the number; 0 is unset.
 fn put_size(size: usize, room: &mut [u8], to: usize) -> usize
     requires { ⌜ to + length (entry sizeKey be4 (optional size (size - 1))) ≤ length (now room) ⌝ }
-    ensures { λ r. ⌜ Filled (entry sizeKey be4 (optional size (size - 1))) to (now (room .entry)) r (now (room .exit)) ⌝ }
+    ensures { λ r. ⌜ Filled (entry sizeKey be4 (optional size (size - 1))) to (was room) r (left room) ⌝ }
 {
     if size == 0 {
         return to;
@@ -69,7 +70,7 @@ fn put_size(size: usize, room: &mut [u8], to: usize) -> usize
 // The parameters that are set.
 fn put_parameters(s: &[u8], a: Args, room: &mut [u8], to: usize) -> usize
     requires { ⌜ Within (now s) (paramsOf a) × Fit (now s) 256 (paramsOf a) × (to + length (paramBytes (meaning (now s) (paramsOf a))) ≤ length (now room)) ⌝ }
-    ensures { λ r. ⌜ Filled (paramBytes (meaning (now (s .entry)) (paramsOf a))) to (now (room .entry)) r (now (room .exit)) ⌝ }
+    ensures { λ r. ⌜ Filled (paramBytes (meaning (was s) (paramsOf a))) to (was room) r (left room) ⌝ }
 {
     let g = a.params;
     let p = put_string(s, codes::URI as u8, g.uri, g.length, room, to);
@@ -95,7 +96,7 @@ pub(crate) fn put_argument(
     to: usize,
 ) -> usize
     requires { ⌜ Within (now s) (paramsOf a) × Fit (now s) 256 (paramsOf a) × SixteenAt (now s) code (a .value) × IsCode (now s) code (a .value) (paramsOf a) × (to + length (argBytes (opOf (now s) code (a .value) (paramsOf a))) ≤ length (now room)) × (now table ≡ byNumber) ⌝ }
-    ensures { λ r. ⌜ Filled (argBytes (opOf (now (s .entry)) code (a .value) (paramsOf a))) to (now (room .entry)) r (now (room .exit)) ⌝ }
+    ensures { λ r. ⌜ Filled (argBytes (opOf (was s) code (a .value) (paramsOf a))) to (was room) r (left room) ⌝ }
 {
     match kind_of(table, code) {
         Argument::Sixteen => {

@@ -3,6 +3,7 @@ ghost use mathlib.Core.Path.{_≡_};
 ghost use mathlib.Core.Bool.{cond};
 ghost use Prim.Native.Nat.{_+_, _≤_, _<_};
 ghost use lib.ListN.{length};
+ghost use Rattle.rules.specs.Lent.{was, left};
 ghost use Rattle.rules.specs.Bytes.{put};
 ghost use Rattle.rules.specs.Commands.{commands, rowOf, conditionIn};
 ghost use Rattle.rules.specs.Limits.{limits};
@@ -42,7 +43,7 @@ fn put_head(
     size: usize,
 )
     requires { ⌜ (to + recordSize ≤ length (now room)) × (code < 256) × (component < 256) ⌝ }
-    ensures { λ _. ⌜ now (room .exit) ≡ put (now (room .entry)) to (headBytes code component place target size) ⌝ }
+    ensures { λ _. ⌜ left room ≡ put (was room) to (headBytes code component place target size) ⌝ }
 {
     room[to] = program_format::MARK;
     room[to + 1] = program_format::MARK_2;
@@ -67,7 +68,7 @@ fn target_of(table: &Table, code: usize, target: usize) -> usize
 // A jump to the record of that number.
 pub fn put_jump(target: usize, state: WriteState, room: &mut [u8]) -> WriteState
     requires { ⌜ (state .to + recordSize ≤ length (now room)) × (state .n < limits .records) ⌝ }
-    ensures { λ r. ⌜ JumpWrote target state (now (room .entry)) r (now (room .exit)) ⌝ }
+    ensures { λ r. ⌜ JumpWrote target state (was room) r (left room) ⌝ }
 {
     put_head(room, state.to, JUMP, 0, 0, target, 0);
     WriteState {
@@ -90,7 +91,7 @@ pub fn put_command(
     room: &mut [u8],
 ) -> WriteState
     requires { ⌜ LeafJob (now s) (now table) code at state (now room) ⌝ }
-    ensures { λ r. ⌜ ((j : LeafJob (now (s .entry)) (now (table .entry)) code at state (now (room .entry))) → CommandWrote (one (state .next) (j .argument .op) (j .argument .coerce)) (j .argument .to) (j .argument .n) target state (now (room .entry)) r (now (room .exit))) ⌝ }
+    ensures { λ r. ⌜ ((j : LeafJob (was s) (was table) code at state (was room)) → CommandWrote (one (state .next) (j .argument .op) (j .argument .coerce)) (j .argument .to) (j .argument .n) target state (was room) r (left room)) ⌝ }
 {
     let a = read_one(s, code, at);
     let index = component(code, a.value, state.index);

@@ -1,6 +1,7 @@
 // The records of sequences and commands, written to lent room.
 ghost use mathlib.Core.Path.{_≡_};
 ghost use Prim.Native.Nat.{_+_, _≤_};
+ghost use Rattle.rules.specs.Lent.{was, left};
 ghost use Rattle.rules.specs.Limits.{limits};
 ghost use Rattle.rules.specs.Program.{flatSeq};
 ghost use mathlib.Core.Bool.{false, _&&_, cond};
@@ -65,7 +66,7 @@ pub fn write_sequence(
     room: &mut [u8],
 ) -> WriteState
     requires { ⌜ SequenceJob (now s) (now table) depth state (now room) ⌝ }
-    ensures { λ r. ⌜ ((j : SequenceJob (now (s .entry)) (now (table .entry)) depth state (now (room .entry))) → Wrote (flatSeq (j .place .seq) coercible (state .index) false target beyond (state .n)) state (now (room .entry)) r (now (room .exit))) ⌝ }
+    ensures { λ r. ⌜ ((j : SequenceJob (was s) (was table) depth state (was room)) → Wrote (flatSeq (j .place .seq) coercible (state .index) false target beyond (state .n)) state (was room) r (left room)) ⌝ }
 {
     let h = open(s, state.next);
     let mut now = WriteState {
@@ -94,7 +95,7 @@ fn write_command(
     room: &mut [u8],
 ) -> WriteState
     requires { ⌜ CommandJob (now s) (now table) depth state (now room) ⌝ }
-    ensures { λ r. ⌜ ((j : CommandJob (now (s .entry)) (now (table .entry)) depth state (now (room .entry))) → CommandWrote (j .place .cmd) (j .place .to) (j .n) target state (now (room .entry)) r (now (room .exit))) ⌝ }
+    ensures { λ r. ⌜ ((j : CommandJob (was s) (was table) depth state (was room)) → CommandWrote (j .place .cmd) (j .place .to) (j .n) target state (was room) r (left room)) ⌝ }
 {
     let c = open(s, state.next);
     let code = c.value;

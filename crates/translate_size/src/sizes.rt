@@ -1,6 +1,7 @@
 // How many records a sequence has, and how many bytes their arguments have.
 ghost use mathlib.Core.Path.{_≡_};
 ghost use Prim.Native.Nat.{_≤_};
+ghost use Rattle.rules.specs.Lent.{was};
 ghost use Rattle.translate_size.specs.Size.{parametersSize, argumentSize, most, SequenceHere, CommandHere, SequenceSized, CommandSized};
 use crate::kinds::holds_alternatives;
 use crate::kinds::holds_sequence;
@@ -62,7 +63,7 @@ fn argument_size(kind: Argument, a: Args) -> usize
 // The sequence at `at`; it and those in it may be `depth` deep.
 pub fn size_sequence(s: &[u8], table: &Table, depth: usize, at: usize) -> Size
     requires { ⌜ SequenceHere (now s) (now table) depth at ⌝ }
-    ensures { λ r. ⌜ ((j : SequenceHere (now (s .entry)) (now (table .entry)) depth at) → SequenceSized (j .place .seq) r) ⌝ }
+    ensures { λ r. ⌜ ((j : SequenceHere (was s) (was table) depth at) → SequenceSized (j .place .seq) r) ⌝ }
 {
     let h = open(s, at);
     let mut now = Size {
@@ -86,7 +87,7 @@ pub fn size_sequence(s: &[u8], table: &Table, depth: usize, at: usize) -> Size
 // The command at `at`; the sequences that it holds may be `depth` deep.
 pub fn size_command(s: &[u8], table: &Table, depth: usize, at: usize) -> Size
     requires { ⌜ CommandHere (now s) (now table) depth at ⌝ }
-    ensures { λ r. ⌜ ((j : CommandHere (now (s .entry)) (now (table .entry)) depth at) → CommandSized (j .place .cmd) (j .place .to) r) ⌝ }
+    ensures { λ r. ⌜ ((j : CommandHere (was s) (was table) depth at) → CommandSized (j .place .cmd) (j .place .to) r) ⌝ }
 {
     let c = open(s, at);
     let code = c.value;
