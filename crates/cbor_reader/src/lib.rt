@@ -3,7 +3,7 @@
 ghost use mathlib.Core.Path.{_≡_};
 ghost use Prim.Native.Nat.{_-_};
 ghost use lib.ListN.{length};
-ghost use Rattle.rules.specs.Lent.{was, left};
+ghost use Rattle.rules.specs.Lent.{was};
 ghost use Rattle.rules.specs.Cbor.{head};
 ghost use Rattle.cbor_reader.specs.Read.{readOf, headHere, moved};
 use cbor::HeadRead;
@@ -78,7 +78,7 @@ pub fn left<'a>(r: Reader<'a>) -> usize
 
 // Reads one head, and moves the reader to the place after it; or refuses it with 65, and the reader is as it was.
 pub fn read_head<'s, 'a>(r: &'s mut Reader<'a>) -> Read
-    ensures { λ h. ⌜ (h ≡ readOf (headHere (was r))) × (left r ≡ moved (was r) (headHere (was r))) ⌝ }
+    ensures { λ h. ⌜ (h ≡ readOf (headHere (now (r .entry)))) × (now (r .exit) ≡ moved (now (r .entry)) (headHere (now (r .entry)))) ⌝ }
 {
     let h = head_of(r.envelope, r.at);
     r.at = h.next;
