@@ -14,7 +14,7 @@ use Rattle.rules.specs.ProgramRun.{exec, resume}
 use Rattle.rules.specs.ProgramTest.{nonJumps}
 use Rattle.rules.specs.Step.{State, Out, out, step, eventBytes}
 use Rattle.run_slots.specs.declared.params.Params.{Params}
-use Rattle.run_slots.specs.Params.{FitAll}
+use Rattle.run_slots.specs.Params.{FitAll, SlotsKept}
 use Rattle.run_actions.specs.declared.Progress.{Progress}
 use Rattle.run_commands.specs.Machine.{stateAt, outAt}
 use Rattle.run_commands.specs.Op.{opOf, IsCode, SixteenAt}
@@ -28,8 +28,8 @@ use Rattle.program_run.proofs.GivenLaws.{argument-sixteen}
 use Rattle.rules_theorems.proofs.RunLaws.{exec-does}
 use Rattle.rules.specs.Commands.{setIndexCode}
 
-module _ (p : Bytes) (components : ℕ) (current : ProgramState) (vendor class : Bytes) (assigned : List ℕ) (answers slots : Bytes) (params : List ℕ) (trace : Bytes)
-    (j : ExecJob p components current vendor class assigned answers slots params trace) where
+module _ (p : Bytes) (components : ℕ) (current : ProgramState) (vendor class answers slots : Bytes) (memory : List ℕ) (trace : Bytes)
+    (j : ExecJob p components current vendor class answers slots memory trace) where
   abbrev at : ℕ
   at = current .at
 
@@ -46,7 +46,7 @@ module _ (p : Bytes) (components : ℕ) (current : ProgramState) (vendor class :
   pub execute-number : current .n < limits .records
   execute-number = omega (arith, j .before, j .ready .size)
 
-  pub execute-fit : FitAll p (limits .components) params
+  pub execute-fit : FitAll p (limits .components) memory
   execute-fit k h = record { source = omega (arith, j .ready .lent .fit k h .source, j .ready .lent .host .few); digest = j .ready .lent .fit k h .digest }
 
   records-are : j .ready .place .records ≡ does (command .op) (getD p (at + componentFrom) 0) (numberAt p (at + placeFrom)) (numberAt p (at + targetFrom)) ∷ here .others .records
@@ -97,17 +97,17 @@ module _ (p : Bytes) (components : ℕ) (current : ProgramState) (vendor class :
       pub execute-code : IsCode p code v w
       execute-code = rw (ev, g .op) (op-code components i _ (command .op) code (command .row) (argument-here .listed) (argument-here .reads))
 
-      module _ (place : ℕ) (ep : place ≡ numberAt p (at + placeFrom)) (target : ℕ) (et : target ≡ numberAt p (at + targetFrom)) (d : Progress) (slots′ : Bytes) (params′ : List ℕ) (trace′ : Bytes)
+      module _ (place : ℕ) (ep : place ≡ numberAt p (at + placeFrom)) (target : ℕ) (et : target ≡ numberAt p (at + targetFrom)) (d : Progress) (slots′ : Bytes) (memory′ : List ℕ) (trace′ : Bytes)
           (counted : d .events ≡ current .events + 1)
-          (goes : outAt p (length (j .env .ids)) params′ slots′ trace′ d
-          ≡ step (j .env) (opOf p code v w) i place (stateAt p (length (j .env .ids)) params slots trace (current .events) (current .used)))
-          (fit : FitAll p (length (j .env .ids)) params′)
+          (goes : outAt p (length (j .env .ids)) memory′ slots′ trace′ d
+          ≡ step (j .env) (opOf p code v w) i place (stateAt p (length (j .env .ids)) memory slots trace (current .events) (current .used)))
+          (fit : FitAll p (length (j .env .ids)) memory′) (same : SlotsKept memory memory′)
           (r : ProgramState) (o : Onward p (j .group) components (j .total) (current .n + 1) (at + recordSize + size) (onward-here target et .place) target d r) where
         abbrev st : State
-        st = stateOf p components params slots trace current
+        st = stateOf p components memory slots trace current
 
         abbrev st′ : State
-        st′ = stateOf p components params′ slots′ trace′ r
+        st′ = stateOf p components memory′ slots′ trace′ r
 
         stepped : step (j .env) (command .op) (getD p (at + componentFrom) 0) (numberAt p (at + placeFrom)) st ≡ out (endOf (d .end)) st′
         stepped = rw (o .events, o .used) (sym (rw (j .ready .among, ev, g .op, ei, ep) at goes))
@@ -119,17 +119,17 @@ module _ (p : Bytes) (components : ℕ) (current : ProgramState) (vendor class :
             ∙ ap (λ (x : Out). resume (j .env) (here .others .records) (current .n + 1) (numberAt p (at + targetFrom)) x) stepped
             ∙ ap (λ (t : ℕ). resume (j .env) (here .others .records) (current .n + 1) t (out (endOf (d .end)) st′)) (sym et)
 
-        pub executed : Executed p components current vendor class assigned answers slots params trace j r slots′ params′ trace′
+        pub executed : Executed p components current vendor class answers slots memory trace j r slots′ memory′ trace′
         executed =
-            let st₀ : State = stateAt p (length (j .env .ids)) params slots trace (current .events) (current .used) in
+            let st₀ : State = stateAt p (length (j .env .ids)) memory slots trace (current .events) (current .used) in
             record {
               moved =
                   record {
                     ready =
                         record {
                           lent =
-                              lent-after (j .env) p vendor class assigned answers slots params trace (j .ready .lent) st₀ _ 1 refl refl (moves-step (j .env) (opOf p code v w) i place st₀)
-                              slots′ params′ trace′ (ap (λ (x : Out). x .state .slots) goes) (ap (λ (x : Out). x .state .trace) goes) fit;
+                              lent-after (j .env) p vendor class answers slots memory trace (j .ready .lent) st₀ _ 1 refl refl (moves-step (j .env) (opOf p code v w) i place st₀)
+                              slots′ memory′ trace′ (ap (λ (x : Out). x .state .slots) goes) (ap (λ (x : Out). x .state .trace) goes) fit same;
                           among = j .ready .among;
                           place = o .place;
                           size = j .ready .size;

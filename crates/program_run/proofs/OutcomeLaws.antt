@@ -8,7 +8,7 @@ use lib.ListN.{length, replicate}
 use Rattle.rules.specs.declared.answers.Refusal.{Refusal}
 use Rattle.rules.specs.declared.answers.Refusal.the-variants.{BadProgram}
 use Rattle.rules.specs.Answers.{refusalOf, endOf}
-use Rattle.rules.specs.Limits.{limits, allParams}
+use Rattle.rules.specs.Limits.{limits, memoryNumbers}
 use Rattle.rules.specs.Bytes.{Bytes, spanAt}
 use Rattle.rules.specs.Got.{Got, refused, got}
 use Rattle.rules.specs.Program.{Program}
@@ -63,15 +63,15 @@ module _ (p : Bytes) (t : Tested) (a : Known p t) where
         Settles (x .device) (runProgram p x) (record { answer = The.Refused r 0; number = x .device .number }) (x .slots) (x .slots) (x .trace) (x .trace)
     refused-answer = Frame.refused-answer (a .program .group) (a .program .number) (a .program .ids) x _ (runProgram p x) is-run refusal stops
 
-    module _ (z : refusal ≡ 0) (assigned : List ℕ) (f : Found (namesAt p (t .ids) (t .components)) (x .slots) (replicate (limits .components) 0) assigned) where
-      unfoldable whole : StepJob p (t .components) (t .records) (startAt (t .from)) (x .device .vendor) (x .device .class) assigned (x .answers) (x .slots) (replicate allParams 0) (x .trace)
+    module _ (z : refusal ≡ 0) (memory : List ℕ) (f : Found (namesAt p (t .ids) (t .components)) (x .slots) (replicate memoryNumbers 0) memory) where
+      unfoldable whole : StepJob p (t .components) (t .records) (startAt (t .from)) (x .device .vendor) (x .device .class) (x .answers) (x .slots) memory (x .trace)
       whole =
           record {
             env = envOf (a .program .ids) x;
             group = a .program .group;
             ready =
                 record {
-                  lent = lent-start (a .program .group) (a .program .number) (a .program .ids) x refusal stops z (omega (arith, few, counted)) assigned (rw (a .stands .names) at f) p;
+                  lent = lent-start (a .program .group) (a .program .number) (a .program .ids) x refusal stops z (omega (arith, few, counted)) memory (rw (a .stands .names) at f) p;
                   among = counted;
                   place =
                       record {
@@ -86,21 +86,21 @@ module _ (p : Bytes) (t : Tested) (a : Known p t) where
             going = refl;
           }
 
-      pub job : StepJob p (t .components) (t .records) (startAt (t .from)) (x .device .vendor) (x .device .class) assigned (x .answers) (x .slots) (replicate allParams 0) (x .trace)
+      pub job : StepJob p (t .components) (t .records) (startAt (t .from)) (x .device .vendor) (x .device .class) (x .answers) (x .slots) memory (x .trace)
       job = whole
 
-      module _ (r : ProgramState) (slots′ : Bytes) (params′ : List ℕ) (trace′ : Bytes)
-          (d : (j : StepJob p (t .components) (t .records) (startAt (t .from)) (x .device .vendor) (x .device .class) assigned (x .answers) (x .slots) (replicate allParams 0) (x .trace)) →
-          Ran p (t .components) (t .records) (t .from) (x .device .vendor) (x .device .class) assigned (x .answers) (x .slots) (replicate allParams 0) (x .trace) j r slots′ params′ trace′) where
-        ran : Ran p (t .components) (t .records) (t .from) (x .device .vendor) (x .device .class) assigned (x .answers) (x .slots) (replicate allParams 0) (x .trace) whole r slots′ params′ trace′
+      module _ (r : ProgramState) (slots′ : Bytes) (memory′ : List ℕ) (trace′ : Bytes)
+          (d : (j : StepJob p (t .components) (t .records) (startAt (t .from)) (x .device .vendor) (x .device .class) (x .answers) (x .slots) memory (x .trace)) →
+          Ran p (t .components) (t .records) (t .from) (x .device .vendor) (x .device .class) (x .answers) (x .slots) memory (x .trace) j r slots′ memory′ trace′) where
+        ran : Ran p (t .components) (t .records) (t .from) (x .device .vendor) (x .device .class) (x .answers) (x .slots) memory (x .trace) whole r slots′ memory′ trace′
         ran = d whole
 
-        done : out (endOf (r .end)) (stateOf p (t .components) params′ slots′ trace′ r) ≡ exec (envOf (a .program .ids) x) (a .program .records) 0 0 (startState (a .program .ids) x)
+        done : out (endOf (r .end)) (stateOf p (t .components) memory′ slots′ trace′ r) ≡ exec (envOf (a .program .ids) x) (a .program .records) 0 0 (startState (a .program .ids) x)
         unfolding whole
         done =
             ran .goes
-            ∙ ap (λ (n : ℕ). exec (envOf (a .program .ids) x) (a .program .records) 0 0 (stateAt p n (replicate allParams 0) (x .slots) (x .trace) 0 0)) (sym counted)
-            ∙ ap (exec (envOf (a .program .ids) x) (a .program .records) 0 0) (state-start p (a .program .ids) x)
+            ∙ ap (λ (n : ℕ). exec (envOf (a .program .ids) x) (a .program .records) 0 0 (stateAt p n memory (x .slots) (x .trace) 0 0)) (sym counted)
+            ∙ ap (exec (envOf (a .program .ids) x) (a .program .records) 0 0) (state-start (a .program .group) (a .program .number) (a .program .ids) x refusal stops z (omega (arith, few, counted)) memory (rw (a .stands .names) at f) p)
 
         pub last-event : (0 < r .end → 0 < r .events) × (eventBytes * r .events ≤ length trace′)
         unfolding report

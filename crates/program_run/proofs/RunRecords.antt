@@ -15,44 +15,44 @@ use Rattle.program_run.specs.declared.step.ProgramState.{ProgramState}
 use Rattle.program_run.specs.Step.{stateOf, Ready, rest, StepJob, Stepped, startAt, Ran}
 use Rattle.program_run.proofs.FirstRecord.{none-left}
 
-pub record Loop (p : Bytes) (components total : ℕ) (vendor class : Bytes) (assigned : List ℕ) (answers : Bytes) (env : Env) (group : Group) (whole : Out) (slots : Bytes) (params : List ℕ) (trace : Bytes) (current : ProgramState) : Type 0 where
-  pub ready : Ready env group p components total current vendor class assigned answers slots params trace
-  pub goes : whole ≡ rest env group p components total current (ready .place) slots params trace
+pub record Loop (p : Bytes) (components total : ℕ) (vendor class answers : Bytes) (env : Env) (group : Group) (whole : Out) (slots : Bytes) (memory : List ℕ) (trace : Bytes) (current : ProgramState) : Type 0 where
+  pub ready : Ready env group p components total current vendor class answers slots memory trace
+  pub goes : whole ≡ rest env group p components total current (ready .place) slots memory trace
   pub calm : current .end ≡ endNumber Finished
 
-module _ (p : Bytes) (components total from : ℕ) (vendor class : Bytes) (assigned : List ℕ) (answers slots₀ : Bytes) (params₀ : List ℕ) (trace₀ : Bytes)
-    (j : StepJob p components total (startAt from) vendor class assigned answers slots₀ params₀ trace₀) where
+module _ (p : Bytes) (components total from : ℕ) (vendor class answers slots₀ : Bytes) (memory₀ : List ℕ) (trace₀ : Bytes)
+    (j : StepJob p components total (startAt from) vendor class answers slots₀ memory₀ trace₀) where
   abbrev pub whole : Out
-  whole = exec (j .env) (j .ready .place .records) 0 0 (stateAt p components params₀ slots₀ trace₀ 0 0)
+  whole = exec (j .env) (j .ready .place .records) 0 0 (stateAt p components memory₀ slots₀ trace₀ 0 0)
 
   abbrev pub LoopAt : Bytes → List ℕ → Bytes → ProgramState → Type 0
-  LoopAt slots params trace current = Loop p components total vendor class assigned answers (j .env) (j .group) whole slots params trace current
+  LoopAt slots memory trace current = Loop p components total vendor class answers (j .env) (j .group) whole slots memory trace current
 
-  pub loop-starts : LoopAt slots₀ params₀ trace₀ (startAt from)
+  pub loop-starts : LoopAt slots₀ memory₀ trace₀ (startAt from)
   loop-starts = record { ready = j .ready; goes = refl; calm = refl }
 
-  module _ (slots : Bytes) (params : List ℕ) (trace : Bytes) (current : ProgramState) (l : LoopAt slots params trace current) where
-    abbrev pub loop-job : StepJob p components total current vendor class assigned answers slots params trace
+  module _ (slots : Bytes) (memory : List ℕ) (trace : Bytes) (current : ProgramState) (l : LoopAt slots memory trace current) where
+    abbrev pub loop-job : StepJob p components total current vendor class answers slots memory trace
     loop-job = record { env = j .env; group = j .group; ready = l .ready; going = l .calm }
 
-    pub loop-done : total ≤ current .n → Ran p components total from vendor class assigned answers slots₀ params₀ trace₀ j current slots params trace
+    pub loop-done : total ≤ current .n → Ran p components total from vendor class answers slots₀ memory₀ trace₀ j current slots memory trace
     unfolding exec
     loop-done h =
         let e : l .ready .place .records ≡ [] = none-left p (j .group) components total (current .n) (current .at) (l .ready .place) (omega (arith, l .ready .place .below)) in
         record {
-          goes = rw (l .calm) (sym (l .goes ∙ ap (λ (rs : List Rec). exec (j .env) rs (current .n) 0 (stateOf p components params slots trace current)) e));
+          goes = rw (l .calm) (sym (l .goes ∙ ap (λ (rs : List Rec). exec (j .env) rs (current .n) 0 (stateOf p components memory slots trace current)) e));
           late = λ z. absurd (omega (arith, l .calm));
           few = omega (arith, l .ready .few);
         }
 
-    module _ (h : current .n < total) (r : ProgramState) (slots′ : Bytes) (params′ : List ℕ) (trace′ : Bytes)
-        (s : Stepped p components total current vendor class assigned answers slots params trace loop-job r slots′ params′ trace′) where
-      pub loop-stops : (r .end ≡ endNumber Finished → ⊥) → Ran p components total from vendor class assigned answers slots₀ params₀ trace₀ j r slots′ params′ trace′
+    module _ (h : current .n < total) (r : ProgramState) (slots′ : Bytes) (memory′ : List ℕ) (trace′ : Bytes)
+        (s : Stepped p components total current vendor class answers slots memory trace loop-job r slots′ memory′ trace′) where
+      pub loop-stops : (r .end ≡ endNumber Finished → ⊥) → Ran p components total from vendor class answers slots₀ memory₀ trace₀ j r slots′ memory′ trace′
       loop-stops z =
           let w : 0 < r .end = omega (arith, z) in
           record { goes = sym (l .goes ∙ s .moved .stops w); late = λ _. omega (arith, s .late w); few = omega (arith, s .moved .ready .few) }
 
-      pub loop-goes-on : r .end ≡ endNumber Finished → LoopAt slots′ params′ trace′ r
+      pub loop-goes-on : r .end ≡ endNumber Finished → LoopAt slots′ memory′ trace′ r
       loop-goes-on z = record { ready = s .moved .ready; goes = l .goes ∙ s .moved .goes z; calm = z }
 
       pub loop-further : (current .n < r .n) × (r .n ≤ total)

@@ -11,8 +11,8 @@ use Rattle.program_run.specs.declared.jump.RecordPlace.{RecordPlace}
 use Rattle.program_run.specs.Jump.{LandJob, Landed}
 use Rattle.program_run.specs.Step.{Ready, ExecJob, Executed, StepJob, Stepped}
 
-module _ (p : Bytes) (components total : ℕ) (current : ProgramState) (vendor class : Bytes) (assigned : List ℕ) (answers slots : Bytes) (params : List ℕ) (trace : Bytes)
-    (j : StepJob p components total current vendor class assigned answers slots params trace) where
+module _ (p : Bytes) (components total : ℕ) (current : ProgramState) (vendor class answers slots : Bytes) (memory : List ℕ) (trace : Bytes)
+    (j : StepJob p components total current vendor class answers slots memory trace) where
   abbrev pub land-job : LandJob p (current .at) (current .n) total
   land-job = record { group = j .group; components = components; place = j .ready .place }
 
@@ -20,7 +20,7 @@ module _ (p : Bytes) (components total : ℕ) (current : ProgramState) (vendor c
     abbrev pub landed-at : ProgramState
     landed-at = record { at = s .at; n = s .n; events = current .events; used = current .used; end = endNumber Finished }
 
-    abbrev pub landed-ready : Ready (j .env) (j .group) p components total landed-at vendor class assigned answers slots params trace
+    abbrev pub landed-ready : Ready (j .env) (j .group) p components total landed-at vendor class answers slots memory trace
     landed-ready =
         record {
           lent = j .ready .lent;
@@ -30,7 +30,7 @@ module _ (p : Bytes) (components total : ℕ) (current : ProgramState) (vendor c
           few = omega (arith, j .ready .few, l .reached .few);
         }
 
-    pub step-over : s .n ≡ total → Stepped p components total current vendor class assigned answers slots params trace j landed-at slots params trace
+    pub step-over : s .n ≡ total → Stepped p components total current vendor class answers slots memory trace j landed-at slots memory trace
     step-over e =
         record {
           moved = record { ready = landed-ready; goes = λ z. l .reached .goes (j .env) _; stops = λ h. absurd (omega arith) };
@@ -41,15 +41,15 @@ module _ (p : Bytes) (components total : ℕ) (current : ProgramState) (vendor c
         }
 
     module _ (e : s .n ≡ total → ⊥) where
-      abbrev pub execute-job : ExecJob p components landed-at vendor class assigned answers slots params trace
+      abbrev pub execute-job : ExecJob p components landed-at vendor class answers slots memory trace
       execute-job =
           let h : s .n < total = omega (arith, e, l .reached .place .below) in
           record { env = j .env; group = j .group; total = total; ready = landed-ready; before = h; stands = l .stands h }
 
-      pub step-done : (r : ProgramState) (slots′ : Bytes) (params′ : List ℕ) (trace′ : Bytes) →
-          Executed p components landed-at vendor class assigned answers slots params trace execute-job r slots′ params′ trace′ →
-          Stepped p components total current vendor class assigned answers slots params trace j r slots′ params′ trace′
-      step-done r slots′ params′ trace′ x =
+      pub step-done : (r : ProgramState) (slots′ : Bytes) (memory′ : List ℕ) (trace′ : Bytes) →
+          Executed p components landed-at vendor class answers slots memory trace execute-job r slots′ memory′ trace′ →
+          Stepped p components total current vendor class answers slots memory trace j r slots′ memory′ trace′
+      step-done r slots′ memory′ trace′ x =
           record {
             moved =
                 record {

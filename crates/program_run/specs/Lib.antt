@@ -1,3 +1,4 @@
 pub mod Jump
 pub mod Step
 pub mod Known
+pub mod Program

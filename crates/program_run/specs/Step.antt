@@ -20,9 +20,11 @@ use Rattle.rules.specs.Step.{Env, State, Out, out}
 use Rattle.run_slots.specs.declared.params.Params.{Params}
 use Rattle.run_slots.specs.Params.{Fit}
 use Rattle.run_actions.specs.declared.Progress.{Progress}
-use Rattle.run_commands.specs.Machine.{stateAt, Lent}
+use Rattle.run_commands.specs.Machine.{stateAt, Lends}
 use Rattle.run_commands.specs.Op.{opOf}
+use Rattle.rules.specs.Lent.{Lent, was, left}
 use Rattle.program_run.specs.declared.step.ProgramState.{ProgramState}
+use Rattle.program_run.specs.declared.step.Extent.{Extent}
 use Rattle.program_run.specs.Jump.{RecordsAt}
 
 -- the argument of a command, as the program test read it
@@ -64,11 +66,11 @@ pub record Onward (p : Bytes) (group : Group) (components total n at : ℕ) (x :
 
 -- the state that a run has reached
 abbrev pub stateOf : Bytes → ℕ → List ℕ → Bytes → Bytes → ProgramState → State
-stateOf p components params slots trace r = stateAt p components params slots trace (r .events) (r .used)
+stateOf p components memory slots trace r = stateAt p components memory slots trace (r .events) (r .used)
 
 -- a run over lent memory that is at a record or at the end of them, with room for an event of each command that is left
-pub record Ready (env : Env) (group : Group) (p : Bytes) (components total : ℕ) (current : ProgramState) (vendor class : Bytes) (assigned : List ℕ) (answers slots : Bytes) (params : List ℕ) (trace : Bytes) : Type 0 where
-  pub lent : Lent env p vendor class assigned answers slots params trace
+pub record Ready (env : Env) (group : Group) (p : Bytes) (components total : ℕ) (current : ProgramState) (vendor class answers slots : Bytes) (memory : List ℕ) (trace : Bytes) : Type 0 where
+  pub lent : Lends env p vendor class answers slots memory trace
   pub among : length (env .ids) ≡ components
   pub place : RecordsAt p group components total (current .n) (current .at)
   pub size : total ≤ limits .records
@@ -76,41 +78,41 @@ pub record Ready (env : Env) (group : Group) (p : Bytes) (components total : ℕ
 
 -- what the rule gives from there
 abbrev pub rest : (env : Env) (group : Group) (p : Bytes) (components total : ℕ) (current : ProgramState) → RecordsAt p group components total (current .n) (current .at) → Bytes → List ℕ → Bytes → Out
-rest env group p components total current x slots params trace = exec env (x .records) (current .n) 0 (stateOf p components params slots trace current)
+rest env group p components total current x slots memory trace = exec env (x .records) (current .n) 0 (stateOf p components memory slots trace current)
 
 -- the run was taken on to r: it goes on there as the rule does, or ended as the rule says
-pub record Moved (env : Env) (group : Group) (p : Bytes) (components total : ℕ) (current : ProgramState) (vendor class : Bytes) (assigned : List ℕ) (answers slots : Bytes) (params : List ℕ) (trace : Bytes)
-    (x : Ready env group p components total current vendor class assigned answers slots params trace) (r : ProgramState) (slots′ : Bytes) (params′ : List ℕ) (trace′ : Bytes) : Type 0 where
-  pub ready : Ready env group p components total r vendor class assigned answers slots′ params′ trace′
-  pub goes : r .end ≡ endNumber Finished → rest env group p components total current (x .place) slots params trace ≡ rest env group p components total r (ready .place) slots′ params′ trace′
-  pub stops : 0 < r .end → rest env group p components total current (x .place) slots params trace ≡ out (endOf (r .end)) (stateOf p components params′ slots′ trace′ r)
+pub record Moved (env : Env) (group : Group) (p : Bytes) (components total : ℕ) (current : ProgramState) (vendor class answers slots : Bytes) (memory : List ℕ) (trace : Bytes)
+    (x : Ready env group p components total current vendor class answers slots memory trace) (r : ProgramState) (slots′ : Bytes) (memory′ : List ℕ) (trace′ : Bytes) : Type 0 where
+  pub ready : Ready env group p components total r vendor class answers slots′ memory′ trace′
+  pub goes : r .end ≡ endNumber Finished → rest env group p components total current (x .place) slots memory trace ≡ rest env group p components total r (ready .place) slots′ memory′ trace′
+  pub stops : 0 < r .end → rest env group p components total current (x .place) slots memory trace ≡ out (endOf (r .end)) (stateOf p components memory′ slots′ trace′ r)
 
 -- at a command
-pub record ExecJob (p : Bytes) (components : ℕ) (current : ProgramState) (vendor class : Bytes) (assigned : List ℕ) (answers slots : Bytes) (params : List ℕ) (trace : Bytes) : Type 0 where
+pub record ExecJob (p : Bytes) (components : ℕ) (current : ProgramState) (vendor class answers slots : Bytes) (memory : List ℕ) (trace : Bytes) : Type 0 where
   pub env : Env
   pub group : Group
   pub total : ℕ
-  pub ready : Ready env group p components total current vendor class assigned answers slots params trace
+  pub ready : Ready env group p components total current vendor class answers slots memory trace
   pub before : current .n < total
   pub stands : getD p (current .at + codeFrom) 0 ≡ JUMP → ⊥
 
 -- which was done
-pub record Executed (p : Bytes) (components : ℕ) (current : ProgramState) (vendor class : Bytes) (assigned : List ℕ) (answers slots : Bytes) (params : List ℕ) (trace : Bytes)
-    (j : ExecJob p components current vendor class assigned answers slots params trace) (r : ProgramState) (slots′ : Bytes) (params′ : List ℕ) (trace′ : Bytes) : Type 0 where
-  pub moved : Moved (j .env) (j .group) p components (j .total) current vendor class assigned answers slots params trace (j .ready) r slots′ params′ trace′
+pub record Executed (p : Bytes) (components : ℕ) (current : ProgramState) (vendor class answers slots : Bytes) (memory : List ℕ) (trace : Bytes)
+    (j : ExecJob p components current vendor class answers slots memory trace) (r : ProgramState) (slots′ : Bytes) (memory′ : List ℕ) (trace′ : Bytes) : Type 0 where
+  pub moved : Moved (j .env) (j .group) p components (j .total) current vendor class answers slots memory trace (j .ready) r slots′ memory′ trace′
   pub wrote : r .events ≡ current .events + 1
   pub further : current .n < r .n
 
-pub record StepJob (p : Bytes) (components total : ℕ) (current : ProgramState) (vendor class : Bytes) (assigned : List ℕ) (answers slots : Bytes) (params : List ℕ) (trace : Bytes) : Type 0 where
+pub record StepJob (p : Bytes) (components total : ℕ) (current : ProgramState) (vendor class answers slots : Bytes) (memory : List ℕ) (trace : Bytes) : Type 0 where
   pub env : Env
   pub group : Group
-  pub ready : Ready env group p components total current vendor class assigned answers slots params trace
+  pub ready : Ready env group p components total current vendor class answers slots memory trace
   pub going : current .end ≡ endNumber Finished
 
 -- one event was written, or the end was reached without
-pub record Stepped (p : Bytes) (components total : ℕ) (current : ProgramState) (vendor class : Bytes) (assigned : List ℕ) (answers slots : Bytes) (params : List ℕ) (trace : Bytes)
-    (j : StepJob p components total current vendor class assigned answers slots params trace) (r : ProgramState) (slots′ : Bytes) (params′ : List ℕ) (trace′ : Bytes) : Type 0 where
-  pub moved : Moved (j .env) (j .group) p components total current vendor class assigned answers slots params trace (j .ready) r slots′ params′ trace′
+pub record Stepped (p : Bytes) (components total : ℕ) (current : ProgramState) (vendor class answers slots : Bytes) (memory : List ℕ) (trace : Bytes)
+    (j : StepJob p components total current vendor class answers slots memory trace) (r : ProgramState) (slots′ : Bytes) (memory′ : List ℕ) (trace′ : Bytes) : Type 0 where
+  pub moved : Moved (j .env) (j .group) p components total current vendor class answers slots memory trace (j .ready) r slots′ memory′ trace′
   pub few : r .events ≤ current .events + 1
   pub wrote : r .n < total → r .events ≡ current .events + 1
   pub late : 0 < r .end → r .events ≡ current .events + 1
@@ -120,8 +122,32 @@ pub record Stepped (p : Bytes) (components total : ℕ) (current : ProgramState)
 abbrev pub startAt : ℕ → ProgramState
 startAt from = record { at = from; n = 0; events = 0; used = 0; end = endNumber Finished }
 
-pub record Ran (p : Bytes) (components total from : ℕ) (vendor class : Bytes) (assigned : List ℕ) (answers slots : Bytes) (params : List ℕ) (trace : Bytes)
-    (j : StepJob p components total (startAt from) vendor class assigned answers slots params trace) (r : ProgramState) (slots′ : Bytes) (params′ : List ℕ) (trace′ : Bytes) : Type 0 where
-  pub goes : out (endOf (r .end)) (stateOf p components params′ slots′ trace′ r) ≡ exec (j .env) (j .ready .place .records) 0 0 (stateAt p components params slots trace 0 0)
+pub record Ran (p : Bytes) (components total from : ℕ) (vendor class answers slots : Bytes) (memory : List ℕ) (trace : Bytes)
+    (j : StepJob p components total (startAt from) vendor class answers slots memory trace) (r : ProgramState) (slots′ : Bytes) (memory′ : List ℕ) (trace′ : Bytes) : Type 0 where
+  pub goes : out (endOf (r .end)) (stateOf p components memory′ slots′ trace′ r) ≡ exec (j .env) (j .ready .place .records) 0 0 (stateAt p components memory slots trace 0 0)
   pub late : 0 < r .end → 0 < r .events
   pub few : r .events ≤ limits .commands
+
+-- a step that is asked for
+abbrev pub StepAsked : Bytes → Extent → ProgramState → Bytes → Bytes → Bytes → Bytes → List ℕ → Bytes → Type 0
+StepAsked p extent current vendor class answers slots memory trace =
+    StepJob p (extent .components) (extent .records) current vendor class answers slots memory trace
+
+-- what each function promises of what it is lent: for every job that it is asked for, the run was taken on as the rule says
+abbrev pub Executes : Lent → ℕ → ProgramState → Lent → Lent → Lent → Lent → Lent → Lent → ProgramState → Type 0
+Executes p components current vendor class answers slots memory trace r =
+    (j : ExecJob (was p) components current (was vendor) (was class) (was answers) (was slots) (was memory) (was trace)) →
+    Executed (was p) components current (was vendor) (was class) (was answers) (was slots) (was memory) (was trace) j r
+    (left slots) (left memory) (left trace)
+
+abbrev pub Steps : Lent → Extent → ProgramState → Lent → Lent → Lent → Lent → Lent → Lent → ProgramState → Type 0
+Steps p extent current vendor class answers slots memory trace r =
+    (j : StepAsked (was p) extent current (was vendor) (was class) (was answers) (was slots) (was memory) (was trace)) →
+    Stepped (was p) (extent .components) (extent .records) current (was vendor) (was class) (was answers) (was slots) (was memory) (was trace) j r
+    (left slots) (left memory) (left trace)
+
+abbrev pub RecordsRun : Lent → Extent → ℕ → Lent → Lent → Lent → Lent → Lent → Lent → ProgramState → Type 0
+RecordsRun p extent from vendor class answers slots memory trace r =
+    (j : StepAsked (was p) extent (startAt from) (was vendor) (was class) (was answers) (was slots) (was memory) (was trace)) →
+    Ran (was p) (extent .components) (extent .records) from (was vendor) (was class) (was answers) (was slots) (was memory) (was trace) j r
+    (left slots) (left memory) (left trace)

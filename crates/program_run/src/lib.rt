@@ -1,20 +1,19 @@
 // The run of a program.
-ghost use mathlib.Core.Path.{_≡_};
-ghost use Rattle.rules.specs.Lent.{was, left};
-ghost use Rattle.rules.specs.ProgramRun.{runProgram};
-ghost use Rattle.run_admission.specs.Answer.{inputOf, Settles};
 ghost use Rattle.program_run.specs.Known.{Known};
+ghost use Rattle.program_run.specs.Program.{Runs};
 use program_test::test::Tested;
 use program_test::test::test_program;
 use rules::answers::Refusal;
-use rules::controller::ALL_PARAMETERS;
 use rules::controller::Controller;
+use rules::controller::MEMORY_NUMBERS;
+use run_admission::admit::Request;
 use run_admission::admit::admit;
 use run_admission::answer::Answer;
 use run_admission::answer::Outcome;
 use run_admission::answer::refused;
 use run_admission::ending::ended;
 use run_admission::ending::number_after;
+use step::Extent;
 use step::run_records;
 
 mod jump;
@@ -31,48 +30,41 @@ fn run_tested(
     trace: &mut [u8],
 ) -> Outcome
     requires { ⌜ Known (now p) t ⌝ }
-    ensures { λ r. ⌜ Settles device (runProgram (was p) (inputOf verdict device (was slots) (was answers) (was trace))) r (was slots) (left slots) (was trace) (left trace) ⌝ }
+    ensures { λ r. ⌜ Runs p verdict device slots answers trace r ⌝ }
 {
     let group = t.group;
-    let number = t.number;
-    let n = t.components;
-    let ids = t.ids;
-    let mut assigned = [0usize; Controller::COMPONENTS];
-    let refusal = admit(
-        p,
+    let request = Request {
         group,
-        number,
-        &ids,
-        n,
+        number: t.number,
+        components: t.components,
         verdict,
-        device,
-        slots,
-        answers,
-        trace,
-        &mut assigned,
-    );
+    };
+    let ids = t.ids;
+    let mut memory = [0usize; MEMORY_NUMBERS];
+    let refusal = admit(p, request, &ids, device, slots, answers, trace, &mut memory);
     if refusal != 0 {
         return refused(Refusal::of(refusal), 0, device);
     }
     let vendor = device.vendor;
     let class = device.class;
-    let mut params = [0usize; ALL_PARAMETERS];
+    let extent = Extent {
+        components: t.components,
+        records: t.records,
+    };
     let done = run_records(
         p,
-        n,
-        t.records,
+        extent,
         t.from,
         &vendor,
         &class,
-        &assigned,
         answers,
         slots,
-        &mut params,
+        &mut memory,
         trace,
     );
     Outcome {
         answer: Answer::Ran(ended(done.end, done.events, done.used, trace)),
-        number: number_after(group, done.end, number as u32, device.number),
+        number: number_after(group, done.end, t.number as u32, device.number),
     }
 }
 
@@ -86,7 +78,7 @@ pub fn run_program(
     answers: &[u8],
     trace: &mut [u8],
 ) -> Outcome
-    ensures { λ r. ⌜ Settles device (runProgram (was p) (inputOf verdict device (was slots) (was answers) (was trace))) r (was slots) (left slots) (was trace) (left trace) ⌝ }
+    ensures { λ r. ⌜ Runs p verdict device slots answers trace r ⌝ }
 {
     let t = test_program(p);
     let good = t.good;

@@ -1,7 +1,7 @@
 // One step of a program's run: the next record that writes an event.
 ghost use mathlib.Core.Path.{_≡_};
-ghost use Rattle.rules.specs.Lent.{was, left};
-ghost use Rattle.program_run.specs.Step.{ArgumentAt, GivenAs, valueOf, OnwardJob, Onward, ExecJob, Executed, StepJob, Stepped, startAt, Ran};
+ghost use Rattle.rules.specs.Lent.{was};
+ghost use Rattle.program_run.specs.Step.{ArgumentAt, GivenAs, valueOf, OnwardJob, Onward, ExecJob, Executes, StepAsked, Steps, startAt, RecordsRun};
 use crate::jump::advance;
 use crate::jump::land;
 use byte_buffer::two;
@@ -9,9 +9,8 @@ use byte_buffer::wide;
 use program_records::parameters::read_params;
 use rules::answers::End;
 use rules::codes;
-use rules::controller::AllParameters;
+use rules::controller::Memory;
 use rules::controller::Sixteen;
-use rules::controller::SlotNumbers;
 use rules::program_format::ARGUMENT_LENGTH;
 use rules::program_format::CODE;
 use rules::program_format::COMPONENT;
@@ -20,6 +19,7 @@ use rules::program_format::PLACE;
 use rules::program_format::RECORD_BYTES;
 use rules::program_format::TARGET;
 use run_actions::Progress;
+use run_commands::perform::Command;
 use run_commands::perform::perform;
 use run_slots::params::Params;
 
@@ -31,6 +31,12 @@ pub struct ProgramState {
     pub events: usize,
     pub used: usize,
     pub end: usize,
+}
+
+// How many components and records a program has.
+pub struct Extent {
+    pub components: usize,
+    pub records: usize,
 }
 
 // What a command of that code has beside its parameters: set index the new index, any other the place of its argument.
@@ -96,14 +102,13 @@ fn execute(
     current: ProgramState,
     vendor: &Sixteen,
     class: &Sixteen,
-    assigned: &SlotNumbers,
     answers: &[u8],
     slots: &mut [u8],
-    params: &mut AllParameters,
+    memory: &mut Memory,
     trace: &mut [u8],
 ) -> ProgramState
-    requires { ⌜ ExecJob (now p) components current (now vendor) (now class) (now assigned) (now answers) (now slots) (now params) (now trace) ⌝ }
-    ensures { λ r. ⌜ ((j : ExecJob (was p) components current (was vendor) (was class) (was assigned) (was answers) (was slots) (was params) (was trace)) → Executed (was p) components current (was vendor) (was class) (was assigned) (was answers) (was slots) (was params) (was trace) j r (left slots) (left params) (left trace)) ⌝ }
+    requires { ⌜ ExecJob (now p) components current (now vendor) (now class) (now answers) (now slots) (now memory) (now trace) ⌝ }
+    ensures { λ r. ⌜ Executes p components current vendor class answers slots memory trace r ⌝ }
 {
     let at = current.at;
     let code = wide(p[at + CODE]);
@@ -111,22 +116,28 @@ fn execute(
     let from = at + RECORD_BYTES;
     let to = from + two(p, at + ARGUMENT_LENGTH);
     let target = two(p, at + TARGET);
+    let command = Command {
+        code,
+        value: value(code, i, from),
+        given: given(p, components, code, from, to),
+        index: i,
+        place: two(p, at + PLACE),
+    };
+    let before = Progress {
+        events: current.events,
+        used: current.used,
+        end: End::FINISHED,
+    };
     let d = perform(
         p,
-        code,
-        value(code, i, from),
-        given(p, components, code, from, to),
-        i,
-        two(p, at + PLACE),
+        command,
+        before,
         vendor,
         class,
-        assigned,
         answers,
         slots,
-        params,
+        memory,
         trace,
-        current.events,
-        current.used,
     );
     onward(p, to, current.n + 1, target, d)
 }
@@ -134,21 +145,19 @@ fn execute(
 // The next record that writes an event, through the jumps before it; nothing is done where the jumps lead to the end.
 fn step(
     p: &[u8],
-    components: usize,
-    total: usize,
+    extent: Extent,
     current: ProgramState,
     vendor: &Sixteen,
     class: &Sixteen,
-    assigned: &SlotNumbers,
     answers: &[u8],
     slots: &mut [u8],
-    params: &mut AllParameters,
+    memory: &mut Memory,
     trace: &mut [u8],
 ) -> ProgramState
-    requires { ⌜ StepJob (now p) components total current (now vendor) (now class) (now assigned) (now answers) (now slots) (now params) (now trace) ⌝ }
-    ensures { λ r. ⌜ ((j : StepJob (was p) components total current (was vendor) (was class) (was assigned) (was answers) (was slots) (was params) (was trace)) → Stepped (was p) components total current (was vendor) (was class) (was assigned) (was answers) (was slots) (was params) (was trace) j r (left slots) (left params) (left trace)) ⌝ }
+    requires { ⌜ StepAsked (now p) extent current (now vendor) (now class) (now answers) (now slots) (now memory) (now trace) ⌝ }
+    ensures { λ r. ⌜ Steps p extent current vendor class answers slots memory trace r ⌝ }
 {
-    let place = land(p, current.at, current.n, total);
+    let place = land(p, current.at, current.n, extent.records);
     let n = place.n;
     let now = ProgramState {
         at: place.at,
@@ -157,19 +166,18 @@ fn step(
         used: current.used,
         end: End::FINISHED,
     };
-    if n == total {
+    if n == extent.records {
         return now;
     }
     execute(
         p,
-        components,
+        extent.components,
         now,
         vendor,
         class,
-        assigned,
         answers,
         slots,
-        params,
+        memory,
         trace,
     )
 }
@@ -177,19 +185,17 @@ fn step(
 // Steps until one stops the run or the records are over.
 pub(crate) fn run_records(
     p: &[u8],
-    components: usize,
-    total: usize,
+    extent: Extent,
     from: usize,
     vendor: &Sixteen,
     class: &Sixteen,
-    assigned: &SlotNumbers,
     answers: &[u8],
     slots: &mut [u8],
-    params: &mut AllParameters,
+    memory: &mut Memory,
     trace: &mut [u8],
 ) -> ProgramState
-    requires { ⌜ StepJob (now p) components total (startAt from) (now vendor) (now class) (now assigned) (now answers) (now slots) (now params) (now trace) ⌝ }
-    ensures { λ r. ⌜ ((j : StepJob (was p) components total (startAt from) (was vendor) (was class) (was assigned) (was answers) (was slots) (was params) (was trace)) → Ran (was p) components total from (was vendor) (was class) (was assigned) (was answers) (was slots) (was params) (was trace) j r (left slots) (left params) (left trace)) ⌝ }
+    requires { ⌜ StepAsked (now p) extent (startAt from) (now vendor) (now class) (now answers) (now slots) (now memory) (now trace) ⌝ }
+    ensures { λ r. ⌜ RecordsRun p extent from vendor class answers slots memory trace r ⌝ }
 {
     let mut current = ProgramState {
         at: from,
@@ -198,18 +204,16 @@ pub(crate) fn run_records(
         used: 0,
         end: End::FINISHED,
     };
-    while current.n < total {
+    while current.n < extent.records {
         current = step(
             p,
-            components,
-            total,
+            extent,
             current,
             vendor,
             class,
-            assigned,
             answers,
             slots,
-            params,
+            memory,
             trace,
         );
         let end = current.end;

@@ -1,4 +1,5 @@
 -- Lists of bytes: parts, big-endian numbers, equality, membership.
+use Prim.Native.Nat.{_≤_, _<_}
 use Rattle.rules.specs.Base.{ℕ, suc, _+_, _-_, _*_, _/_, _%_, List, [], _∷_, _++_, Bool, true, false, _&&_, _||_, eqb, take, drop, getD, sets}
 
 abbrev pub Bytes : Type 0
@@ -23,6 +24,10 @@ bytesAt s p = part s (p .from) (p .to - p .from)
 -- places in an array of numbers: the first byte of number k at 2k, and the byte after it at 2k + 1
 abbrev pub spanAt : List ℕ → ℕ → Span
 spanAt a k = span (getD a (2 * k) 0) (getD a (2 * k + 1) 0)
+
+-- the first n places of the array lie in that many bytes
+abbrev pub InBytes : List ℕ → ℕ → ℕ → Type 0
+InBytes a n size = (k : ℕ) → k < n → (spanAt a k .from ≤ spanAt a k .to) × (spanAt a k .to ≤ size)
 
 -- the bytes b over those of s from `at` on; s keeps its length
 abbrev pub put : Bytes → ℕ → Bytes → Bytes

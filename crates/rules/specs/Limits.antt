@@ -1,6 +1,6 @@
 -- The limits of document 01, each named once: a field of `Limits` here, a constant of the controller type in the code. The contract of
 -- `Controller::limits` ties the two.
-use Rattle.rules.specs.Base.{ℕ, _*_, Limits}
+use Rattle.rules.specs.Base.{ℕ, _+_, _*_, Limits}
 
 -- 01, What a manifest may hold: bytes of an envelope; the largest number; components; parts of an identifier, and its bytes as encoded;
 -- commands of one sequence; sequences one in another; commands of an envelope; alternatives of a try each; parameters of a set or
@@ -39,9 +39,10 @@ sectionCount = 6
 abbrev pub sectionPlaces : ℕ
 sectionPlaces = 2 * sectionCount
 
--- the numbers that hold a component's parameters, and those of all components
+-- the numbers that hold a component's parameters
 abbrev pub paramNumbers : ℕ
 paramNumbers = 5
 
-abbrev pub allParams : ℕ
-allParams = paramNumbers * limits .components
+-- what a run keeps of its components: the number of each one's slot, then the parameters of each
+abbrev pub memoryNumbers : ℕ
+memoryNumbers = limits .components + paramNumbers * limits .components

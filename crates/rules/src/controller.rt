@@ -63,15 +63,13 @@ pub const SECTION_PLACES: usize = 2 * SECTIONS;
 
 pub type SectionPlaces = [usize; SECTION_PLACES];
 
-// The number of each component's slot.
-pub type SlotNumbers = [usize; Controller::COMPONENTS];
-
-// Each component's parameters, as numbers.
+// What a run keeps of its components, as numbers: that of each one's slot, then the parameters of each.
 pub const PARAMETER_NUMBERS: usize = 5;
 
-pub const ALL_PARAMETERS: usize = PARAMETER_NUMBERS * Controller::COMPONENTS;
+pub const MEMORY_NUMBERS: usize = Controller::COMPONENTS
+    + PARAMETER_NUMBERS * Controller::COMPONENTS;
 
-pub type AllParameters = [usize; ALL_PARAMETERS];
+pub type Memory = [usize; MEMORY_NUMBERS];
 
 // The limits as a value, which ties the constants to the numbers of specs/Limits.
 pub struct Limits {

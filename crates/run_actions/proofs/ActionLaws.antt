@@ -56,7 +56,7 @@ module _ (s : Bytes) (p : Params) (env : Env) (i : ℕ) (st : State) (slots : By
   match-set z = rw (a .params, ne-eqb _ _ z, at-slot)
 
   -- where it is set, the number of the source's slot
-  module _ (assigned : List ℕ) (h : SourceAt env st (p .source) assigned) where
+  module _ (memory : List ℕ) (h : SourceAt env st (p .source) memory) where
     pub copy-unset : p .source ≡ 0 → copies env i st ≡ out (Failed ParameterUnset) (withSlots st slots)
     unfolding copies meaning given
     copy-unset z = rw (← a .lent, a .params, eq-eqb _ _ z)
@@ -67,7 +67,7 @@ module _ (s : Bytes) (p : Params) (env : Env) (i : ℕ) (st : State) (slots : By
 
     module _ (z : p .source ≡ 0 → ⊥) where
       abbrev pub source : ℕ
-      source = getD assigned (p .source - 1) 0
+      source = getD memory (p .source - 1) 0
 
       there : slotNo env (p .source - 1) st ≡ source
       there = h (omega (arith, z))

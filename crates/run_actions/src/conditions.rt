@@ -1,16 +1,14 @@
 // The commands that look at the device or a slot, and change nothing.
 ghost use mathlib.Core.Path.{_≡_};
-ghost use Prim.Native.Nat.{ℕ, _+_, _≤_, _<_};
+ghost use Prim.Native.Nat.{_+_, _≤_, _<_};
 ghost use lib.ListN.{length};
 ghost use Rattle.rules.specs.Lent.{was};
 ghost use Rattle.rules.specs.Answers.{endOf};
 ghost use Rattle.rules.specs.Bytes.{part, same};
-ghost use Rattle.rules.specs.Commands.{run};
 ghost use Rattle.rules.specs.Limits.{limits};
 ghost use Rattle.rules.specs.Step as Step;
 ghost use Rattle.run_slots.specs.Slot.{Holds};
-ghost use Rattle.run_slots.specs.Params.{meaning};
-ghost use Rattle.run_actions.specs.Action.{Ends, At};
+ghost use Rattle.run_actions.specs.Action.{Ends, Matches, Runs};
 use byte_buffer::equal;
 use rules::answers::End;
 use rules::answers::Failure;
@@ -36,7 +34,7 @@ pub fn equal_sixteen(s: &[u8], at: usize, own: &Sixteen) -> usize
 // 3, with the parameters p, for the slot of number k.
 pub fn matches(s: &[u8], p: Params, slots: &[u8], k: usize) -> usize
     requires { ⌜ Holds (now slots) k × (0 < p .digest → p .digest + limits .digest ≤ length (now s)) ⌝ }
-    ensures { λ r. ⌜ Ends r × ((env : Step.Env) (i : ℕ) (st : Step.State) → At env i st (was slots) k (meaning (was s) p) → Step.out (endOf r) st ≡ Step.matches env i st) ⌝ }
+    ensures { λ r. ⌜ Ends r × Matches s p slots k r ⌝ }
 {
     let digest = p.digest;
     if digest == 0 {
@@ -67,7 +65,7 @@ pub fn matches(s: &[u8], p: Params, slots: &[u8], k: usize) -> usize
 // 23, for the slot of number k.
 pub fn runs(slots: &[u8], k: usize) -> usize
     requires { ⌜ Holds (now slots) k ⌝ }
-    ensures { λ r. ⌜ Ends r × ((env : Step.Env) (i : ℕ) (st : Step.State) → st .slots ≡ was slots → Step.slotNo env i st ≡ k → Step.out (endOf r) st ≡ Step.acts env run i st) ⌝ }
+    ensures { λ r. ⌜ Ends r × Runs slots k r ⌝ }
 {
     if present(slots, k) {
         return End::STARTED;

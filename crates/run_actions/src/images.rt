@@ -1,22 +1,18 @@
 // The commands that fill slots.
 ghost use mathlib.Core.Path.{_≡_};
-ghost use Prim.Native.Nat.{ℕ, _+_, _%_, _≤_, _<_};
+ghost use Prim.Native.Nat.{_+_, _%_, _≤_, _<_};
 ghost use lib.ListN.{length};
-ghost use Rattle.rules.specs.Lent.{was, left};
-ghost use Rattle.rules.specs.Answers.{endOf};
-ghost use Rattle.rules.specs.Bytes.{Bytes};
 ghost use Rattle.rules.specs.Limits.{limits};
 ghost use Rattle.rules.specs.Slots.{answerBytes};
 ghost use Rattle.rules.specs.Step as Step;
 ghost use Rattle.run_slots.specs.Slot.{Holds};
-ghost use Rattle.run_slots.specs.Params.{meaning};
-ghost use Rattle.run_actions.specs.Action.{Ends, At, AllHold, SourceAt};
+ghost use Rattle.run_actions.specs.Action.{Ends, AllHold, Fills, Fetches};
 use crate::Progress;
 use crate::ended;
 use byte_buffer::four;
 use rules::answers::End;
 use rules::answers::Failure;
-use rules::controller::SlotNumbers;
+use rules::controller::Memory;
 use rules::slot_format::IMAGE_BYTES;
 use rules::slot_format::SIZE;
 use run_slots::image::image;
@@ -37,7 +33,7 @@ pub fn fetch(
     k: usize,
 ) -> Progress
     requires { ⌜ Holds (now slots) k × (length (now answers) % answerBytes ≡ 0) ⌝ }
-    ensures { λ r. ⌜ (r .events ≡ events) × Ends (r .end) × ((s : Bytes) (env : Step.Env) (i : ℕ) (st : Step.State) → At env i st (was slots) k (meaning s p) → env .answers ≡ was answers → st .used ≡ used → Step.out (endOf (r .end)) (Step.withUsed (Step.withSlots st (left slots)) (r .used)) ≡ Step.fetches env i st) ⌝ }
+    ensures { λ r. ⌜ (r .events ≡ events) × Ends (r .end) × Fetches p answers used slots k r ⌝ }
 {
     let uri = p.uri;
     if uri == 0 {
@@ -61,15 +57,15 @@ pub fn fetch(
 }
 
 // 22, with the parameters p, to the slot of number k.
-pub fn copy(p: Params, assigned: &SlotNumbers, slots: &mut [u8], k: usize) -> usize
-    requires { ⌜ Holds (now slots) k × AllHold (now assigned) (now slots) × (p .source ≤ limits .components) ⌝ }
-    ensures { λ r. ⌜ Ends r × ((s : Bytes) (env : Step.Env) (i : ℕ) (st : Step.State) → At env i st (was slots) k (meaning s p) → SourceAt env st (p .source) (was assigned) → Step.out (endOf r) (Step.withSlots st (left slots)) ≡ Step.copies env i st) ⌝ }
+pub fn copy(p: Params, memory: &Memory, slots: &mut [u8], k: usize) -> usize
+    requires { ⌜ Holds (now slots) k × AllHold (now memory) (now slots) × (p .source ≤ limits .components) ⌝ }
+    ensures { λ r. ⌜ Ends r × Fills Step.copies p memory slots k r ⌝ }
 {
     let source = p.source;
     if source == 0 {
         return Failure::PARAMETER_UNSET;
     }
-    let j = assigned[source - 1];
+    let j = memory[source - 1];
     if !present(slots, j) {
         return Failure::NOTHING_TO_COPY;
     }
@@ -81,15 +77,15 @@ pub fn copy(p: Params, assigned: &SlotNumbers, slots: &mut [u8], k: usize) -> us
 }
 
 // 32, with the parameters p, between the slot of number k and the source's.
-pub fn swap(p: Params, assigned: &SlotNumbers, slots: &mut [u8], k: usize) -> usize
-    requires { ⌜ Holds (now slots) k × AllHold (now assigned) (now slots) × (p .source ≤ limits .components) ⌝ }
-    ensures { λ r. ⌜ Ends r × ((s : Bytes) (env : Step.Env) (i : ℕ) (st : Step.State) → At env i st (was slots) k (meaning s p) → SourceAt env st (p .source) (was assigned) → Step.out (endOf r) (Step.withSlots st (left slots)) ≡ Step.swaps env i st) ⌝ }
+pub fn swap(p: Params, memory: &Memory, slots: &mut [u8], k: usize) -> usize
+    requires { ⌜ Holds (now slots) k × AllHold (now memory) (now slots) × (p .source ≤ limits .components) ⌝ }
+    ensures { λ r. ⌜ Ends r × Fills Step.swaps p memory slots k r ⌝ }
 {
     let source = p.source;
     if source == 0 {
         return Failure::PARAMETER_UNSET;
     }
-    let j = assigned[source - 1];
+    let j = memory[source - 1];
     if !present(slots, k) {
         return Failure::NOTHING_TO_COPY;
     }

@@ -15,7 +15,8 @@ use Rattle.rules.specs.Bytes.{Bytes, allIn}
 use Rattle.rules.specs.Slots.{answerBytes, goodSlots, slotNames}
 use Rattle.rules.specs.Run.{Input, mayStart, numberFits, admit}
 use Rattle.run_slots.specs.Slot.{slotNumbers}
-use Rattle.run_admission.specs.Answer.{refusalIn, assignedAfter}
+use Rattle.run_admission.specs.Answer.{refusalIn}
+use Rattle.run_admission.specs.Admission.{assignedAfter}
 
 -- the answer, what holds where it is 0, and the numbers of slots after it
 abbrev pub Stops : ℕ → Group → ℕ → List Bytes → Input → Type 0 → List ℕ → List ℕ → Type 0

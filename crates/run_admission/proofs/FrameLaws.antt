@@ -5,13 +5,13 @@ use mathlib.Core.List.{List}
 use mathlib.Core.Bool.{Bool, true, false}
 use native.Mathlib.Omega.{arith}
 use lib.Dec.{eqb, ltb, leb}
-use lib.ListN.{length, getD, replicate, getD-replicate}
+use lib.ListN.{length, getD, replicate}
 use borrow.Author.Tests.{eqb-true, leb-true, ltb-true, ltb-false}
 use Rattle.rules.specs.declared.answers.Group.{Group}
 use Rattle.rules.specs.declared.answers.Refusal.{Refusal}
 use Rattle.rules.specs.declared.answers.Refusal.the-variants.{NotVerified, EventOpen, WrongNumber, BadSlots, NoSlot, BadAnswers, ShortTrace}
 use Rattle.rules.specs.Answers.{refusalOf, endOf}
-use Rattle.rules.specs.Limits.{limits, allParams}
+use Rattle.rules.specs.Limits.{limits, memoryNumbers}
 use Rattle.rules.specs.Bytes.{Bytes, allIn}
 use Rattle.rules.specs.Got.{Got, refused, got, need, _>>=_}
 use Rattle.rules.specs.Commands.{Params}
@@ -21,10 +21,11 @@ use Rattle.rules.specs.Run.{Input, Ran, mayStart, numberFits, admit, numberAfte
 use Rattle.rules.proofs.AnswerLaws.{of-number, not-zero}
 use Rattle.rules.proofs.GotLaws.{passed}
 use Rattle.run_slots.specs.Slot.{Holds, Found}
-use Rattle.run_slots.proofs.ParamsLaws.{params-start, fit-start}
+use Rattle.run_slots.specs.Params.{Unset}
+use Rattle.run_slots.proofs.ParamsLaws.{zeros, params-start, fit-start}
 use Rattle.run_slots.proofs.SearchLaws.{good-some}
 use Rattle.run_actions.specs.Action.{AllHold}
-use Rattle.run_commands.specs.Machine.{stateAt, Lent}
+use Rattle.run_commands.specs.Machine.{stateAt, Lends}
 use Rattle.run_admission.specs.declared.answer.Answer.the-variants as The
 use Rattle.run_admission.specs.declared.answer.Ending.{Ending}
 use Rattle.run_admission.specs.Answer.{refusalIn, endingOf, Settles}
@@ -106,29 +107,32 @@ module _ (group : Group) (number : ℕ) (ids : List Bytes) (x : Input) (refusal 
     unfolding runOf
     ran-run body o q = rw (admitted, q)
 
-    module _ (few : length ids ≤ limits .components) (assigned : List ℕ) (f : Found ids (x .slots) (replicate (limits .components) 0) assigned) where
-      holds : AllHold assigned (x .slots)
+    module _ (few : length ids ≤ limits .components) (memory : List ℕ) (f : Found ids (x .slots) (replicate memoryNumbers 0) memory) where
+      holds : AllHold memory (x .slots)
       holds i h = go (ltb i (length ids)) refl
         where
-          go : (b : Bool) → ltb i (length ids) ≡ b → Holds (x .slots) (getD assigned i 0)
+          go : (b : Bool) → ltb i (length ids) ≡ b → Holds (x .slots) (getD memory i 0)
           go true l = f .there i (ltb-true _ _ l)
           go false l =
-              let y : getD assigned i 0 ≡ 0 = f .beyond i (ltb-false _ _ l) ∙ getD-replicate {A = ℕ} (limits .components) i 0 0 h in
+              let y : getD memory i 0 ≡ 0 = f .beyond i (ltb-false _ _ l) ∙ zeros memoryNumbers i in
               rw y (omega (arith, good-some (x .slots) (facts .slots)))
 
+      unset : Unset memory
+      unset j h = f .beyond j (omega arith) ∙ zeros memoryNumbers j
+
       -- what the run is lent, with all parameters unset
-      pub lent-start : (s : Bytes) → Lent (envOf ids x) s (x .device .vendor) (x .device .class) assigned (x .answers) (x .slots) (replicate allParams 0) (x .trace)
+      pub lent-start : (s : Bytes) → Lends (envOf ids x) s (x .device .vendor) (x .device .class) (x .answers) (x .slots) memory (x .trace)
       lent-start s =
           record {
             host = record { vendors = refl; classes = refl; replies = refl; few = few; numbers = λ i h. sym (f .number i h) };
             hold = holds;
-            fit = fit-start s (length ids);
+            fit = fit-start memory unset s (length ids);
             answered = facts .answers;
             room = facts .trace;
           }
 
-pub state-start : (s : Bytes) (ids : List Bytes) (x : Input) → stateAt s (length ids) (replicate allParams 0) (x .slots) (x .trace) 0 0 ≡ startState ids x
-state-start s ids x = ap (λ (ps : List Params). state ps (x .slots) (x .trace) 0 0) (params-start s (length ids))
+      pub state-start : (s : Bytes) → stateAt s (length ids) memory (x .slots) (x .trace) 0 0 ≡ startState ids x
+      state-start s = ap (λ (ps : List Params). state ps (x .slots) (x .trace) 0 0) (params-start memory unset s (length ids))
 
 -- what is handed back is what the rule's answer says
 pub settles-refused : (x : Input) (g : Got Ran) (k : Refusal) (p : ℕ) → g ≡ refused k p →

@@ -2,18 +2,15 @@
 use Prim.Native.Nat.{ℕ, _-_, _*_}
 use mathlib.Core.List.{List, [], _∷_}
 use mathlib.Core.Path.{_≡_}
-use mathlib.Core.Bool.{Bool, _&&_, cond}
+use mathlib.Core.Bool.{Bool, cond}
 use lib.Dec.{eqb}
-use lib.Seq.{sets}
-use Rattle.rules.specs.declared.answers.Group.{Group}
 use Rattle.rules.specs.declared.controller.Controller.{Controller}
 use Rattle.rules.specs.Answers.{refusalNumber, endNumber, endOf}
 use Rattle.rules.specs.Bytes.{Bytes, num, part}
+use Rattle.rules.specs.Lent.{Lent, was, left}
 use Rattle.rules.specs.Got.{Got, refused, got}
-use Rattle.rules.specs.Slots.{goodSlots}
 use Rattle.rules.specs.Step.{eventBytes, eventPlace}
-use Rattle.rules.specs.Run.{Input, Ran, mayStart, numberFits}
-use Rattle.run_slots.specs.Slot.{slotNumbers}
+use Rattle.rules.specs.Run.{Input, Ran}
 use Rattle.run_admission.specs.declared.answer.Answer as The
 use Rattle.run_admission.specs.declared.answer.Answer.the-variants as Answer
 use Rattle.run_admission.specs.declared.answer.Ending.{Ending}
@@ -23,6 +20,10 @@ use Rattle.run_admission.specs.declared.answer.Outcome.{Outcome}
 abbrev pub inputOf : Bool → Controller → Bytes → Bytes → Bytes → Input
 inputOf verdict device slots answers trace =
     record { verdict = verdict; device = device; slots = slots; answers = answers; trace = trace }
+
+-- the same of lent memory
+abbrev pub given : Bool → Controller → Lent → Lent → Lent → Input
+given verdict device slots answers trace = inputOf verdict device (was slots) (was answers) (was trace)
 
 -- 'A refusal returns its number and place, and nothing lent is altered'
 abbrev pub outcomeOf : Controller → Got Ran → Outcome
@@ -57,6 +58,10 @@ ranNumbers device (got r) = r .number ∷ endNumber (r .end) ∷ r .place ∷ r 
 abbrev pub Settles : Controller → Got Ran → Outcome → Bytes → Bytes → Bytes → Bytes → Type 0
 Settles device g r slots slots′ trace trace′ = (r ≡ outcomeOf device g) × (slots′ ≡ slotsAfter slots g) × (trace′ ≡ traceAfter trace g) × (outcomeNumbers r ≡ ranNumbers device g)
 
+-- the same of lent slots and a lent trace
+abbrev pub Settled : Controller → Got Ran → Lent → Lent → Outcome → Type 0
+Settled device g slots trace r = Settles device g r (was slots) (left slots) (was trace) (left trace)
+
 -- the number of a refusal, 0 for none
 abbrev pub refusalIn : {A : Type 0} → Got A → ℕ
 refusalIn (refused r p) = refusalNumber r
@@ -71,9 +76,3 @@ endingOf end events used trace =
       events = events;
       used = used;
     }
-
--- what the tests of a run leave in the numbers of slots: where those before 83 hold, the slots are looked for
-abbrev pub assignedAfter : Group → ℕ → List Bytes → Input → List ℕ → List ℕ
-assignedAfter group number ids x before =
-    cond (x .verdict && mayStart group (x .device) && numberFits group number (x .device) && goodSlots (x .slots))
-    (sets before 0 (slotNumbers ids (x .slots))) before

@@ -1,18 +1,12 @@
 // The tests of a run, in the order of the table of refusals.
 ghost use mathlib.Core.Path.{_≡_};
-ghost use Prim.Native.Nat.{ℕ, _≤_, _<_};
-ghost use lib.ListN.{length};
-ghost use Rattle.rules.specs.Lent.{was, left};
-ghost use Rattle.rules.specs.Bytes.{spanAt};
-ghost use Rattle.rules.specs.Limits.{limits};
 ghost use Rattle.rules.specs.Run as Rule;
-ghost use Rattle.run_slots.specs.Slot.{namesAt, Found};
-ghost use Rattle.run_admission.specs.Answer.{inputOf, refusalIn, assignedAfter};
+ghost use Rattle.run_admission.specs.Admission.{Requested, Admits};
 use rules::answers::Group;
 use rules::answers::Refusal;
 use rules::controller::Controller;
+use rules::controller::Memory;
 use rules::controller::Places;
-use rules::controller::SlotNumbers;
 use rules::slot_format::IMAGE_BYTES;
 use run_slots::search::find_slots;
 use run_slots::whole::good_slots;
@@ -38,36 +32,42 @@ fn number_fits(group: Group, number: usize, device: Controller) -> bool
     }
 }
 
-// The number of the refusal of a run, or 0 and the slots of the n components, whose identifiers stand at the places `ids` of s.
+// What a run asks for: the group, the sequence number and the components of what is run, and whether its signature was verified.
+pub struct Request {
+    pub group: Group,
+    pub number: usize,
+    pub components: usize,
+    pub verdict: bool,
+}
+
+// The number of the refusal of a run, or 0 and the slots of the components, whose identifiers stand at the places `ids` of s.
 pub fn admit(
     s: &[u8],
-    group: Group,
-    number: usize,
+    request: Request,
     ids: &Places,
-    n: usize,
-    verdict: bool,
     device: Controller,
     slots: &[u8],
     answers: &[u8],
     trace: &[u8],
-    assigned: &mut SlotNumbers,
+    memory: &mut Memory,
 ) -> usize
-    requires { ⌜ (n ≤ limits .components) × ((k : ℕ) → k < n → (spanAt (now ids) k .from ≤ spanAt (now ids) k .to) × (spanAt (now ids) k .to ≤ length (now s))) ⌝ }
-    ensures { λ r. ⌜ (r ≡ refusalIn (Rule.admit group number (namesAt (was s) (was ids) n) (inputOf verdict device (was slots) (was answers) (was trace)))) × (r ≡ 0 → Found (namesAt (was s) (was ids) n) (was slots) (was assigned) (left assigned)) × (left assigned ≡ assignedAfter group number (namesAt (was s) (was ids) n) (inputOf verdict device (was slots) (was answers) (was trace)) (was assigned)) ⌝ }
+    requires { ⌜ Requested (now s) request (now ids) ⌝ }
+    ensures { λ r. ⌜ Admits s request ids device slots answers trace memory r ⌝ }
 {
-    if !verdict {
+    let group = request.group;
+    if !request.verdict {
         return Refusal::NOT_VERIFIED;
     }
     if !may_start(group, device) {
         return Refusal::EVENT_OPEN;
     }
-    if !number_fits(group, number, device) {
+    if !number_fits(group, request.number, device) {
         return Refusal::WRONG_NUMBER;
     }
     if !good_slots(slots) {
         return Refusal::BAD_SLOTS;
     }
-    if !find_slots(s, ids, n, slots, assigned) {
+    if !find_slots(s, ids, request.components, slots, memory) {
         return Refusal::NO_SLOT;
     }
     if answers.len() % IMAGE_BYTES != 0 {

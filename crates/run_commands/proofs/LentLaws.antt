@@ -1,6 +1,6 @@
 -- What every run keeps: the lengths, the identifiers of slots, and that there are no more events than commands.
 use Prim.Native.Nat.{ℕ, _+_, _≤_}
-use mathlib.Core.Path.{_≡_, ap, _∙_}
+use mathlib.Core.Path.{_≡_, sym, ap, _∙_}
 use mathlib.Core.Bool.{Bool}
 use mathlib.Core.List.{List}
 use native.Mathlib.Omega.{arith}
@@ -13,8 +13,8 @@ use Rattle.rules.specs.Step.{Env, State, Out, step}
 use Rattle.rules.specs.Run.{runSeq, runCmd}
 use Rattle.rules_theorems.proofs.Effects.{namedBy, Changes, Reaches, follow-law, seq-reaches, cmd-reaches, step-reaches}
 use Rattle.rules_theorems.proofs.SlotLaws.{names-same}
-use Rattle.run_slots.specs.Params.{FitAll}
-use Rattle.run_commands.specs.Machine.{Lent}
+use Rattle.run_slots.specs.Params.{FitAll, SlotsKept}
+use Rattle.run_commands.specs.Machine.{Lends}
 
 -- from st to st′ with at most n events
 pub record Moves (st st′ : State) (n : ℕ) : Type 0 where
@@ -42,14 +42,13 @@ moves-cmd env x i st = moves env (countCmd x) st _ (cmd-reaches env x i st)
 pub moves-step : (env : Env) (op : Op) (i place : ℕ) (st : State) → Moves st (step env op i place st .state) 1
 moves-step env op i place st = moves env 1 st _ (step-reaches env op i place st)
 
-module _ (env : Env) (s vendor class : Bytes) (assigned : List ℕ) (answers slots : Bytes) (params : List ℕ) (trace : Bytes)
-    (k : Lent env s vendor class assigned answers slots params trace) where
+module _ (env : Env) (s vendor class answers slots : Bytes) (memory : List ℕ) (trace : Bytes) (k : Lends env s vendor class answers slots memory trace) where
   -- what was lent, after something that the rule gives from it
   pub lent-after : (st st′ : State) (n : ℕ) → st .slots ≡ slots → st .trace ≡ trace → Moves st st′ n →
-      (slots′ : Bytes) (params′ : List ℕ) (trace′ : Bytes) → slots′ ≡ st′ .slots → trace′ ≡ st′ .trace → FitAll s (length (env .ids)) params′ →
-      Lent env s vendor class assigned answers slots′ params′ trace′
+      (slots′ : Bytes) (memory′ : List ℕ) (trace′ : Bytes) → slots′ ≡ st′ .slots → trace′ ≡ st′ .trace → FitAll s (length (env .ids)) memory′ → SlotsKept memory memory′ →
+      Lends env s vendor class answers slots′ memory′ trace′
   unfolding slotOf
-  lent-after st st′ n qs qt m slots′ params′ trace′ es et fit =
+  lent-after st st′ n qs qt m slots′ memory′ trace′ es et fit kept =
       let ls : length slots′ ≡ length slots = ap length es ∙ m .slots ∙ ap length qs in
       let lt : length trace′ ≡ length trace = ap length et ∙ m .trace ∙ ap length qt in
       let ns : slotNames slots′ ≡ slotNames slots = ap slotNames es ∙ m .names ∙ ap slotNames qs in
@@ -60,9 +59,9 @@ module _ (env : Env) (s vendor class : Bytes) (assigned : List ℕ) (answers slo
               classes = k .host .classes;
               replies = k .host .replies;
               few = k .host .few;
-              numbers = λ i h. rw ns (k .host .numbers i h);
+              numbers = λ i h. rw ns (k .host .numbers i h) ∙ sym (kept i (omega (arith, k .host .few)));
             };
-        hold = λ i h. omega (arith, k .hold i h, ls);
+        hold = λ i h. omega (arith, k .hold i h, kept i h, ls);
         fit = fit;
         answered = k .answered;
         room = omega (arith, k .room, lt);

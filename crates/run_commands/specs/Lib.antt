@@ -1,2 +1,3 @@
 pub mod Op
 pub mod Machine
+pub mod Performed

@@ -1,16 +1,5 @@
 // What each command that writes an event does, whether it stands in an envelope or in a program.
-ghost use mathlib.Core.Path.{_≡_};
-ghost use Prim.Native.Nat.{ℕ, _+_, _*_, _%_, _≤_, _<_};
-ghost use lib.ListN.{length, getD};
-ghost use Rattle.rules.specs.Lent.{was, left};
-ghost use Rattle.rules.specs.Bytes.{Bytes};
-ghost use Rattle.rules.specs.Limits.{limits};
-ghost use Rattle.rules.specs.Slots.{answerBytes};
-ghost use Rattle.rules.specs.Step.{Env, acts, step, eventBytes};
-ghost use Rattle.run_slots.specs.Params.{Fit, FitAll};
-ghost use Rattle.run_commands.specs.Op.{opOf, IsCode, SixteenAt};
-ghost use Rattle.run_actions.specs.Action.{Ends, AllHold};
-ghost use Rattle.run_commands.specs.Machine.{stateAt, outAt, Host};
+ghost use Rattle.run_commands.specs.Performed.{Commanded, RoomFor, Acts, Performs};
 use crate::event::put_event;
 use rules::answers::End;
 use rules::answers::Failure;
@@ -24,9 +13,8 @@ use rules::codes::RUN;
 use rules::codes::SET_INDEX;
 use rules::codes::SET_PARAMETERS;
 use rules::codes::VENDOR;
-use rules::controller::AllParameters;
+use rules::controller::Memory;
 use rules::controller::Sixteen;
-use rules::controller::SlotNumbers;
 use run_actions::Progress;
 use run_actions::conditions::equal_sixteen;
 use run_actions::conditions::matches;
@@ -40,27 +28,37 @@ use run_slots::params::load;
 use run_slots::params::over;
 use run_slots::params::store;
 
-// The command of that code at component i, whose slot has number k, its event aside.
+// A command: its code, what it has beside its parameters, those that it gives, the component that it is done at, and the place of its code.
+pub struct Command {
+    pub code: usize,
+    pub value: usize,
+    pub given: Params,
+    pub index: usize,
+    pub place: usize,
+}
+
+// The command, its event aside.
 fn act(
     s: &[u8],
-    code: usize,
-    value: usize,
-    given: Params,
-    i: usize,
-    k: usize,
+    command: Command,
+    done: Progress,
     vendor: &Sixteen,
     class: &Sixteen,
-    assigned: &SlotNumbers,
     answers: &[u8],
     slots: &mut [u8],
-    params: &mut AllParameters,
-    events: usize,
-    used: usize,
+    memory: &mut Memory,
 ) -> Progress
-    requires { ⌜ (i < limits .components) × (k ≡ getD (now assigned) i 0) × SixteenAt (now s) code value × AllHold (now assigned) (now slots) × FitAll (now s) (limits .components) (now params) × (length (now answers) % answerBytes ≡ 0) × IsCode (now s) code value given ⌝ }
-    ensures { λ r. ⌜ (r .events ≡ events) × Ends (r .end) × ((env : Env) (trace : Bytes) → Host env (was vendor) (was class) (was answers) (was assigned) (was slots) → i < length (env .ids) → FitAll (was s) (length (env .ids)) (was params) → outAt (was s) (length (env .ids)) (left params) (left slots) trace r ≡ acts env (opOf (was s) code value given) i (stateAt (was s) (length (env .ids)) (was params) (was slots) trace events used)) × ((n : ℕ) → FitAll (was s) n (was params) → Fit (was s) n given → FitAll (was s) n (left params)) ⌝ }
+    requires { ⌜ Commanded (now s) command (now answers) (now slots) (now memory) ⌝ }
+    ensures { λ r. ⌜ Acts s command done vendor class answers slots memory r ⌝ }
 {
-    let p = load(params, i);
+    let i = command.index;
+    let p = load(memory, i);
+    let k = memory[i];
+    let value = command.value;
+    let given = command.given;
+    let events = done.events;
+    let used = done.used;
+    let code = command.code;
     match code {
         VENDOR => ended(equal_sixteen(s, value, vendor), events, used),
         CLASS => ended(equal_sixteen(s, value, class), events, used),
@@ -68,60 +66,42 @@ fn act(
         SET_INDEX => ended(End::FINISHED, events, used),
         ABORT => ended(Failure::ABORTED, events, used),
         SET_PARAMETERS => {
-            store(params, i, over(p, given));
+            store(memory, i, over(p, given));
             ended(End::FINISHED, events, used)
         }
         OVERRIDE_PARAMETERS => {
-            store(params, i, over(given, p));
+            store(memory, i, over(given, p));
             ended(End::FINISHED, events, used)
         }
         FETCH => fetch(p, answers, events, used, slots, k),
-        COPY => ended(copy(p, assigned, slots, k), events, used),
+        COPY => ended(copy(p, memory, slots, k), events, used),
         RUN => ended(runs(slots, k), events, used),
-        _ => ended(swap(p, assigned, slots, k), events, used),
+        _ => ended(swap(p, memory, slots, k), events, used),
     }
 }
 
-// The command of that code at component i, and its event.
+// The command, after what was done before it, and its event.
 pub fn perform(
     s: &[u8],
-    code: usize,
-    value: usize,
-    given: Params,
-    i: usize,
-    place: usize,
+    command: Command,
+    done: Progress,
     vendor: &Sixteen,
     class: &Sixteen,
-    assigned: &SlotNumbers,
     answers: &[u8],
     slots: &mut [u8],
-    params: &mut AllParameters,
+    memory: &mut Memory,
     trace: &mut [u8],
-    events: usize,
-    used: usize,
 ) -> Progress
-    requires { ⌜ (i < limits .components) × SixteenAt (now s) code value × AllHold (now assigned) (now slots) × FitAll (now s) (limits .components) (now params) × (length (now answers) % answerBytes ≡ 0) × IsCode (now s) code value given × (eventBytes * events + eventBytes ≤ length (now trace)) ⌝ }
-    ensures { λ r. ⌜ (r .events ≡ events + 1) × Ends (r .end) × ((env : Env) → Host env (was vendor) (was class) (was answers) (was assigned) (was slots) → i < length (env .ids) → FitAll (was s) (length (env .ids)) (was params) → outAt (was s) (length (env .ids)) (left params) (left slots) (left trace) r ≡ step env (opOf (was s) code value given) i place (stateAt (was s) (length (env .ids)) (was params) (was slots) (was trace) events used)) × ((n : ℕ) → FitAll (was s) n (was params) → Fit (was s) n given → FitAll (was s) n (left params)) ⌝ }
+    requires { ⌜ Commanded (now s) command (now answers) (now slots) (now memory) × RoomFor (done .events) (now trace) ⌝ }
+    ensures { λ r. ⌜ Performs s command done vendor class answers slots memory trace r ⌝ }
 {
-    let k = assigned[i];
-    let d = act(
-        s,
-        code,
-        value,
-        given,
-        i,
-        k,
-        vendor,
-        class,
-        assigned,
-        answers,
-        slots,
-        params,
-        events,
-        used,
-    );
+    let events = done.events;
+    let place = command.place;
+    let index = command.index;
+    let code = command.code;
+    let d = act(s, command, done, vendor, class, answers, slots, memory);
     let end = d.end;
-    put_event(trace, events, code, i, place, end);
+    put_event(trace, events, code, index, place, end);
     Progress {
         events: events + 1,
         used: d.used,

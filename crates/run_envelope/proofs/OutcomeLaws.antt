@@ -8,7 +8,7 @@ use Rattle.rules.specs.declared.answers.Group.{Group}
 use Rattle.rules.specs.declared.answers.Refusal.{Refusal}
 use Rattle.rules.specs.declared.answers.End.the-variants.{Finished}
 use Rattle.rules.specs.Answers.{refusalOf, endNumber, endOf}
-use Rattle.rules.specs.Limits.{limits, allParams}
+use Rattle.rules.specs.Limits.{memoryNumbers}
 use Rattle.rules.specs.Step.{eventBytes}
 use Rattle.rules.specs.Bytes.{Bytes, bytesAt}
 use Rattle.rules.specs.Got.{refused}
@@ -44,8 +44,8 @@ module _ (s : Bytes) (number n : ℕ) (ids sections : List ℕ) (a : Accepted s 
         Settles (x .device) (runEnvelope s group x) (record { answer = Refused r 0; number = x .device .number }) (x .slots) (x .slots) (x .trace) (x .trace)
     refused-answer = Frame.refused-answer group (a .manifest .number) (names s (a .manifest)) x _ (runEnvelope s group x) is-run refusal stops
 
-    module _ (z : refusal ≡ 0) (assigned : List ℕ) (f : Found (namesAt s ids n) (x .slots) (replicate (limits .components) 0) assigned) where
-      unfoldable whole : SectionsJob s sections (x .device .vendor) (x .device .class) assigned (x .answers) (x .slots) (replicate allParams 0) (x .trace)
+    module _ (z : refusal ≡ 0) (memory : List ℕ) (f : Found (namesAt s ids n) (x .slots) (replicate memoryNumbers 0) memory) where
+      unfoldable whole : SectionsJob s sections (x .device .vendor) (x .device .class) (x .answers) (x .slots) memory (x .trace)
       whole =
           record {
             manifest = a .manifest;
@@ -54,24 +54,25 @@ module _ (s : Bytes) (number n : ℕ) (ids sections : List ℕ) (a : Accepted s 
             ready =
                 record {
                   env = envOf (names s (a .manifest)) x;
-                  lent = lent-start group (a .manifest .number) (names s (a .manifest)) x refusal stops z (known s number n ids sections a .some-ids .1) assigned (rw (named s number n ids sections a) at f) s;
+                  lent = lent-start group (a .manifest .number) (names s (a .manifest)) x refusal stops z (known s number n ids sections a .some-ids .1) memory (rw (named s number n ids sections a) at f) s;
                   inside = known s number n ids sections a .some-ids .0;
                 };
             among = length-map (a .manifest .ids) (bytesAt s);
           }
 
-      pub job : SectionsJob s sections (x .device .vendor) (x .device .class) assigned (x .answers) (x .slots) (replicate allParams 0) (x .trace)
+      pub job : SectionsJob s sections (x .device .vendor) (x .device .class) (x .answers) (x .slots) memory (x .trace)
       job = whole
 
-      module _ (r : Run) (slots′ : Bytes) (params′ : List ℕ) (trace′ : Bytes)
-          (d : (j : SectionsJob s sections (x .device .vendor) (x .device .class) assigned (x .answers) (x .slots) (replicate allParams 0) (x .trace)) →
-          SectionsRan s (j .ready .env) (planOf group (j .manifest)) (x .slots) (replicate allParams 0) (x .trace) r slots′ params′ trace′) where
-        ran : SectionsRan s (envOf (names s (a .manifest)) x) (planOf group (a .manifest)) (x .slots) (replicate allParams 0) (x .trace) r slots′ params′ trace′
+      module _ (r : Run) (slots′ : Bytes) (memory′ : List ℕ) (trace′ : Bytes)
+          (d : (j : SectionsJob s sections (x .device .vendor) (x .device .class) (x .answers) (x .slots) memory (x .trace)) →
+          SectionsRan s (j .ready .env) (planOf group (j .manifest)) (x .slots) memory (x .trace) r slots′ memory′ trace′) where
+        ran : SectionsRan s (envOf (names s (a .manifest)) x) (planOf group (a .manifest)) (x .slots) memory (x .trace) r slots′ memory′ trace′
         unfolding whole
         ran = d whole
 
-        goes : outOf s (length (names s (a .manifest))) params′ slots′ trace′ r ≡ runAll (envOf (names s (a .manifest)) x) (planOf group (a .manifest)) (startState (names s (a .manifest)) x)
-        goes = ran .goes ∙ ap (runAll (envOf (names s (a .manifest)) x) (planOf group (a .manifest))) (state-start s (names s (a .manifest)) x)
+        goes : outOf s (length (names s (a .manifest))) memory′ slots′ trace′ r ≡ runAll (envOf (names s (a .manifest)) x) (planOf group (a .manifest)) (startState (names s (a .manifest)) x)
+        goes = ran .goes ∙ ap (runAll (envOf (names s (a .manifest)) x) (planOf group (a .manifest))) (state-start group (a .manifest .number) (names s (a .manifest)) x refusal stops z (known s number n ids sections a .some-ids .1) memory
+            (rw (named s number n ids sections a) at f) s)
 
         pub last-event : (endNumber Finished < r .end → 0 < r .events) × (eventBytes * r .events ≤ length trace′)
         unfolding report

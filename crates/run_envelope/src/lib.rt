@@ -1,18 +1,15 @@
 // A run: the envelope is checked, the run is admitted, and the sections of the group are run.
-ghost use mathlib.Core.Path.{_≡_};
-ghost use Prim.Native.Nat.{_-_};
-ghost use Rattle.rules.specs.Lent.{was, left};
-ghost use Rattle.rules.specs.Run.{runEnvelope};
-ghost use Rattle.run_admission.specs.Answer.{inputOf, Settles};
 ghost use Rattle.manifest_accessors.specs.Accepted.{Accepted};
+ghost use Rattle.run_envelope.specs.Envelope.{Runs};
 use check_envelope::check;
 use check_envelope::report::Checked;
 use rules::answers::Group;
 use rules::answers::Refusal;
-use rules::controller::ALL_PARAMETERS;
 use rules::controller::Controller;
+use rules::controller::MEMORY_NUMBERS;
 use rules::controller::Places;
 use rules::controller::SectionPlaces;
+use run_admission::admit::Request;
 use run_admission::admit::admit;
 use run_admission::answer::Answer;
 use run_admission::answer::Outcome;
@@ -26,55 +23,39 @@ mod sections;
 // The run of an envelope that check has accepted, by what check reported.
 fn run_checked(
     s: &[u8],
-    group: Group,
-    number: usize,
-    n: usize,
+    request: Request,
     ids: &Places,
     sections: &SectionPlaces,
-    verdict: bool,
     device: Controller,
     slots: &mut [u8],
     answers: &[u8],
     trace: &mut [u8],
 ) -> Outcome
-    requires { ⌜ Accepted (now s) number n (now ids) (now sections) ⌝ }
-    ensures { λ r. ⌜ Settles device (runEnvelope (was s) group (inputOf verdict device (was slots) (was answers) (was trace))) r (was slots) (left slots) (was trace) (left trace) ⌝ }
+    requires { ⌜ Accepted (now s) (request .number) (request .components) (now ids) (now sections) ⌝ }
+    ensures { λ r. ⌜ Runs s (request .group) (request .verdict) device slots answers trace r ⌝ }
 {
-    let mut assigned = [0usize; Controller::COMPONENTS];
-    let refusal = admit(
-        s,
-        group,
-        number,
-        ids,
-        n,
-        verdict,
-        device,
-        slots,
-        answers,
-        trace,
-        &mut assigned,
-    );
+    let mut memory = [0usize; MEMORY_NUMBERS];
+    let refusal = admit(s, request, ids, device, slots, answers, trace, &mut memory);
     if refusal != 0 {
         return refused(Refusal::of(refusal), 0, device);
     }
+    let group = request.group;
     let vendor = device.vendor;
     let class = device.class;
-    let mut params = [0usize; ALL_PARAMETERS];
     let done = run_sections(
         s,
         group,
         sections,
         &vendor,
         &class,
-        &assigned,
         answers,
         slots,
-        &mut params,
+        &mut memory,
         trace,
     );
     Outcome {
         answer: Answer::Ran(ended(done.end, done.events, done.used, trace)),
-        number: number_after(group, done.end, number as u32, device.number),
+        number: number_after(group, done.end, request.number as u32, device.number),
     }
 }
 
@@ -88,7 +69,7 @@ pub fn run(
     answers: &[u8],
     trace: &mut [u8],
 ) -> Outcome
-    ensures { λ r. ⌜ Settles device (runEnvelope (was s) group (inputOf verdict device (was slots) (was answers) (was trace))) r (was slots) (left slots) (was trace) (left trace) ⌝ }
+    ensures { λ r. ⌜ Runs s group verdict device slots answers trace r ⌝ }
 {
     let report = check(s);
     let answer = report.answer;
@@ -97,19 +78,13 @@ pub fn run(
         Checked::Accepted => {
             let ids = report.ids;
             let sections = report.sections;
-            run_checked(
-                s,
+            let request = Request {
                 group,
-                report.number,
-                report.components,
-                &ids,
-                &sections,
+                number: report.number,
+                components: report.components,
                 verdict,
-                device,
-                slots,
-                answers,
-                trace,
-            )
+            };
+            run_checked(s, request, &ids, &sections, device, slots, answers, trace)
         }
     }
 }

@@ -6,41 +6,41 @@ use native.Mathlib.Omega.{arith}
 use lib.ListN.{length}
 use Rattle.rules.specs.Bytes.{Bytes}
 use Rattle.rules.specs.Step.{Env, Out}
-use Rattle.run_slots.specs.Params.{FitAll}
-use Rattle.run_commands.specs.Machine.{Lent}
+use Rattle.run_slots.specs.Params.{FitAll, SlotsKept}
+use Rattle.run_commands.specs.Machine.{Lends}
 use Rattle.run_commands.proofs.LentLaws.{Moves, lent-after}
 use Rattle.run_sequence.specs.declared.Run.{Run}
 use Rattle.run_sequence.specs.Cycle.{stateOf, outOf, Ready}
 
 -- Ready at a given environment
-pub record Kept (env : Env) (s vendor class : Bytes) (assigned : List ℕ) (answers slots : Bytes) (params : List ℕ) (trace : Bytes) (index : ℕ) : Type 0 where
-  pub lent : Lent env s vendor class assigned answers slots params trace
+pub record Kept (env : Env) (s vendor class answers slots : Bytes) (memory : List ℕ) (trace : Bytes) (index : ℕ) : Type 0 where
+  pub lent : Lends env s vendor class answers slots memory trace
   pub inside : index < length (env .ids)
 
-module _ (s vendor class : Bytes) (assigned : List ℕ) (answers : Bytes) where
-  abbrev pub ready-of : (env : Env) (slots : Bytes) (params : List ℕ) (trace : Bytes) (index : ℕ) → Kept env s vendor class assigned answers slots params trace index →
-      Ready s vendor class assigned answers slots params trace index
-  ready-of env slots params trace index k = record { env = env; lent = k .lent; inside = k .inside }
+module _ (s vendor class answers : Bytes) where
+  abbrev pub ready-of : (env : Env) (slots : Bytes) (memory : List ℕ) (trace : Bytes) (index : ℕ) → Kept env s vendor class answers slots memory trace index →
+      Ready s vendor class answers slots memory trace index
+  ready-of env slots memory trace index k = record { env = env; lent = k .lent; inside = k .inside }
 
-  abbrev pub kept-of : (slots : Bytes) (params : List ℕ) (trace : Bytes) (index : ℕ) (r : Ready s vendor class assigned answers slots params trace index) →
-      Kept (r .env) s vendor class assigned answers slots params trace index
-  kept-of slots params trace index r = record { lent = r .lent; inside = r .inside }
+  abbrev pub kept-of : (slots : Bytes) (memory : List ℕ) (trace : Bytes) (index : ℕ) (r : Ready s vendor class answers slots memory trace index) →
+      Kept (r .env) s vendor class answers slots memory trace index
+  kept-of slots memory trace index r = record { lent = r .lent; inside = r .inside }
 
   -- after a run of something, at another index
-  pub kept-after : (env : Env) (slots : Bytes) (params : List ℕ) (trace : Bytes) (index : ℕ) → Kept env s vendor class assigned answers slots params trace index →
-      (run : Run) (o : Out) (n : ℕ) → Moves (stateOf s (length (env .ids)) params slots trace run) (o .state) n →
-      (r : Run) (slots′ : Bytes) (params′ : List ℕ) (trace′ : Bytes) → outOf s (length (env .ids)) params′ slots′ trace′ r ≡ o → FitAll s (length (env .ids)) params′ →
-      (index′ : ℕ) → index′ < length (env .ids) → Kept env s vendor class assigned answers slots′ params′ trace′ index′
-  kept-after env slots params trace index k run o n m r slots′ params′ trace′ e fit index′ inside =
+  pub kept-after : (env : Env) (slots : Bytes) (memory : List ℕ) (trace : Bytes) (index : ℕ) → Kept env s vendor class answers slots memory trace index →
+      (run : Run) (o : Out) (n : ℕ) → Moves (stateOf s (length (env .ids)) memory slots trace run) (o .state) n →
+      (r : Run) (slots′ : Bytes) (memory′ : List ℕ) (trace′ : Bytes) → outOf s (length (env .ids)) memory′ slots′ trace′ r ≡ o → FitAll s (length (env .ids)) memory′ → SlotsKept memory memory′ →
+      (index′ : ℕ) → index′ < length (env .ids) → Kept env s vendor class answers slots′ memory′ trace′ index′
+  kept-after env slots memory trace index k run o n m r slots′ memory′ trace′ e fit same index′ inside =
       record {
         lent =
-            lent-after env s vendor class assigned answers slots params trace (k .lent) (stateOf s (length (env .ids)) params slots trace run) (o .state) n refl refl m slots′ params′ trace′
-            (ap (λ (x : Out). x .state .slots) e) (ap (λ (x : Out). x .state .trace) e) fit;
+            lent-after env s vendor class answers slots memory trace (k .lent) (stateOf s (length (env .ids)) memory slots trace run) (o .state) n refl refl m slots′ memory′ trace′
+            (ap (λ (x : Out). x .state .slots) e) (ap (λ (x : Out). x .state .trace) e) fit same;
         inside = inside;
       }
 
-  pub events-after : (n : ℕ) (params : List ℕ) (slots trace : Bytes) (run : Run) (o : Out) (k m : ℕ) → Moves (stateOf s n params slots trace run) (o .state) k → run .events ≤ m →
-      (r : Run) (slots′ : Bytes) (params′ : List ℕ) (trace′ : Bytes) → outOf s n params′ slots′ trace′ r ≡ o → r .events ≤ m + k
-  events-after n params slots trace run o k m v few r slots′ params′ trace′ e =
+  pub events-after : (n : ℕ) (memory : List ℕ) (slots trace : Bytes) (run : Run) (o : Out) (k m : ℕ) → Moves (stateOf s n memory slots trace run) (o .state) k → run .events ≤ m →
+      (r : Run) (slots′ : Bytes) (memory′ : List ℕ) (trace′ : Bytes) → outOf s n memory′ slots′ trace′ r ≡ o → r .events ≤ m + k
+  events-after n memory slots trace run o k m v few r slots′ memory′ trace′ e =
       let es : r .events ≡ o .state .events = ap (λ (x : Out). x .state .events) e in
       omega (arith, v .events)

@@ -13,6 +13,7 @@ use Rattle.rules.specs.Bytes.{Bytes}
 use Rattle.rules.specs.Manifest.{Seq, then, Cmd, countCmd}
 use Rattle.rules.specs.Step.{Env, State, Out, out}
 use Rattle.rules.specs.Run.{on, next, runSeq, runCmd, indexAfter, coerceAfter}
+use Rattle.run_slots.specs.Params.{SlotsKept}
 use Rattle.run_sequence.specs.declared.Run.{Run}
 use Rattle.manifest_accessors.specs.Arguments.{coerceFalse, isTrue}
 use Rattle.run_sequence.specs.Cycle.{stateOf, outOf, Ready, CommandJob, SequenceJob, CommandRan, SequenceRan, caughtBy}
@@ -50,24 +51,29 @@ stops env c cs coercible i co st st′ n z e = rw (e, ne-eqb n 0 z) (go (eqb n 1
     go false f true false = rw (ne-eqb n 0 z, f) (other (eqb n 2) false f)
     go false f false q = rw (ne-eqb n 0 z, f) (other (eqb n 2) false f)
 
-pub record CommandsJob (s : Bytes) (depth k : ℕ) (run : Run) (vendor class : Bytes) (assigned : List ℕ) (answers slots : Bytes) (params : List ℕ) (trace : Bytes) : Type 0 where
-  pub ready : Ready s vendor class assigned answers slots params trace (run .index)
+pub record CommandsJob (s : Bytes) (depth k : ℕ) (run : Run) (vendor class answers slots : Bytes) (memory : List ℕ) (trace : Bytes) : Type 0 where
+  pub ready : Ready s vendor class answers slots memory trace (run .index)
   pub place : CommandsAt s (length (ready .env .ids)) depth (run .events) k (run .next)
 
 -- the loop over commands: the whole gives what the commands that are left give from here
-pub record Loop (s vendor class : Bytes) (assigned : List ℕ) (answers : Bytes) (depth : ℕ) (coercible : Bool) (env : Env) (whole : Out) (slots : Bytes) (params : List ℕ) (trace : Bytes) (left : ℕ) (now : Run) : Type 0 where
-  pub kept : Kept env s vendor class assigned answers slots params trace (now .index)
+pub record Loop (s vendor class : Bytes) (memory₀ : List ℕ) (answers : Bytes) (depth : ℕ) (coercible : Bool) (env : Env) (whole : Out) (slots : Bytes) (memory : List ℕ) (trace : Bytes) (left : ℕ) (now : Run) : Type 0 where
+  pub kept : Kept env s vendor class answers slots memory trace (now .index)
   pub place : CommandsAt s (length (env .ids)) depth (now .events) left (now .next)
-  pub goes : whole ≡ runSeq env (place .cmds) coercible (now .index) (isTrue (now .coerce)) (stateOf s (length (env .ids)) params slots trace now)
+  pub goes : whole ≡ runSeq env (place .cmds) coercible (now .index) (isTrue (now .coerce)) (stateOf s (length (env .ids)) memory slots trace now)
   pub calm : now .end ≡ 0
+  pub same : SlotsKept memory₀ memory
 
-module _ (s vendor class : Bytes) (assigned : List ℕ) (answers : Bytes) (depth : ℕ) (coercible : Bool) (slots : Bytes) (params : List ℕ) (trace : Bytes) (left : ℕ) (now : Run) where
-  pub loop-starts : now .end ≡ 0 → (x : CommandsJob s depth left now vendor class assigned answers slots params trace) →
-      Loop s vendor class assigned answers depth coercible (x .ready .env) (runSeq (x .ready .env) (x .place .cmds) coercible (now .index) (isTrue (now .coerce)) (stateOf s (length (x .ready .env .ids)) params slots trace now)) slots params trace left now
-  loop-starts z x = record { kept = kept-of s vendor class assigned answers slots params trace (now .index) (x .ready); place = x .place; goes = refl; calm = z }
+module _ (s vendor class answers : Bytes) (depth : ℕ) (coercible : Bool) (slots : Bytes) (memory : List ℕ) (trace : Bytes) (left : ℕ) (now : Run) where
+  pub loop-starts : now .end ≡ 0 → (x : CommandsJob s depth left now vendor class answers slots memory trace) →
+      Loop s vendor class memory answers depth coercible (x .ready .env)
+      (runSeq (x .ready .env) (x .place .cmds) coercible (now .index) (isTrue (now .coerce)) (stateOf s (length (x .ready .env .ids)) memory slots trace now))
+      slots memory trace left now
+  loop-starts z x =
+      record { kept = kept-of s vendor class answers slots memory trace (now .index) (x .ready); place = x .place; goes = refl; calm = z; same = λ i h. refl }
 
-  module _ (env : Env) (whole : Out) (l : Loop s vendor class assigned answers depth coercible env whole slots params trace left now) where
-    pub loop-done : left ≡ 0 → outOf s (length (env .ids)) params slots trace now ≡ whole
+module _ (s vendor class : Bytes) (memory₀ : List ℕ) (answers : Bytes) (depth : ℕ) (coercible : Bool) (slots : Bytes) (memory : List ℕ) (trace : Bytes) (left : ℕ) (now : Run) where
+  module _ (env : Env) (whole : Out) (l : Loop s vendor class memory₀ answers depth coercible env whole slots memory trace left now) where
+    pub loop-done : left ≡ 0 → outOf s (length (env .ids)) memory slots trace now ≡ whole
     unfolding runSeq
     loop-done z = rw (l .calm) (sym (l .goes ∙ rw (no-more s (length (env .ids)) depth (now .events) left (now .next) (l .place) z)))
 
@@ -75,27 +81,27 @@ module _ (s vendor class : Bytes) (assigned : List ℕ) (answers : Bytes) (depth
       abbrev pub its-turn : Turn s (length (env .ids)) depth (now .events) left (now .next) (l .place)
       its-turn = turn s (length (env .ids)) depth (now .events) left (now .next) (l .place) h
 
-      abbrev pub command-job : CommandJob s depth now vendor class assigned answers slots params trace
-      command-job = record { ready = ready-of s vendor class assigned answers env slots params trace (now .index) (l .kept); place = its-turn .first }
+      abbrev pub command-job : CommandJob s depth now vendor class answers slots memory trace
+      command-job = record { ready = ready-of s vendor class answers env slots memory trace (now .index) (l .kept); place = its-turn .first }
 
-      module _ (r : Run) (slots′ : Bytes) (params′ : List ℕ) (trace′ : Bytes)
-          (ran : CommandRan s env (its-turn .first .cmd) (its-turn .first .to) now slots params trace r slots′ params′ trace′) where
-        pub loop-stops : (r .end ≡ 0 → ⊥) → outOf s (length (env .ids)) params′ slots′ trace′ (caughtBy coercible (now .coerce) r) ≡ whole
+      module _ (r : Run) (slots′ : Bytes) (memory′ : List ℕ) (trace′ : Bytes)
+          (ran : CommandRan s env (its-turn .first .cmd) (its-turn .first .to) now slots memory trace r slots′ memory′ trace′) where
+        pub loop-stops : (r .end ≡ 0 → ⊥) → outOf s (length (env .ids)) memory′ slots′ trace′ (caughtBy coercible (now .coerce) r) ≡ whole
         loop-stops z =
-            sym (l .goes ∙ rw (its-turn .cmds) (stops env (its-turn .first .cmd) (its-turn .rest .cmds) coercible (now .index) (isTrue (now .coerce)) (stateOf s (length (env .ids)) params slots trace now) (stateOf s (length (env .ids)) params′ slots′ trace′ r) (r .end) z (sym (ran .goes))))
+            sym (l .goes ∙ rw (its-turn .cmds) (stops env (its-turn .first .cmd) (its-turn .rest .cmds) coercible (now .index) (isTrue (now .coerce)) (stateOf s (length (env .ids)) memory slots trace now) (stateOf s (length (env .ids)) memory′ slots′ trace′ r) (r .end) z (sym (ran .goes))))
 
         pub loop-rises : r .end ≡ 0 → now .next < r .next
         loop-rises z = omega (arith, ran .next z, command-later s (length (env .ids)) depth (now .events) (now .next) (its-turn .first))
 
-        pub loop-goes-on : r .end ≡ 0 → Loop s vendor class assigned answers depth coercible env whole slots′ params′ trace′ (left - 1) r
+        pub loop-goes-on : r .end ≡ 0 → Loop s vendor class memory₀ answers depth coercible env whole slots′ memory′ trace′ (left - 1) r
         loop-goes-on z =
             let t = its-turn in
-            let st : State = stateOf s (length (env .ids)) params slots trace now in
+            let st : State = stateOf s (length (env .ids)) memory slots trace now in
             let m : Moves st (runCmd env (t .first .cmd) (now .index) st .state) (countCmd (t .first .cmd)) = moves-cmd env (t .first .cmd) (now .index) st in
             let w : r .events ≤ t .first .m + countCmd (t .first .cmd) =
-            events-after s vendor class assigned answers (length (env .ids)) params slots trace now _ _ (t .first .m) m (t .under) r slots′ params′ trace′ (ran .goes) in
+            events-after s vendor class answers (length (env .ids)) memory slots trace now _ _ (t .first .m) m (t .under) r slots′ memory′ trace′ (ran .goes) in
             record {
-              kept = kept-after s vendor class assigned answers env slots params trace (now .index) (l .kept) now _ _ m r slots′ params′ trace′ (ran .goes) (ran .fit) (r .index) (ran .inside z);
+              kept = kept-after s vendor class answers env slots memory trace (now .index) (l .kept) now _ _ m r slots′ memory′ trace′ (ran .goes) (ran .fit) (ran .same) (r .index) (ran .inside z);
               place =
                   record {
                     section = t .rest .section;
@@ -109,13 +115,14 @@ module _ (s vendor class : Bytes) (assigned : List ℕ) (answers : Bytes) (depth
                   };
               goes =
                   l .goes ∙ ap (λ (a : Seq). runSeq env a coercible (now .index) (isTrue (now .coerce)) st) (t .cmds)
-                  ∙ rw (ran .index z, ran .coerce) (goes-on env (t .first .cmd) (t .rest .cmds) coercible (now .index) (isTrue (now .coerce)) st (stateOf s (length (env .ids)) params′ slots′ trace′ r) (r .end) z (sym (ran .goes)));
+                  ∙ rw (ran .index z, ran .coerce) (goes-on env (t .first .cmd) (t .rest .cmds) coercible (now .index) (isTrue (now .coerce)) st (stateOf s (length (env .ids)) memory′ slots′ trace′ r) (r .end) z (sym (ran .goes)));
               calm = z;
+              same = λ i h. ran .same i h ∙ l .same i h;
             }
 
 -- a run of a sequence, from its job
-module _ (s : Bytes) (depth : ℕ) (run : Run) (vendor class : Bytes) (assigned : List ℕ) (answers slots : Bytes) (params : List ℕ) (trace : Bytes)
-    (j : SequenceJob s depth run vendor class assigned answers slots params trace) where
+module _ (s : Bytes) (depth : ℕ) (run : Run) (vendor class answers slots : Bytes) (memory : List ℕ) (trace : Bytes)
+    (j : SequenceJob s depth run vendor class answers slots memory trace) where
   pub sequence-deep : 0 < depth
   sequence-deep = start s (length (j .ready .env .ids)) depth (run .events) (run .next) (j .place) .deep
 
@@ -123,30 +130,32 @@ module _ (s : Bytes) (depth : ℕ) (run : Run) (vendor class : Bytes) (assigned 
   sequence-head = start-head s (length (j .ready .env .ids)) depth (run .events) (run .next) (j .place)
 
   module _ (v p : ℕ) (q : (v ≡ sequence-head .head .num) × (p ≡ sequence-head .head .next)) where
-    abbrev pub commands-job : CommandsJob s (depth - 1) (v / 2) (record { next = p; index = run .index; coerce = coerceFalse; events = run .events; used = run .used; end = 0 }) vendor class assigned answers slots params trace
+    abbrev pub commands-job : CommandsJob s (depth - 1) (v / 2) (record { next = p; index = run .index; coerce = coerceFalse; events = run .events; used = run .used; end = 0 }) vendor class answers slots memory trace
     commands-job = record { ready = j .ready; place = start-commands s (length (j .ready .env .ids)) depth (run .events) (run .next) (j .place) v p q }
 
     -- a command at that place or later is one less deep, and of fewer bytes
     pub command-falls : (at : ℕ) → p ≤ at → remaining s (depth - 1) at < remaining s depth (run .next)
     command-falls at l = depth-falls s depth (run .next) at sequence-deep (omega (arith, q .1, head-later s (run .next) sequence-head))
 
-module _ (s vendor class : Bytes) (assigned : List ℕ) (answers : Bytes) (depth : ℕ) (coercible : Bool) (slots : Bytes) (params : List ℕ) (trace : Bytes) (left : ℕ) (now : Run)
-    (env : Env) (seq : Seq) (run : Run) (slots₀ : Bytes) (params₀ : List ℕ) (trace₀ : Bytes)
-    (l : Loop s vendor class assigned answers depth coercible env (runSeq env seq coercible (run .index) false (stateOf s (length (env .ids)) params₀ slots₀ trace₀ run)) slots params trace left now) where
-  pub sequence-done : left ≡ 0 → SequenceRan s env seq coercible run slots₀ params₀ trace₀ now slots params trace
+module _ (s vendor class answers : Bytes) (depth : ℕ) (coercible : Bool) (slots : Bytes) (memory : List ℕ) (trace : Bytes) (left : ℕ) (now : Run)
+    (env : Env) (seq : Seq) (run : Run) (slots₀ : Bytes) (memory₀ : List ℕ) (trace₀ : Bytes)
+    (l : Loop s vendor class memory₀ answers depth coercible env (runSeq env seq coercible (run .index) false (stateOf s (length (env .ids)) memory₀ slots₀ trace₀ run)) slots memory trace left now) where
+  pub sequence-done : left ≡ 0 → SequenceRan s env seq coercible run slots₀ memory₀ trace₀ now slots memory trace
   sequence-done z =
       record {
-        goes = loop-done s vendor class assigned answers depth coercible slots params trace left now env _ l z;
+        goes = loop-done s vendor class memory₀ answers depth coercible slots memory trace left now env _ l z;
         fit = l .kept .lent .fit;
+        same = l .same;
         late = λ h. absurd (omega (arith, l .calm));
       }
 
-  module _ (h : 0 < left) (r : Run) (slots′ : Bytes) (params′ : List ℕ) (trace′ : Bytes)
-      (ran : CommandRan s env (its-turn s vendor class assigned answers depth coercible slots params trace left now env _ l h .first .cmd) (its-turn s vendor class assigned answers depth coercible slots params trace left now env _ l h .first .to) now slots params trace r slots′ params′ trace′) where
-    pub sequence-stopped : (r .end ≡ 0 → ⊥) → SequenceRan s env seq coercible run slots₀ params₀ trace₀ (caughtBy coercible (now .coerce) r) slots′ params′ trace′
+  module _ (h : 0 < left) (r : Run) (slots′ : Bytes) (memory′ : List ℕ) (trace′ : Bytes)
+      (ran : CommandRan s env (its-turn s vendor class memory₀ answers depth coercible slots memory trace left now env _ l h .first .cmd) (its-turn s vendor class memory₀ answers depth coercible slots memory trace left now env _ l h .first .to) now slots memory trace r slots′ memory′ trace′) where
+    pub sequence-stopped : (r .end ≡ 0 → ⊥) → SequenceRan s env seq coercible run slots₀ memory₀ trace₀ (caughtBy coercible (now .coerce) r) slots′ memory′ trace′
     sequence-stopped z =
         record {
-          goes = loop-stops s vendor class assigned answers depth coercible slots params trace left now env _ l h r slots′ params′ trace′ ran z;
+          goes = loop-stops s vendor class memory₀ answers depth coercible slots memory trace left now env _ l h r slots′ memory′ trace′ ran z;
           fit = ran .fit;
+          same = λ i k. ran .same i k ∙ l .same i k;
           late = λ p. ran .late (omega (arith, z));
         }

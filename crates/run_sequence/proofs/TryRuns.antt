@@ -16,7 +16,7 @@ use Rattle.rules.specs.Manifest.{Seq, Cmd, one, try, Alts, last, or, count}
 use Rattle.rules.specs.Step.{Env, State, Out, out}
 use Rattle.rules.specs.Run.{on, next, runSeq, runCmd, runAlts, indexAfter, coerceAfter}
 use Rattle.run_sequence.specs.declared.Run.{Run}
-use Rattle.run_slots.specs.Params.{FitAll}
+use Rattle.run_slots.specs.Params.{FitAll, SlotsKept}
 use Rattle.manifest_accessors.specs.Heads.{HeadAt, Strings}
 use Rattle.run_sequence.specs.Cycle.{stateOf, outOf, LeafJob, CommandJob, SequenceJob, CommandRan, SequenceRan, runAt}
 use Rattle.manifest_accessors.specs.Arguments.{ArgumentAt}
@@ -77,24 +77,26 @@ try-off env a rest i st st′ n z e = rw (e, ne-eqb n 1 z) (go (eqb n 0) (eqb n 
     go false false = refl
 
 -- the loop over alternatives: the whole gives what the alternatives that are left give from here
-pub record AltsLoop (s vendor class : Bytes) (assigned : List ℕ) (answers : Bytes) (depth : ℕ) (env : Env) (cmd : Cmd) (to : ℕ) (run : Run) (whole : Out) (slots : Bytes) (params : List ℕ) (trace : Bytes) (p k : ℕ) (now : Run) : Type 0 where
+pub record AltsLoop (s vendor class : Bytes) (memory₀ : List ℕ) (answers : Bytes) (depth : ℕ) (env : Env) (cmd : Cmd) (to : ℕ) (run : Run) (whole : Out) (slots : Bytes) (memory : List ℕ) (trace : Bytes) (p k : ℕ) (now : Run) : Type 0 where
   pub alts : Alts
   pub is : cmd ≡ try alts
-  pub kept : Kept env s vendor class assigned answers slots params trace (run .index)
+  pub kept : Kept env s vendor class answers slots memory trace (run .index)
   pub place : AltsAt s (length (env .ids)) depth (now .events) k p to
-  pub goes : whole ≡ tryAll env (place .seqs) (run .index) (stateOf s (length (env .ids)) params slots trace now)
+  pub goes : whole ≡ tryAll env (place .seqs) (run .index) (stateOf s (length (env .ids)) memory slots trace now)
   pub final : k ≡ 0 → 0 < now .events
+  pub same : SlotsKept memory₀ memory
 
 -- what a command that held sequences leaves
-holds-sequences : (s : Bytes) (env : Env) (cmd : Cmd) (to : ℕ) (run : Run) (slots : Bytes) (params : List ℕ) (trace : Bytes) (at : ℕ) (r : Run) (slots′ : Bytes) (params′ : List ℕ) (trace′ : Bytes) →
-    outOf s (length (env .ids)) params′ slots′ trace′ r ≡ runCmd env cmd (run .index) (stateOf s (length (env .ids)) params slots trace run) →
-    FitAll s (length (env .ids)) params′ → (0 < r .end → 0 < r .events) → (r .end ≡ 0 → at ≡ to) → run .index < length (env .ids) →
+holds-sequences : (s : Bytes) (env : Env) (cmd : Cmd) (to : ℕ) (run : Run) (slots : Bytes) (memory : List ℕ) (trace : Bytes) (at : ℕ) (r : Run) (slots′ : Bytes) (memory′ : List ℕ) (trace′ : Bytes) →
+    outOf s (length (env .ids)) memory′ slots′ trace′ r ≡ runCmd env cmd (run .index) (stateOf s (length (env .ids)) memory slots trace run) →
+    FitAll s (length (env .ids)) memory′ → SlotsKept memory memory′ → (0 < r .end → 0 < r .events) → (r .end ≡ 0 → at ≡ to) → run .index < length (env .ids) →
     ((i : ℕ) → indexAfter cmd i ≡ i) → ((c : Bool) → coerceAfter cmd c ≡ c) →
-    CommandRan s env cmd to run slots params trace (left run at r) slots′ params′ trace′
-holds-sequences s env cmd to run slots params trace at r slots′ params′ trace′ goes fit late next inside index coerce =
+    CommandRan s env cmd to run slots memory trace (left run at r) slots′ memory′ trace′
+holds-sequences s env cmd to run slots memory trace at r slots′ memory′ trace′ goes fit same late next inside index coerce =
     record {
       goes = goes;
       fit = fit;
+      same = same;
       late = late;
       next = next;
       index = λ z. sym (index (run .index));
@@ -102,12 +104,12 @@ holds-sequences s env cmd to run slots params trace at r slots′ params′ trac
       coerce = sym (coerce _);
     }
 
-ran-as : (s : Bytes) (env : Env) (cmd cmd′ : Cmd) (to to′ : ℕ) (run : Run) (slots : Bytes) (params : List ℕ) (trace : Bytes) (r : Run) (slots′ : Bytes) (params′ : List ℕ) (trace′ : Bytes) →
-    cmd ≡ cmd′ → to′ ≡ to → CommandRan s env cmd′ to′ run slots params trace r slots′ params′ trace′ → CommandRan s env cmd to run slots params trace r slots′ params′ trace′
-ran-as s env cmd cmd′ to to′ run slots params trace r slots′ params′ trace′ e e′ ran = rw (e, ← e′) ran
+ran-as : (s : Bytes) (env : Env) (cmd cmd′ : Cmd) (to to′ : ℕ) (run : Run) (slots : Bytes) (memory : List ℕ) (trace : Bytes) (r : Run) (slots′ : Bytes) (memory′ : List ℕ) (trace′ : Bytes) →
+    cmd ≡ cmd′ → to′ ≡ to → CommandRan s env cmd′ to′ run slots memory trace r slots′ memory′ trace′ → CommandRan s env cmd to run slots memory trace r slots′ memory′ trace′
+ran-as s env cmd cmd′ to to′ run slots memory trace r slots′ memory′ trace′ e e′ ran = rw (e, ← e′) ran
 
-module _ (s : Bytes) (depth : ℕ) (run : Run) (vendor class : Bytes) (assigned : List ℕ) (answers slots : Bytes) (params : List ℕ) (trace : Bytes)
-    (j : CommandJob s depth run vendor class assigned answers slots params trace) where
+module _ (s : Bytes) (depth : ℕ) (run : Run) (vendor class answers slots : Bytes) (memory : List ℕ) (trace : Bytes)
+    (j : CommandJob s depth run vendor class answers slots memory trace) where
   abbrev pub its-code : Coded s (length (j .ready .env .ids)) depth (run .events) (run .next) (j .place)
   its-code = coded s (length (j .ready .env .ids)) depth (run .events) (run .next) (j .place)
 
@@ -135,7 +137,7 @@ module _ (s : Bytes) (depth : ℕ) (run : Run) (vendor class : Bytes) (assigned 
       sub-fits = string-fits s (length (j .ready .env .ids)) (j .place .section) depth (j .place .m + 1) (j .place .e) p (sub-at .seq) (sub-at .inside) (j .place .fits)
 
       module _ (w from : ℕ) (o : (w ≡ sub-at .inside .head .num) × (from ≡ sub-at .inside .head .next)) where
-        abbrev pub sub-job : SequenceJob s depth (entered run from run) vendor class assigned answers slots params trace
+        abbrev pub sub-job : SequenceJob s depth (entered run from run) vendor class answers slots memory trace
         sub-job =
             record {
               ready = j .ready;
@@ -148,13 +150,13 @@ module _ (s : Bytes) (depth : ℕ) (run : Run) (vendor class : Bytes) (assigned 
         pub sub-falls : remaining s depth from < remaining s depth (run .next)
         sub-falls = sequence-falls p p from code-later (omega arith) (omega (arith, o .1, head-later s p sub-head))
 
-        pub sub-ran : (r : Run) (slots′ : Bytes) (params′ : List ℕ) (trace′ : Bytes) → SequenceRan s (j .ready .env) (sub-at .seq) true (entered run from run) slots params trace r slots′ params′ trace′ →
-            CommandRan s (j .ready .env) (j .place .cmd) (j .place .to) run slots params trace (left run (from + w) r) slots′ params′ trace′
+        pub sub-ran : (r : Run) (slots′ : Bytes) (memory′ : List ℕ) (trace′ : Bytes) → SequenceRan s (j .ready .env) (sub-at .seq) true (entered run from run) slots memory trace r slots′ memory′ trace′ →
+            CommandRan s (j .ready .env) (j .place .cmd) (j .place .to) run slots memory trace (left run (from + w) r) slots′ memory′ trace′
         unfolding runSeq
-        sub-ran r slots′ params′ trace′ ran =
-            holds-sequences s (j .ready .env) (j .place .cmd) (j .place .to) run slots params trace (from + w) r slots′ params′ trace′
-            (ran .goes ∙ ap (λ (c : Cmd). runCmd (j .ready .env) c (run .index) (stateOf s (length (j .ready .env .ids)) params slots trace run)) (sym (sub-at .is)))
-            (ran .fit) (ran .late) (λ x. omega (arith, o .0, o .1, sub-at .to)) (j .ready .inside) (λ i. rw (sub-at .is)) (λ c. rw (sub-at .is))
+        sub-ran r slots′ memory′ trace′ ran =
+            holds-sequences s (j .ready .env) (j .place .cmd) (j .place .to) run slots memory trace (from + w) r slots′ memory′ trace′
+            (ran .goes ∙ ap (λ (c : Cmd). runCmd (j .ready .env) c (run .index) (stateOf s (length (j .ready .env .ids)) memory slots trace run)) (sym (sub-at .is)))
+            (ran .fit) (ran .same) (ran .late) (λ x. omega (arith, o .0, o .1, sub-at .to)) (j .ready .inside) (λ i. rw (sub-at .is)) (λ c. rw (sub-at .is))
 
     -- any other but 15
     module _ (z : v ≡ 30 → ⊥) (z′ : v ≡ 15 → ⊥) where
@@ -167,13 +169,13 @@ module _ (s : Bytes) (depth : ℕ) (run : Run) (vendor class : Bytes) (assigned 
       one-at =
           command-one s (length (j .ready .env .ids)) (j .place .section) depth (j .place .m) (j .place .e) (run .next) (j .place .cmd) (j .place .to) (j .place .fits) (j .place .reads) v p (rw (q .0, q .1) (its-code .reads)) z z′
 
-      abbrev pub leaf-job : LeafJob s v p run vendor class assigned answers slots params trace
+      abbrev pub leaf-job : LeafJob s (record { value = v; next = p }) run vendor class answers slots memory trace
       leaf-job = record { ready = j .ready; argument = one-at .0; among = one-at .1; few = omega (arith, j .place .few, one-at .4) }
 
-      pub leaf-ran : (r : Run) (slots′ : Bytes) (params′ : List ℕ) (trace′ : Bytes) →
-          CommandRan s (j .ready .env) (one (run .next) (one-at .0 .op) (one-at .0 .coerce)) (one-at .0 .to) run slots params trace r slots′ params′ trace′ →
-          CommandRan s (j .ready .env) (j .place .cmd) (j .place .to) run slots params trace r slots′ params′ trace′
-      leaf-ran r slots′ params′ trace′ ran = ran-as s (j .ready .env) _ _ _ _ run slots params trace r slots′ params′ trace′ (one-at .2) (one-at .3) ran
+      pub leaf-ran : (r : Run) (slots′ : Bytes) (memory′ : List ℕ) (trace′ : Bytes) →
+          CommandRan s (j .ready .env) (one (run .next) (one-at .0 .op) (one-at .0 .coerce)) (one-at .0 .to) run slots memory trace r slots′ memory′ trace′ →
+          CommandRan s (j .ready .env) (j .place .cmd) (j .place .to) run slots memory trace r slots′ memory′ trace′
+      leaf-ran r slots′ memory′ trace′ ran = ran-as s (j .ready .env) _ _ _ _ run slots memory trace r slots′ memory′ trace′ (one-at .2) (one-at .3) ran
 
     -- 15
     module _ (z : v ≡ 15) where
@@ -187,29 +189,30 @@ module _ (s : Bytes) (depth : ℕ) (run : Run) (vendor class : Bytes) (assigned 
       tries-later w from o = omega (arith, o .1, code-later, head-later s p tries-head)
 
       pub tries-start : (w from : ℕ) → (w ≡ tries-at .head .num) × (from ≡ tries-at .head .next) →
-          AltsLoop s vendor class assigned answers depth (j .ready .env) (j .place .cmd) (j .place .to) run (runCmd (j .ready .env) (j .place .cmd) (run .index) (stateOf s (length (j .ready .env .ids)) params slots trace run)) slots params trace from w run
+          AltsLoop s vendor class memory answers depth (j .ready .env) (j .place .cmd) (j .place .to) run (runCmd (j .ready .env) (j .place .cmd) (run .index) (stateOf s (length (j .ready .env .ids)) memory slots trace run)) slots memory trace from w run
       unfolding runSeq
       tries-start w from o =
           record {
             alts = tries-at .alts;
             is = tries-at .is;
-            kept = kept-of s vendor class assigned answers slots params trace (run .index) (j .ready);
+            kept = kept-of s vendor class answers slots memory trace (run .index) (j .ready);
             place = try-places s (length (j .ready .env .ids)) depth (run .events) (run .next) (j .place) p tries-at w from o;
-            goes = ap (λ (c : Cmd). runCmd (j .ready .env) c (run .index) (stateOf s (length (j .ready .env .ids)) params slots trace run)) (tries-at .is) ∙ try-law (j .ready .env) (tries-at .alts) (run .index) (stateOf s (length (j .ready .env .ids)) params slots trace run);
+            goes = ap (λ (c : Cmd). runCmd (j .ready .env) c (run .index) (stateOf s (length (j .ready .env .ids)) memory slots trace run)) (tries-at .is) ∙ try-law (j .ready .env) (tries-at .alts) (run .index) (stateOf s (length (j .ready .env .ids)) memory slots trace run);
             final = λ x. absurd (omega (arith, o .0, tries-at .some-of));
+            same = λ i h. refl;
           }
 
-module _ (s vendor class : Bytes) (assigned : List ℕ) (answers : Bytes) (depth : ℕ) (env : Env) (cmd : Cmd) (to : ℕ) (run : Run) (slots₀ : Bytes) (params₀ : List ℕ) (trace₀ : Bytes) (slots : Bytes) (params : List ℕ) (trace : Bytes) (p k : ℕ) (now : Run)
-    (l : AltsLoop s vendor class assigned answers depth env cmd to run (runCmd env cmd (run .index) (stateOf s (length (env .ids)) params₀ slots₀ trace₀ run)) slots params trace p k now) where
+module _ (s vendor class answers : Bytes) (depth : ℕ) (env : Env) (cmd : Cmd) (to : ℕ) (run : Run) (slots₀ : Bytes) (memory₀ : List ℕ) (trace₀ : Bytes) (slots : Bytes) (memory : List ℕ) (trace : Bytes) (p k : ℕ) (now : Run)
+    (l : AltsLoop s vendor class memory₀ answers depth env cmd to run (runCmd env cmd (run .index) (stateOf s (length (env .ids)) memory₀ slots₀ trace₀ run)) slots memory trace p k now) where
   -- none succeeded
-  pub tries-failed : k ≡ 0 → CommandRan s env cmd to run slots₀ params₀ trace₀ (failed run p now) slots params trace
+  pub tries-failed : k ≡ 0 → CommandRan s env cmd to run slots₀ memory₀ trace₀ (failed run p now) slots memory trace
   unfolding tryAll
   tries-failed z =
       let (none, at) = no-choice s (length (env .ids)) depth (now .events) k p to (l .place) z in
-      let st : State = stateOf s (length (env .ids)) params slots trace now in
-      holds-sequences s env cmd to run slots₀ params₀ trace₀ p (failed run p now) slots params trace
+      let st : State = stateOf s (length (env .ids)) memory slots trace now in
+      holds-sequences s env cmd to run slots₀ memory₀ trace₀ p (failed run p now) slots memory trace
       (sym (l .goes ∙ ap (λ (a : List Seq). tryAll env a (run .index) st) none))
-      (l .kept .lent .fit) (λ x. l .final z) (λ x. at) (l .kept .inside) (λ i. rw (l .is)) (λ c. rw (l .is))
+      (l .kept .lent .fit) (l .same) (λ x. l .final z) (λ x. at) (l .kept .inside) (λ i. rw (l .is)) (λ c. rw (l .is))
 
   module _ (h : 0 < k) where
     abbrev pub its-choice : Choice s (length (env .ids)) depth (now .events) k p to (l .place)
@@ -225,10 +228,10 @@ module _ (s vendor class : Bytes) (assigned : List ℕ) (answers : Bytes) (depth
       pub choice-later : p < from
       choice-later = omega (arith, o .1, head-later s p choice-head)
 
-      abbrev pub choice-job : SequenceJob s depth (entered run from now) vendor class assigned answers slots params trace
+      abbrev pub choice-job : SequenceJob s depth (entered run from now) vendor class answers slots memory trace
       choice-job =
           record {
-            ready = ready-of s vendor class assigned answers env slots params trace (run .index) (l .kept);
+            ready = ready-of s vendor class answers env slots memory trace (run .index) (l .kept);
             place =
                 string-sequence s (length (env .ids)) (l .place .section) depth (l .place .m) (l .place .e) p (its-choice .first) (its-choice .inside) (l .place .fits)
                 (now .events) from (l .place .few) (o .1);
@@ -243,27 +246,27 @@ module _ (s vendor class : Bytes) (assigned : List ℕ) (answers : Bytes) (depth
             reads = rw (o .0, o .1) (strings-at s (length (env .ids)) depth 0 (k - 1) (its-choice .inside .head .next + its-choice .inside .head .num) to (its-choice .rest) .reads);
           }
 
-      module _ (r : Run) (slots′ : Bytes) (params′ : List ℕ) (trace′ : Bytes)
-          (ran : SequenceRan s env (its-choice .first) false (entered run from now) slots params trace r slots′ params′ trace′) where
-        pub tries-end : (r .end ≡ 1 → ⊥) → (at : ℕ) → at ≡ to → CommandRan s env cmd to run slots₀ params₀ trace₀ (left run at r) slots′ params′ trace′
+      module _ (r : Run) (slots′ : Bytes) (memory′ : List ℕ) (trace′ : Bytes)
+          (ran : SequenceRan s env (its-choice .first) false (entered run from now) slots memory trace r slots′ memory′ trace′) where
+        pub tries-end : (r .end ≡ 1 → ⊥) → (at : ℕ) → at ≡ to → CommandRan s env cmd to run slots₀ memory₀ trace₀ (left run at r) slots′ memory′ trace′
         tries-end z at e =
-            let st : State = stateOf s (length (env .ids)) params slots trace now in
-            holds-sequences s env cmd to run slots₀ params₀ trace₀ at r slots′ params′ trace′
-            (sym (l .goes ∙ ap (λ (a : List Seq). tryAll env a (run .index) st) (its-choice .seqs) ∙ try-off env (its-choice .first) (its-choice .rest .seqs) (run .index) st (stateOf s (length (env .ids)) params′ slots′ trace′ r) (r .end) z (sym (ran .goes))))
-            (ran .fit) (ran .late) (λ x. e) (l .kept .inside) (λ i. rw (l .is)) (λ c. rw (l .is))
+            let st : State = stateOf s (length (env .ids)) memory slots trace now in
+            holds-sequences s env cmd to run slots₀ memory₀ trace₀ at r slots′ memory′ trace′
+            (sym (l .goes ∙ ap (λ (a : List Seq). tryAll env a (run .index) st) (its-choice .seqs) ∙ try-off env (its-choice .first) (its-choice .rest .seqs) (run .index) st (stateOf s (length (env .ids)) memory′ slots′ trace′ r) (r .end) z (sym (ran .goes))))
+            (ran .fit) (λ i k. ran .same i k ∙ l .same i k) (ran .late) (λ x. e) (l .kept .inside) (λ i. rw (l .is)) (λ c. rw (l .is))
 
         pub tries-on : r .end ≡ 1 →
-            AltsLoop s vendor class assigned answers depth env cmd to run (runCmd env cmd (run .index) (stateOf s (length (env .ids)) params₀ slots₀ trace₀ run)) slots′ params′ trace′ (from + w) (k - 1) r
+            AltsLoop s vendor class memory₀ answers depth env cmd to run (runCmd env cmd (run .index) (stateOf s (length (env .ids)) memory₀ slots₀ trace₀ run)) slots′ memory′ trace′ (from + w) (k - 1) r
         tries-on z =
             let t = its-choice in
-            let st : State = stateOf s (length (env .ids)) params slots trace now in
+            let st : State = stateOf s (length (env .ids)) memory slots trace now in
             let m : Moves st (runSeq env (t .first) false (run .index) false st .state) (count (t .first)) = moves-seq env (t .first) false (run .index) false st in
             let few : r .events ≤ l .place .m + count (t .first) =
-            events-after s vendor class assigned answers (length (env .ids)) params slots trace (entered run from now) _ _ (l .place .m) m (l .place .few) r slots′ params′ trace′ (ran .goes) in
+            events-after s vendor class answers (length (env .ids)) memory slots trace (entered run from now) _ _ (l .place .m) m (l .place .few) r slots′ memory′ trace′ (ran .goes) in
             record {
               alts = l .alts;
               is = l .is;
-              kept = kept-after s vendor class assigned answers env slots params trace (run .index) (l .kept) (entered run from now) _ _ m r slots′ params′ trace′ (ran .goes) (ran .fit) (run .index) (l .kept .inside);
+              kept = kept-after s vendor class answers env slots memory trace (run .index) (l .kept) (entered run from now) _ _ m r slots′ memory′ trace′ (ran .goes) (ran .fit) (ran .same) (run .index) (l .kept .inside);
               place =
                   record {
                     section = t .rest .section;
@@ -277,6 +280,7 @@ module _ (s vendor class : Bytes) (assigned : List ℕ) (answers : Bytes) (depth
                   };
               goes =
                   l .goes ∙ ap (λ (a : List Seq). tryAll env a (run .index) st) (t .seqs)
-                  ∙ try-on env (t .first) (t .rest .seqs) (run .index) st (stateOf s (length (env .ids)) params′ slots′ trace′ r) (r .end) z (sym (ran .goes));
+                  ∙ try-on env (t .first) (t .rest .seqs) (run .index) st (stateOf s (length (env .ids)) memory′ slots′ trace′ r) (r .end) z (sym (ran .goes));
               final = λ x. ran .late (omega (arith, z));
+              same = λ i k. ran .same i k ∙ l .same i k;
             }

@@ -9,40 +9,43 @@ use Rattle.rules.specs.declared.answers.End.the-variants.{Finished, ConditionFa
 use Rattle.rules.specs.Answers.{endNumber, endOf}
 use Rattle.rules.specs.Bytes.{Bytes}
 use Rattle.rules.specs.Limits.{limits}
-use Rattle.rules.specs.Manifest.{Seq, Cmd}
+use Rattle.rules.specs.Manifest.{Seq, Cmd, one}
 use Rattle.rules.specs.Step.{Env, State, Out, out}
 use Rattle.rules.specs.Run.{runSeq, runCmd, indexAfter, coerceAfter}
+use Rattle.rules.specs.Lent.{Lent, was, left}
+use Rattle.manifest_accessors.specs.declared.heads.Opened.{Opened}
 use Rattle.run_sequence.specs.declared.Run.{Run}
-use Rattle.run_slots.specs.Params.{FitAll}
-use Rattle.run_commands.specs.Machine.{stateAt, Lent}
+use Rattle.run_sequence.specs.declared.Level.{Level}
+use Rattle.run_slots.specs.Params.{FitAll, SlotsKept}
+use Rattle.run_commands.specs.Machine.{stateAt, Lends}
 use Rattle.manifest_accessors.specs.Arguments.{isTrue, ArgumentAt}
 use Rattle.manifest_accessors.specs.Places.{CommandAt, SequenceAt}
 
 -- the state and the outcome that a run has reached
 abbrev pub stateOf : Bytes → ℕ → List ℕ → Bytes → Bytes → Run → State
-stateOf s n params slots trace r = stateAt s n params slots trace (r .events) (r .used)
+stateOf s n memory slots trace r = stateAt s n memory slots trace (r .events) (r .used)
 
 abbrev pub outOf : Bytes → ℕ → List ℕ → Bytes → Bytes → Run → Out
-outOf s n params slots trace r = out (endOf (r .end)) (stateOf s n params slots trace r)
+outOf s n memory slots trace r = out (endOf (r .end)) (stateOf s n memory slots trace r)
 
 -- a run over lent memory, at one of the components
-pub record Ready (s vendor class : Bytes) (assigned : List ℕ) (answers slots : Bytes) (params : List ℕ) (trace : Bytes) (index : ℕ) : Type 0 where
+pub record Ready (s vendor class answers slots : Bytes) (memory : List ℕ) (trace : Bytes) (index : ℕ) : Type 0 where
   pub env : Env
-  pub lent : Lent env s vendor class assigned answers slots params trace
+  pub lent : Lends env s vendor class answers slots memory trace
   pub inside : index < length (env .ids)
 
-pub record CommandJob (s : Bytes) (depth : ℕ) (run : Run) (vendor class : Bytes) (assigned : List ℕ) (answers slots : Bytes) (params : List ℕ) (trace : Bytes) : Type 0 where
-  pub ready : Ready s vendor class assigned answers slots params trace (run .index)
+pub record CommandJob (s : Bytes) (depth : ℕ) (run : Run) (vendor class answers slots : Bytes) (memory : List ℕ) (trace : Bytes) : Type 0 where
+  pub ready : Ready s vendor class answers slots memory trace (run .index)
   pub place : CommandAt s (length (ready .env .ids)) depth (run .events) (run .next)
 
-pub record SequenceJob (s : Bytes) (depth : ℕ) (run : Run) (vendor class : Bytes) (assigned : List ℕ) (answers slots : Bytes) (params : List ℕ) (trace : Bytes) : Type 0 where
-  pub ready : Ready s vendor class assigned answers slots params trace (run .index)
+pub record SequenceJob (s : Bytes) (depth : ℕ) (run : Run) (vendor class answers slots : Bytes) (memory : List ℕ) (trace : Bytes) : Type 0 where
+  pub ready : Ready s vendor class answers slots memory trace (run .index)
   pub place : SequenceAt s (length (ready .env .ids)) depth (run .events) (run .next)
 
 -- a command that holds no sequence, by its code and argument
-pub record LeafJob (s : Bytes) (code at : ℕ) (run : Run) (vendor class : Bytes) (assigned : List ℕ) (answers slots : Bytes) (params : List ℕ) (trace : Bytes) : Type 0 where
-  pub ready : Ready s vendor class assigned answers slots params trace (run .index)
-  pub argument : ArgumentAt s code at
+pub record LeafJob (s : Bytes) (head : Opened) (run : Run) (vendor class answers slots : Bytes) (memory : List ℕ) (trace : Bytes) : Type 0 where
+  pub ready : Ready s vendor class answers slots memory trace (run .index)
+  pub argument : ArgumentAt s (head .value) (head .next)
   pub among : argument .n ≡ length (ready .env .ids)
   pub few : run .events < limits .commands
 
@@ -64,16 +67,36 @@ caughtBy coercible coerce r =
     }
 
 -- what was left in memory is what the rule gives; where the command went well, the next one's place, index and coerce are known
-pub record CommandRan (s : Bytes) (env : Env) (cmd : Cmd) (to : ℕ) (run : Run) (slots : Bytes) (params : List ℕ) (trace : Bytes) (r : Run) (slots′ : Bytes) (params′ : List ℕ) (trace′ : Bytes) : Type 0 where
-  pub goes : outOf s (length (env .ids)) params′ slots′ trace′ r ≡ runCmd env cmd (run .index) (stateOf s (length (env .ids)) params slots trace run)
-  pub fit : FitAll s (length (env .ids)) params′
+pub record CommandRan (s : Bytes) (env : Env) (cmd : Cmd) (to : ℕ) (run : Run) (slots : Bytes) (memory : List ℕ) (trace : Bytes) (r : Run) (slots′ : Bytes) (memory′ : List ℕ) (trace′ : Bytes) : Type 0 where
+  pub goes : outOf s (length (env .ids)) memory′ slots′ trace′ r ≡ runCmd env cmd (run .index) (stateOf s (length (env .ids)) memory slots trace run)
+  pub fit : FitAll s (length (env .ids)) memory′
+  pub same : SlotsKept memory memory′
   pub late : endNumber Finished < r .end → 0 < r .events
   pub next : r .end ≡ endNumber Finished → r .next ≡ to
   pub index : r .end ≡ endNumber Finished → r .index ≡ indexAfter cmd (run .index)
   pub inside : r .end ≡ endNumber Finished → r .index < length (env .ids)
   pub coerce : isTrue (r .coerce) ≡ coerceAfter cmd (isTrue (run .coerce))
 
-pub record SequenceRan (s : Bytes) (env : Env) (seq : Seq) (coercible : Bool) (run : Run) (slots : Bytes) (params : List ℕ) (trace : Bytes) (r : Run) (slots′ : Bytes) (params′ : List ℕ) (trace′ : Bytes) : Type 0 where
-  pub goes : outOf s (length (env .ids)) params′ slots′ trace′ r ≡ runSeq env seq coercible (run .index) false (stateOf s (length (env .ids)) params slots trace run)
-  pub fit : FitAll s (length (env .ids)) params′
+pub record SequenceRan (s : Bytes) (env : Env) (seq : Seq) (coercible : Bool) (run : Run) (slots : Bytes) (memory : List ℕ) (trace : Bytes) (r : Run) (slots′ : Bytes) (memory′ : List ℕ) (trace′ : Bytes) : Type 0 where
+  pub goes : outOf s (length (env .ids)) memory′ slots′ trace′ r ≡ runSeq env seq coercible (run .index) false (stateOf s (length (env .ids)) memory slots trace run)
+  pub fit : FitAll s (length (env .ids)) memory′
+  pub same : SlotsKept memory memory′
   pub late : endNumber Finished < r .end → 0 < r .events
+
+-- what each function promises of what it is lent: for every job that it is asked for, it ran as the rule says
+abbrev pub LeafRuns : Lent → Opened → Run → Lent → Lent → Lent → Lent → Lent → Lent → Run → Type 0
+LeafRuns s head run vendor class answers slots memory trace r =
+    (j : LeafJob (was s) head run (was vendor) (was class) (was answers) (was slots) (was memory) (was trace)) →
+    CommandRan (was s) (j .ready .env) (one (run .next) (j .argument .op) (j .argument .coerce)) (j .argument .to) run (was slots) (was memory) (was trace)
+    r (left slots) (left memory) (left trace)
+
+abbrev pub CommandRuns : Lent → ℕ → Run → Lent → Lent → Lent → Lent → Lent → Lent → Run → Type 0
+CommandRuns s depth run vendor class answers slots memory trace r =
+    (j : CommandJob (was s) depth run (was vendor) (was class) (was answers) (was slots) (was memory) (was trace)) →
+    CommandRan (was s) (j .ready .env) (j .place .cmd) (j .place .to) run (was slots) (was memory) (was trace) r (left slots) (left memory) (left trace)
+
+abbrev pub SequenceRuns : Lent → Level → Run → Lent → Lent → Lent → Lent → Lent → Lent → Run → Type 0
+SequenceRuns s level run vendor class answers slots memory trace r =
+    (j : SequenceJob (was s) (level .depth) run (was vendor) (was class) (was answers) (was slots) (was memory) (was trace)) →
+    SequenceRan (was s) (j .ready .env) (j .place .seq) (level .coercible) run (was slots) (was memory) (was trace)
+    r (left slots) (left memory) (left trace)

@@ -1,20 +1,20 @@
 // The run of sequences and commands: sequences hold commands and commands hold sequences.
 ghost use mathlib.Core.Path.{_≡_};
-ghost use Rattle.rules.specs.Lent.{was, left};
-ghost use Rattle.rules.specs.Manifest.{one};
-ghost use Rattle.run_sequence.specs.Cycle.{LeafJob, CommandJob, SequenceJob, CommandRan, SequenceRan, runAt, caughtBy};
+ghost use Rattle.run_sequence.specs.Cycle.{LeafJob, CommandJob, SequenceJob, LeafRuns, CommandRuns, SequenceRuns, runAt, caughtBy};
 use manifest_accessors::arguments::COERCE_FALSE;
 use manifest_accessors::arguments::COERCE_TRUE;
 use manifest_accessors::arguments::component;
 use manifest_accessors::arguments::read_one;
+use manifest_accessors::heads::Opened;
 use manifest_accessors::heads::open;
 use manifest_accessors::heads::skip;
 use rules::answers::End;
 use rules::codes::RUN_SEQUENCE;
 use rules::codes::TRY_EACH;
-use rules::controller::AllParameters;
+use rules::controller::Memory;
 use rules::controller::Sixteen;
-use rules::controller::SlotNumbers;
+use run_actions::Progress;
+use run_commands::perform::Command;
 use run_commands::perform::perform;
 use run_slots::params::either;
 
@@ -29,41 +29,45 @@ pub struct Run {
     pub end: usize,
 }
 
-// The command at run.next, which holds no sequence; its code stands before `at`.
+// The command at run.next, which holds no sequence; `head` is its code.
 fn leaf(
     s: &[u8],
-    code: usize,
-    at: usize,
+    head: Opened,
     run: Run,
     vendor: &Sixteen,
     class: &Sixteen,
-    assigned: &SlotNumbers,
     answers: &[u8],
     slots: &mut [u8],
-    params: &mut AllParameters,
+    memory: &mut Memory,
     trace: &mut [u8],
 ) -> Run
-    requires { ⌜ LeafJob (now s) code at run (now vendor) (now class) (now assigned) (now answers) (now slots) (now params) (now trace) ⌝ }
-    ensures { λ r. ⌜ ((j : LeafJob (was s) code at run (was vendor) (was class) (was assigned) (was answers) (was slots) (was params) (was trace)) → CommandRan (was s) (j .ready .env) (one (run .next) (j .argument .op) (j .argument .coerce)) (j .argument .to) run (was slots) (was params) (was trace) r (left slots) (left params) (left trace)) ⌝ }
+    requires { ⌜ LeafJob (now s) head run (now vendor) (now class) (now answers) (now slots) (now memory) (now trace) ⌝ }
+    ensures { λ r. ⌜ LeafRuns s head run vendor class answers slots memory trace r ⌝ }
 {
-    let a = read_one(s, code, at);
+    let code = head.value;
+    let a = read_one(s, code, head.next);
+    let given = a.params;
     let index = component(code, a.value, run.index);
     let d = perform(
         s,
-        code,
-        a.value,
-        a.params,
-        index,
-        run.next,
+        Command {
+            code,
+            value: a.value,
+            given,
+            index,
+            place: run.next,
+        },
+        Progress {
+            events: run.events,
+            used: run.used,
+            end: End::FINISHED,
+        },
         vendor,
         class,
-        assigned,
         answers,
         slots,
-        params,
+        memory,
         trace,
-        run.events,
-        run.used,
     );
     Run {
         next: a.next,
@@ -89,22 +93,27 @@ fn run_at(holder: Run, at: usize, now: Run, end: usize) -> Run
     }
 }
 
-// The sequence at run.next. `coercible`: a run sequence runs it, so that its coerce makes a failed condition a success.
+// How a sequence is run: how deep it and those in it may be. `coercible`: a run sequence runs it, so that its coerce makes a failed condition
+// a success.
+pub struct Level {
+    pub depth: usize,
+    pub coercible: bool,
+}
+
+// The sequence at run.next.
 pub fn run_sequence(
     s: &[u8],
-    depth: usize,
-    coercible: bool,
+    level: Level,
     run: Run,
     vendor: &Sixteen,
     class: &Sixteen,
-    assigned: &SlotNumbers,
     answers: &[u8],
     slots: &mut [u8],
-    params: &mut AllParameters,
+    memory: &mut Memory,
     trace: &mut [u8],
 ) -> Run
-    requires { ⌜ SequenceJob (now s) depth run (now vendor) (now class) (now assigned) (now answers) (now slots) (now params) (now trace) ⌝ }
-    ensures { λ r. ⌜ ((j : SequenceJob (was s) depth run (was vendor) (was class) (was assigned) (was answers) (was slots) (was params) (was trace)) → SequenceRan (was s) (j .ready .env) (j .place .seq) coercible run (was slots) (was params) (was trace) r (left slots) (left params) (left trace)) ⌝ }
+    requires { ⌜ SequenceJob (now s) (level .depth) run (now vendor) (now class) (now answers) (now slots) (now memory) (now trace) ⌝ }
+    ensures { λ r. ⌜ SequenceRuns s level run vendor class answers slots memory trace r ⌝ }
 {
     let h = open(s, run.next);
     let mut left = h.value / 2;
@@ -120,19 +129,18 @@ pub fn run_sequence(
         let coerce = now.coerce;
         now = run_command(
             s,
-            depth - 1,
+            level.depth - 1,
             now,
             vendor,
             class,
-            assigned,
             answers,
             slots,
-            params,
+            memory,
             trace,
         );
         let end = now.end;
         if end != End::FINISHED {
-            return caught(now, coercible, coerce);
+            return caught(now, level.coercible, coerce);
         }
         left -= 1;
     }
@@ -163,14 +171,13 @@ fn run_command(
     run: Run,
     vendor: &Sixteen,
     class: &Sixteen,
-    assigned: &SlotNumbers,
     answers: &[u8],
     slots: &mut [u8],
-    params: &mut AllParameters,
+    memory: &mut Memory,
     trace: &mut [u8],
 ) -> Run
-    requires { ⌜ CommandJob (now s) depth run (now vendor) (now class) (now assigned) (now answers) (now slots) (now params) (now trace) ⌝ }
-    ensures { λ r. ⌜ ((j : CommandJob (was s) depth run (was vendor) (was class) (was assigned) (was answers) (was slots) (was params) (was trace)) → CommandRan (was s) (j .ready .env) (j .place .cmd) (j .place .to) run (was slots) (was params) (was trace) r (left slots) (left params) (left trace)) ⌝ }
+    requires { ⌜ CommandJob (now s) depth run (now vendor) (now class) (now answers) (now slots) (now memory) (now trace) ⌝ }
+    ensures { λ r. ⌜ CommandRuns s depth run vendor class answers slots memory trace r ⌝ }
 {
     let c = open(s, run.next);
     let code = c.value;
@@ -178,15 +185,16 @@ fn run_command(
         let b = open(s, c.next);
         let inner = run_sequence(
             s,
-            depth,
-            true,
+            Level {
+                depth,
+                coercible: true,
+            },
             run_at(run, b.next, run, End::FINISHED),
             vendor,
             class,
-            assigned,
             answers,
             slots,
-            params,
+            memory,
             trace,
         );
         return run_at(run, b.next + b.value, inner, inner.end);
@@ -200,15 +208,16 @@ fn run_command(
             let b = open(s, p);
             now = run_sequence(
                 s,
-                depth,
-                false,
+                Level {
+                    depth,
+                    coercible: false,
+                },
                 run_at(run, b.next, now, End::FINISHED),
                 vendor,
                 class,
-                assigned,
                 answers,
                 slots,
-                params,
+                memory,
                 trace,
             );
             p = b.next + b.value;
@@ -220,17 +229,5 @@ fn run_command(
         }
         return run_at(run, p, now, End::CONDITION_FAILED);
     }
-    leaf(
-        s,
-        code,
-        c.next,
-        run,
-        vendor,
-        class,
-        assigned,
-        answers,
-        slots,
-        params,
-        trace,
-    )
+    leaf(s, c, run, vendor, class, answers, slots, memory, trace)
 }

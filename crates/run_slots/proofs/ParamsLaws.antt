@@ -11,12 +11,12 @@ use lib.ListN.{length, getD, set, replicate, length-set}
 use lib.Seq.{sets, length-sets, getD-set-same, getD-set-other}
 use borrow.Author.Tests.{ltb-true, ltb-false, eqb-true, eqb-false}
 use Rattle.rules.specs.Bytes.{Bytes, part}
-use Rattle.rules.specs.Limits.{limits, paramNumbers, allParams}
+use Rattle.rules.specs.Limits.{limits, paramNumbers, memoryNumbers}
 use Rattle.rules.specs.Commands as Rules
 use Rattle.rules.specs.Slots.{numbers}
 use Rattle.run_slots.proofs.NumbersLaws.{getD-numbers, set-numbers}
 use Rattle.run_slots.specs.declared.params.Params.{Params}
-use Rattle.run_slots.specs.Params.{paramsAt, stored, optional, meaning, overParams, paramsIn, Fit, FitAll}
+use Rattle.run_slots.specs.Params.{paramsAt, stored, optional, meaning, overParams, Unset, SlotsKept, paramsIn, Fit, FitAll}
 
 -- a parameter of two numbers, of which the first tells whether it is set
 choose : {A : Type 0} (f : ℕ → ℕ → A) (x x′ y y′ : ℕ) (t : Bool) → eqb x 0 ≡ t →
@@ -58,31 +58,31 @@ module _ (w : List ℕ) (i : ℕ) (p : Params) where
 
   pub length-stored : length (stored w i p) ≡ length w
   unfolding stored
-  length-stored = length-sets w (paramNumbers * i) five
+  length-stored = length-sets w (limits .components + paramNumbers * i) five
 
-  module _ (n : length w ≡ allParams) (h : i < limits .components) where
-    among : (k : ℕ) → k < paramNumbers → getD (sets w (paramNumbers * i) five) (paramNumbers * i + k) 0 ≡ getD five k 0
-    among k l = getD-among w (paramNumbers * i) five k l (omega arith)
+  module _ (n : length w ≡ memoryNumbers) (h : i < limits .components) where
+    among : (k : ℕ) → k < paramNumbers → getD (sets w (limits .components + paramNumbers * i) five) (limits .components + paramNumbers * i + k) 0 ≡ getD five k 0
+    among k l = getD-among w (limits .components + paramNumbers * i) five k l (omega arith)
 
     pub params-same : paramsAt (stored w i p) i ≡ p
     unfolding stored
     params-same =
-        rw (rw (add-zero (paramNumbers * i)) at (among 0 (omega arith)), among 1 (omega arith), among 2 (omega arith), among 3 (omega arith), among 4 (omega arith))
+        rw (rw (add-zero (limits .components + paramNumbers * i)) at (among 0 (omega arith)), among 1 (omega arith), among 2 (omega arith), among 3 (omega arith), among 4 (omega arith))
 
   module _ (j : ℕ) (d : j ≡ i → ⊥) where
-    beside : (k : ℕ) → k < paramNumbers → getD (sets w (paramNumbers * i) five) (paramNumbers * j + k) 0 ≡ getD w (paramNumbers * j + k) 0
-    beside k l = getD-beside w (paramNumbers * i) five (paramNumbers * j + k) (go (ltb j i) refl)
+    beside : (k : ℕ) → k < paramNumbers → getD (sets w (limits .components + paramNumbers * i) five) (limits .components + paramNumbers * j + k) 0 ≡ getD w (limits .components + paramNumbers * j + k) 0
+    beside k l = getD-beside w (limits .components + paramNumbers * i) five (limits .components + paramNumbers * j + k) (go (ltb j i) refl)
       where
-        go : (t : Bool) → ltb j i ≡ t → (paramNumbers * j + k < paramNumbers * i) ⊎ (paramNumbers * i + paramNumbers ≤ paramNumbers * j + k)
+        go : (t : Bool) → ltb j i ≡ t → (limits .components + paramNumbers * j + k < limits .components + paramNumbers * i) ⊎ (limits .components + paramNumbers * i + paramNumbers ≤ limits .components + paramNumbers * j + k)
         go true e = let m : j < i = ltb-true j i e in inl (omega arith)
         go false e = let m : i < j = omega (arith, ltb-false j i e, d) in inr (omega arith)
 
     pub params-other : paramsAt (stored w i p) j ≡ paramsAt w j
     unfolding stored
     params-other =
-        rw (rw (add-zero (paramNumbers * j)) at (beside 0 (omega arith)), beside 1 (omega arith), beside 2 (omega arith), beside 3 (omega arith), beside 4 (omega arith))
+        rw (rw (add-zero (limits .components + paramNumbers * j)) at (beside 0 (omega arith)), beside 1 (omega arith), beside 2 (omega arith), beside 3 (omega arith), beside 4 (omega arith))
 
-pub params-stored : (s : Bytes) (w : List ℕ) (n i : ℕ) (p : Params) → length w ≡ allParams → n ≤ limits .components → i < n →
+pub params-stored : (s : Bytes) (w : List ℕ) (n i : ℕ) (p : Params) → length w ≡ memoryNumbers → n ≤ limits .components → i < n →
     paramsIn s (stored w i p) n ≡ set (paramsIn s w n) i (meaning s p)
 unfolding paramsIn
 params-stored s w n i p l m h =
@@ -102,33 +102,43 @@ module _ (s : Bytes) (n : ℕ) where
         digest = either (λ x. 0 < x → x + limits .digest ≤ length s) (eqb (a .digest) 0) (a .digest) (b .digest) (f .digest) (g .digest);
       }
 
-  pub fit-stored : (w : List ℕ) (i : ℕ) (p : Params) → length w ≡ allParams → i < limits .components → FitAll s n w → Fit s n p → FitAll s n (stored w i p)
+  pub fit-stored : (w : List ℕ) (i : ℕ) (p : Params) → length w ≡ memoryNumbers → i < limits .components → FitAll s n w → Fit s n p → FitAll s n (stored w i p)
   fit-stored w i p l h f g j k = go (eqb j i) refl
     where
       go : (t : Bool) → eqb j i ≡ t → Fit s n (paramsAt (stored w i p) j)
       go true e = let q : j ≡ i = eqb-true j i e in rw (q, params-same w i p l h) g
       go false e = rw (params-other w i p j (eqb-false j i e)) (f j k)
 
--- all numbers 0: nothing is set
-zeros : (m j : ℕ) → _≡_ {A = ℕ} (getD (replicate m 0) j 0) 0
+-- numbers that are all 0
+pub zeros : (m j : ℕ) → _≡_ {A = ℕ} (getD (replicate m 0) j 0) 0
 zeros zero j = refl
 zeros (suc m) zero = refl
 zeros (suc m) (suc j) = zeros m j
 
-zero-at : (i : ℕ) → paramsAt (replicate allParams 0) i ≡ record { uri = 0; length = 0; source = 0; digest = 0; size = 0 }
-zero-at i = rw (zeros allParams (paramNumbers * i), zeros allParams (paramNumbers * i + 1), zeros allParams (paramNumbers * i + 2), zeros allParams (paramNumbers * i + 3), zeros allParams (paramNumbers * i + 4))
+-- the numbers of slots are kept
+pub stored-kept : (w : List ℕ) (i : ℕ) (p : Params) → SlotsKept w (stored w i p)
+unfolding stored
+stored-kept w i p j h = getD-beside w (limits .components + paramNumbers * i) (five w i p) j (inl (omega arith))
 
-meaning-start : (s : Bytes) (i : ℕ) → meaning s (paramsAt (replicate allParams 0) i) ≡ Rules.unset
-unfolding meaning
-meaning-start s i = ap (meaning s) (zero-at i)
+-- nothing is set
+module _ (w : List ℕ) (u : Unset w) where
+  unset-at : (i : ℕ) → paramsAt w i ≡ record { uri = 0; length = 0; source = 0; digest = 0; size = 0 }
+  unset-at i = rw (u (limits .components + paramNumbers * i) (omega arith), u _ (at 1), u _ (at 2), u _ (at 3), u _ (at 4))
+    where
+      at : (k : ℕ) → limits .components ≤ limits .components + paramNumbers * i + k
+      at k = omega arith
 
-pub params-start : (s : Bytes) (n : ℕ) → paramsIn s (replicate allParams 0) n ≡ replicate n Rules.unset
-unfolding paramsIn
-params-start s n = go n 0
-  where
-    go : (n k : ℕ) → map (λ k. meaning s (paramsAt (replicate allParams 0) k)) (numbers n k) ≡ replicate n Rules.unset
-    go zero k = refl
-    go (suc n) k = rw (meaning-start s k, go n (suc k))
+  meaning-start : (s : Bytes) (i : ℕ) → meaning s (paramsAt w i) ≡ Rules.unset
+  unfolding meaning
+  meaning-start s i = ap (meaning s) (unset-at i)
 
-pub fit-start : (s : Bytes) (n : ℕ) → FitAll s n (replicate allParams 0)
-fit-start s n i h = rw (zero-at i) (record { source = omega arith; digest = λ l. omega arith })
+  pub params-start : (s : Bytes) (n : ℕ) → paramsIn s w n ≡ replicate n Rules.unset
+  unfolding paramsIn
+  params-start s n = go n 0
+    where
+      go : (n k : ℕ) → map (λ k. meaning s (paramsAt w k)) (numbers n k) ≡ replicate n Rules.unset
+      go zero k = refl
+      go (suc n) k = rw (meaning-start s k, go n (suc k))
+
+  pub fit-start : (s : Bytes) (n : ℕ) → FitAll s n w
+  fit-start s n i h = rw (unset-at i) (record { source = omega arith; digest = λ l. omega arith })

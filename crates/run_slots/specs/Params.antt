@@ -1,5 +1,6 @@
 -- The parameters of components as numbers, and what they mean.
 use Prim.Native.Nat.{ℕ, _+_, _-_, _*_, _≤_, _<_}
+use mathlib.Core.Path.{_≡_}
 use mathlib.Core.List.{List, [], _∷_, map}
 use mathlib.Core.Bool.{cond}
 use mathlib.Core.Option.{Option, some, none}
@@ -12,18 +13,27 @@ use Rattle.rules.specs.Commands as Rules
 use Rattle.rules.specs.Slots.{numbers}
 use Rattle.run_slots.specs.declared.params.Params.{Params}
 
+-- those of component i in a run's memory w stand behind the numbers of the components' slots
 abbrev pub paramsAt : List ℕ → ℕ → Params
 paramsAt w i =
     record {
-      uri = getD w (paramNumbers * i) 0;
-      length = getD w (paramNumbers * i + 1) 0;
-      source = getD w (paramNumbers * i + 2) 0;
-      digest = getD w (paramNumbers * i + 3) 0;
-      size = getD w (paramNumbers * i + 4) 0;
+      uri = getD w (limits .components + paramNumbers * i) 0;
+      length = getD w (limits .components + paramNumbers * i + 1) 0;
+      source = getD w (limits .components + paramNumbers * i + 2) 0;
+      digest = getD w (limits .components + paramNumbers * i + 3) 0;
+      size = getD w (limits .components + paramNumbers * i + 4) 0;
     }
 
 unfoldable pub stored : List ℕ → ℕ → Params → List ℕ
-stored w i p = sets w (paramNumbers * i) (p .uri ∷ p .length ∷ p .source ∷ p .digest ∷ p .size ∷ [])
+stored w i p = sets w (limits .components + paramNumbers * i) (p .uri ∷ p .length ∷ p .source ∷ p .digest ∷ p .size ∷ [])
+
+-- no parameter is set
+abbrev pub Unset : List ℕ → Type 0
+Unset w = (j : ℕ) → limits .components ≤ j → getD w j 0 ≡ 0
+
+-- the numbers of the components' slots are kept
+abbrev pub SlotsKept : List ℕ → List ℕ → Type 0
+SlotsKept w w′ = (i : ℕ) → i < limits .components → getD w′ i 0 ≡ getD w i 0
 
 -- 0 is unset
 abbrev pub optional : {A : Type 0} → ℕ → A → Option A

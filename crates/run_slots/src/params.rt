@@ -7,7 +7,8 @@ ghost use lib.ListN.{length};
 ghost use Rattle.rules.specs.Lent.{was, left};
 ghost use Rattle.rules.specs.Limits.{limits, paramNumbers};
 ghost use Rattle.run_slots.specs.Params.{paramsAt, stored, overParams};
-use rules::controller::AllParameters;
+use rules::controller::Controller;
+use rules::controller::Memory;
 use rules::controller::PARAMETER_NUMBERS;
 
 // 0 is unset: where the URI and the digest start, and one more than the source and the size.
@@ -19,30 +20,30 @@ pub struct Params {
     pub size: usize,
 }
 
-pub fn load(params: &AllParameters, i: usize) -> Params
+pub fn load(memory: &Memory, i: usize) -> Params
     requires { ⌜ i < limits .components ⌝ }
-    ensures { λ r. ⌜ r ≡ paramsAt (was params) i ⌝ }
+    ensures { λ r. ⌜ r ≡ paramsAt (was memory) i ⌝ }
 {
-    let at = PARAMETER_NUMBERS * i;
+    let at = Controller::COMPONENTS + PARAMETER_NUMBERS * i;
     Params {
-        uri: params[at],
-        length: params[at + 1],
-        source: params[at + 2],
-        digest: params[at + 3],
-        size: params[at + 4],
+        uri: memory[at],
+        length: memory[at + 1],
+        source: memory[at + 2],
+        digest: memory[at + 3],
+        size: memory[at + 4],
     }
 }
 
-pub fn store(params: &mut [usize], i: usize, p: Params)
-    requires { ⌜ paramNumbers * i + paramNumbers ≤ length (now params) ⌝ }
-    ensures { λ _. ⌜ left params ≡ stored (was params) i p ⌝ }
+pub fn store(memory: &mut [usize], i: usize, p: Params)
+    requires { ⌜ limits .components + paramNumbers * i + paramNumbers ≤ length (now memory) ⌝ }
+    ensures { λ _. ⌜ left memory ≡ stored (was memory) i p ⌝ }
 {
-    let at = PARAMETER_NUMBERS * i;
-    params[at] = p.uri;
-    params[at + 1] = p.length;
-    params[at + 2] = p.source;
-    params[at + 3] = p.digest;
-    params[at + 4] = p.size;
+    let at = Controller::COMPONENTS + PARAMETER_NUMBERS * i;
+    memory[at] = p.uri;
+    memory[at + 1] = p.length;
+    memory[at + 2] = p.source;
+    memory[at + 3] = p.digest;
+    memory[at + 4] = p.size;
 }
 
 // x where `test` is set, else y.

@@ -10,8 +10,8 @@ ghost use Rattle.rules.specs.Limits.{limits};
 ghost use Rattle.rules.specs.Slots.{slotBytes, slotAt, slotOf, slotNames};
 ghost use Rattle.run_slots.specs.Slot.{Holds, Short, namesAt, slotNumbers, Found};
 use byte_buffer::equal;
+use rules::controller::Memory;
 use rules::controller::Places;
-use rules::controller::SlotNumbers;
 use rules::slot_format::IDENTIFIER;
 use rules::slot_format::SLOT_BYTES;
 
@@ -45,17 +45,11 @@ pub(crate) fn slot_of(s: &[u8], at: usize, n: usize, slots: &[u8]) -> usize
 
 // The slots of n components, whose identifiers stand at the places `ids` of s; false if one of them has none. Then those of the components
 // before it are assigned.
-pub fn find_slots(
-    s: &[u8],
-    ids: &Places,
-    n: usize,
-    slots: &[u8],
-    assigned: &mut SlotNumbers,
-) -> bool
+pub fn find_slots(s: &[u8], ids: &Places, n: usize, slots: &[u8], memory: &mut Memory) -> bool
     requires { ⌜ (n ≤ limits .components) × ((k : ℕ) → k < n → (spanAt (now ids) k .from ≤ spanAt (now ids) k .to) × (spanAt (now ids) k .to ≤ length (now s))) × Short (now slots) ⌝ }
-    ensures { λ r. ⌜ (r ≡ allIn (namesAt (was s) (was ids) n) (slotNames (was slots))) × (r ≡ true → Found (namesAt (was s) (was ids) n) (was slots) (was assigned) (left assigned)) × (left assigned ≡ sets (was assigned) 0 (slotNumbers (namesAt (was s) (was ids) n) (was slots))) ⌝ }
+    ensures { λ r. ⌜ (r ≡ allIn (namesAt (was s) (was ids) n) (slotNames (was slots))) × (r ≡ true → Found (namesAt (was s) (was ids) n) (was slots) (was memory) (left memory)) × (left memory ≡ sets (was memory) 0 (slotNumbers (namesAt (was s) (was ids) n) (was slots))) ⌝ }
 {
-    let numbers: &mut [usize] = assigned;
+    let numbers: &mut [usize] = memory;
     let count = slots.len() / SLOT_BYTES;
     let mut i = 0;
     while i < n {

@@ -4,24 +4,49 @@ use Rattle.program_run.proofs.OutcomeLaws.{few, inside, number-small, r
 use Rattle.program_run.proofs.run_tested.Statement.{statement}
 use Rattle.program_run.proofs.run_tested.Tie as tie
 
+-- the way back: to the start from where the run was admitted; to there from where the records are to run, and from where they ran
+abbrev start : tie.After-memory → tie.Start
+start c = c .before .before .before .before .before .before .before .before .before
+
+abbrev admitted : tie.After-run-records-arg2 → tie.Else1
+admitted c = c .before .before .before .before .before .before .before
+
+abbrev ran-records : tie.After-ended-arg → tie.After-run-records
+ran-records c = c .before .before .before .before .before
+
 admit-requires : tie.Need-admit-requires
-admit-requires c κs = (few _ _ (c .before .before .before .before .before .before .before .before .before .pre), inside _ _ (c .before .before .before .before .before .before .before .before .before .pre))
+admit-requires c κs = let a = start c .pre in (few _ _ a, inside _ _ a)
 
 refused : tie.Need-returns
-refused c = rw (c .refused .ensures) (refused-answer _ _ (c .before .before .before .before .before .before .before .before .before .before .before .before .before .pre) _ _ (c .before .before .before .admit .ensures .0) (c .before .before .if1 .taken) _ (c .before .of .ensures))
+refused c =
+    let at = c .before .before .before in
+    rw (c .refused .ensures)
+    (refused-answer _ _ (start (at .before) .pre) _ _ (at .admit .ensures .0) (c .before .before .if1 .taken) _ (c .before .of .ensures))
 
 records-requires : tie.Need-run-records-requires
-records-requires c κs = job _ _ (c .before .before .before .before .before .before .before .before .before .before .before .before .before .before .before .before .before .before .before .pre) _ _ (c .before .before .before .before .before .before .before .before .before .admit .ensures .0) (c .before .before .before .before .before .before .before .before .if1 .left) _ (c .before .before .before .before .before .before .before .before .before .admit .ensures .1 (c .before .before .before .before .before .before .before .before .if1 .left))
+records-requires c κs =
+    let e = admitted c in
+    let at = e .before in
+    job _ _ (start (at .before) .pre) _ _ (at .admit .ensures .0) (e .if1 .left) _ (at .admit .ensures .1 (e .if1 .left))
 
 ended-requires : tie.Need-ended-requires
 ended-requires c κs =
-    last-event _ _ (c .before .before .before .before .before .before .before .before .before .before .before .before .before .before .before .before .before .before .before .before .before .before .before .before .before .pre) _ _ (c .before .before .before .before .before .before .before .before .before .before .before .before .before .before .before .admit .ensures .0) (c .before .before .before .before .before .before .before .before .before .before .before .before .before .before .if1 .left) _ (c .before .before .before .before .before .before .before .before .before .before .before .before .before .before .before .admit .ensures .1 (c .before .before .before .before .before .before .before .before .before .before .before .before .before .before .if1 .left))
-    _ _ _ _ (c .before .before .before .before .before .run-records .ensures)
+    let r = ran-records c in
+    let e = admitted (r .before) in
+    let at = e .before in
+    last-event _ _ (start (at .before) .pre) _ _ (at .admit .ensures .0) (e .if1 .left) _ (at .admit .ensures .1 (e .if1 .left)) _ _ _ _ (r .run-records .ensures)
+
+number-fits : tie.Need-cast-number-after
+number-fits c = omega (arith, number-small _ _ (start (admitted (ran-records (c .before .before) .before) .before .before) .pre))
 
 ran : tie.Need-returns-2
 ran c =
-    answered _ _ (c .before .before .before .before .before .before .before .before .before .before .before .before .before .before .before .before .before .before .before .before .before .before .before .before .before .before .before .pre) _ _ (c .before .before .before .before .before .before .before .before .before .before .before .before .before .before .before .before .before .admit .ensures .0) (c .before .before .before .before .before .before .before .before .before .before .before .before .before .before .before .before .if1 .left) _ (c .before .before .before .before .before .before .before .before .before .before .before .before .before .before .before .before .before .admit .ensures .1 (c .before .before .before .before .before .before .before .before .before .before .before .before .before .before .before .before .if1 .left))
-    _ _ _ _ (c .before .before .before .before .before .before .before .run-records .ensures) _ _ (c .before .ended .ensures) (c .number-after .ensures)
+    let ended = c .before .before in
+    let r = ran-records (ended .before) in
+    let e = admitted (r .before) in
+    let at = e .before in
+    answered _ _ (start (at .before) .pre) _ _ (at .admit .ensures .0) (e .if1 .left) _ (at .admit .ensures .1 (e .if1 .left))
+    _ _ _ _ (r .run-records .ensures) _ _ (ended .ended .ensures) (c .number-after .ensures)
 
 pub run-tested-spec : {M : Type 1} → statement M
 run-tested-spec =
@@ -35,7 +60,7 @@ run-tested-spec =
     refused
     records-requires
     ended-requires
-    (λ c. omega (arith, number-small _ _ (c .before .before .before .before .before .before .before .before .before .before .before .before .before .before .before .before .before .before .before .before .before .before .before .before .before .before .pre)))
+    number-fits
     (λ c κs. search needs)
     (λ c. search needs)
     (λ c. search needs)

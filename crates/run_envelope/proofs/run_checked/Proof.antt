@@ -5,24 +5,50 @@ use Rattle.run_envelope.proofs.OutcomeLaws.{refused-answer, job, last-e
 use Rattle.run_envelope.proofs.run_checked.Statement.{statement}
 use Rattle.run_envelope.proofs.run_checked.Tie as tie
 
+-- the way back: to the start from where the run was admitted; to there from where the sections are to run, and from where they ran
+abbrev start : tie.After-memory → tie.Start
+start c = c .before .before .before .before .before .before .before
+
+abbrev admitted : tie.After-run-sections-arg2 → tie.Else1
+admitted c = c .before .before .before .before .before .before .before
+
+abbrev ran-sections : tie.After-ended-arg → tie.After-run-sections
+ran-sections c = c .before .before .before .before .before
+
 admit-requires : tie.Need-admit-requires
-admit-requires c κs = (few _ _ _ _ _ (c .before .before .before .before .before .before .before .pre), inside _ _ _ _ _ (c .before .before .before .before .before .before .before .pre))
+admit-requires c κs = let a = start c .pre in (few _ _ _ _ _ a, inside _ _ _ _ _ a)
 
 refused : tie.Need-returns
-refused c = rw (c .refused .ensures) (refused-answer _ _ _ _ _ (c .before .before .before .before .before .before .before .before .before .before .before .pre) _ _ _ (c .before .before .before .admit .ensures .0) (c .before .before .if1 .taken) _ (c .before .of .ensures))
+refused c =
+    let at = c .before .before .before in
+    rw (c .refused .ensures)
+    (refused-answer _ _ _ _ _ (start (at .before) .pre) _ _ _ (at .admit .ensures .0) (c .before .before .if1 .taken) _ (c .before .of .ensures))
 
 sections-requires : tie.Need-run-sections-requires
-sections-requires c κs = job _ _ _ _ _ (c .before .before .before .before .before .before .before .before .before .before .before .before .before .before .before .before .before .pre) _ _ _ (c .before .before .before .before .before .before .before .before .before .admit .ensures .0) (c .before .before .before .before .before .before .before .before .if1 .left) _ (c .before .before .before .before .before .before .before .before .before .admit .ensures .1 (c .before .before .before .before .before .before .before .before .if1 .left))
+sections-requires c κs =
+    let e = admitted c in
+    let at = e .before in
+    job _ _ _ _ _ (start (at .before) .pre) _ _ _ (at .admit .ensures .0) (e .if1 .left) _ (at .admit .ensures .1 (e .if1 .left))
 
 ended-requires : tie.Need-ended-requires
 ended-requires c κs =
-    last-event _ _ _ _ _ (c .before .before .before .before .before .before .before .before .before .before .before .before .before .before .before .before .before .before .before .before .before .before .before .pre) _ _ _ (c .before .before .before .before .before .before .before .before .before .before .before .before .before .before .before .admit .ensures .0) (c .before .before .before .before .before .before .before .before .before .before .before .before .before .before .if1 .left) _ (c .before .before .before .before .before .before .before .before .before .before .before .before .before .before .before .admit .ensures .1 (c .before .before .before .before .before .before .before .before .before .before .before .before .before .before .if1 .left))
-    _ _ _ _ (c .before .before .before .before .before .run-sections .ensures)
+    let r = ran-sections c in
+    let e = admitted (r .before) in
+    let at = e .before in
+    last-event _ _ _ _ _ (start (at .before) .pre) _ _ _ (at .admit .ensures .0) (e .if1 .left) _ (at .admit .ensures .1 (e .if1 .left))
+    _ _ _ _ (r .run-sections .ensures)
+
+number-fits : tie.Need-cast-number-after
+number-fits c = omega (arith, number-small _ _ _ _ _ (start (admitted (ran-sections (c .before .before) .before) .before .before) .pre))
 
 ran : tie.Need-returns-2
 ran c =
-    answered _ _ _ _ _ (c .before .before .before .before .before .before .before .before .before .before .before .before .before .before .before .before .before .before .before .before .before .before .before .before .before .pre) _ _ _ (c .before .before .before .before .before .before .before .before .before .before .before .before .before .before .before .before .before .admit .ensures .0) (c .before .before .before .before .before .before .before .before .before .before .before .before .before .before .before .before .if1 .left) _ (c .before .before .before .before .before .before .before .before .before .before .before .before .before .before .before .before .before .admit .ensures .1 (c .before .before .before .before .before .before .before .before .before .before .before .before .before .before .before .before .if1 .left))
-    _ _ _ _ (c .before .before .before .before .before .before .before .run-sections .ensures) _ _ (c .before .ended .ensures) (c .number-after .ensures)
+    let ended = c .before .before in
+    let r = ran-sections (ended .before) in
+    let e = admitted (r .before) in
+    let at = e .before in
+    answered _ _ _ _ _ (start (at .before) .pre) _ _ _ (at .admit .ensures .0) (e .if1 .left) _ (at .admit .ensures .1 (e .if1 .left))
+    _ _ _ _ (r .run-sections .ensures) _ _ (ended .ended .ensures) (c .number-after .ensures)
 
 pub run-checked-spec : {M : Type 1} → statement M
 run-checked-spec =
@@ -36,7 +62,7 @@ run-checked-spec =
     refused
     sections-requires
     ended-requires
-    (λ c. omega (arith, number-small _ _ _ _ _ (c .before .before .before .before .before .before .before .before .before .before .before .before .before .before .before .before .before .before .before .before .before .before .before .before .pre)))
+    number-fits
     (λ c κs. search needs)
     (λ c. search needs)
     (λ c. search needs)

@@ -4,33 +4,48 @@ use Rattle.run_sequence.proofs.LeafLaws.{leaf-inside, leaf-fit, leaf-co
 use Rattle.run_sequence.proofs.leaf.Statement.{statement}
 use Rattle.run_sequence.proofs.leaf.Tie as tie
 
+-- the way back: from where the component was told to where the argument was read, and to the start; from the end to where it was performed
+abbrev argument : tie.After-component → tie.After-read-one
+argument c = c .before .before
+
+abbrev start : tie.After-component → tie.Start
+start c = argument c .before .before .before .before .before
+
+abbrev told : tie.After-perform-arg3 → tie.After-component
+told c = c .before .before .before
+
+abbrev performed : tie.After-either → tie.After-perform
+performed c = c .before .before .before .before .before
+
 performs : tie.Need-perform-requires
 performs c κs =
-    let j = c .before .before .before .before .before .before .before .before .before .pre in
-    let r = c .before .before .before .before .read-one .ensures (j .argument) in
-    let e = c .before .before .before .component .ensures in
-    let i = leaf-inside _ _ _ _ _ _ _ _ _ _ _ j _ r _ e in (
-      omega (arith, i, j .ready .lent .host .few),
-      r .sixteen,
-      j .ready .lent .hold,
-      leaf-fit _ _ _ _ _ _ _ _ _ _ _ j _ r _ e,
-      j .ready .lent .answered,
-      leaf-code _ _ _ _ _ _ _ _ _ _ _ j _ r _ e,
-      leaf-room _ _ _ _ _ _ _ _ _ _ _ j _ r _ e,
+    let at = told c in
+    let j = start at .pre in
+    let r = argument at .read-one .ensures (j .argument) in
+    let e = at .component .ensures in
+    let i = leaf-inside _ _ _ _ _ _ _ _ _ j _ r _ e in (
+      record {
+        inside = omega (arith, i, j .ready .lent .host .few);
+        sixteen = r .sixteen;
+        coded = leaf-code _ _ _ _ _ _ _ _ _ j _ r _ e;
+        hold = j .ready .lent .hold;
+        fit = leaf-fit _ _ _ _ _ _ _ _ _ j _ r _ e;
+        answered = j .ready .lent .answered;
+      },
+      leaf-room _ _ _ _ _ _ _ _ _ j _ r _ e,
     )
 
 ran : tie.Need-returns
 ran c = λ j.
-    let d = c .before .before .before .before .before in
-    let r = d .before .before .before .before .before .read-one .ensures (j .argument) in
-    let e = d .before .before .before .before .component .ensures in
+    let d = performed c in
+    let at = told (d .before) in
+    let r = argument at .read-one .ensures (j .argument) in
+    let e = at .component .ensures in
+    let does = d .perform .ensures in
     let n = j .among in
-    -- of perform: its event is counted, the outcome is the rule's, parameters fit as before
-    let (counted, _, goes, fits) = d .perform .ensures in
-    leaf-ran _ _ _ _ _ _ _ _ _ _ _ j _ r _ e (d .perform .result) _ _ _ counted
-    (goes (j .ready .env) (j .ready .lent .host) (leaf-inside _ _ _ _ _ _ _ _ _ _ _ j _ r _ e) (j .ready .lent .fit))
-    (fits _ (j .ready .lent .fit) (rw n at (r .fit)))
-    _ (c .either .ensures)
+    leaf-ran _ _ _ _ _ _ _ _ _ j _ r _ e (d .perform .result) _ _ _ (does .events)
+    (does .does (j .ready .env) (j .ready .lent .host) (leaf-inside _ _ _ _ _ _ _ _ _ j _ r _ e) (j .ready .lent .fit))
+    (does .fit _ (j .ready .lent .fit) (rw n at (r .fit))) (does .kept) _ (c .either .ensures)
 
 pub leaf-spec : {M : Type 1} → statement M
 leaf-spec =

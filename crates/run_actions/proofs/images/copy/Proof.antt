@@ -9,7 +9,7 @@ use Rattle.run_actions.proofs.images.copy.Statement.{statement}
 use Rattle.run_actions.proofs.images.copy.Tie as tie
 
 returns : tie.Need-returns
-returns c = (refl, λ s env i st a h. rw (copy-unset s _ env i st _ _ a (c .before .before .args .assigned .now) h (c .if1 .taken)))
+returns c = (refl, λ s env i st a h. rw (copy-unset s _ env i st _ _ a (c .before .before .args .memory .now) h (c .if1 .taken)))
 
 present-requires : tie.Need-present-requires
 present-requires c κs = c .before .before .before .before .pre .1 _ (omega (arith, c .before .before .before .before .pre .2))
@@ -18,7 +18,7 @@ returns-2 : tie.Need-returns-2
 unfolding unless
 returns-2 c = (
   refl,
-  λ s env i st a h. rw (copy-set s _ env i st _ _ a (c .before .before .before .before .before .before .args .assigned .now) h (c .before .before .before .before .if1 .left), fails _ _ (c .before .present .ensures) (c .if2 .taken)),
+  λ s env i st a h. rw (copy-set s _ env i st _ _ a (c .before .before .before .before .before .before .args .memory .now) h (c .before .before .before .before .if1 .left), fails _ _ (c .before .present .ensures) (c .if2 .taken)),
 )
 
 size-requires : tie.Need-size-requires
@@ -30,7 +30,7 @@ returns-3 c = (
   refl,
   λ s env i st a h.
       rw (
-        copy-set s _ env i st _ _ a (c .before .before .before .before .before .before .before .before .before .before .before .args .assigned .now) h (c .before .before .before .before .before .before .before .before .before .if1 .left),
+        copy-set s _ env i st _ _ a (c .before .before .before .before .before .before .before .before .before .before .before .args .memory .now) h (c .before .before .before .before .before .before .before .before .before .if1 .left),
         holds _ _ (c .before .before .before .before .before .before .present .ensures) (c .before .before .before .before .before .if2 .left),
         ← c .before .size .ensures,
         ← c .before .before .before .capacity .ensures,
@@ -47,7 +47,7 @@ returns-4 c = (
   refl,
   λ s env i st a h.
       rw (
-        copy-set s _ env i st _ _ a (c .before .before .before .before .before .before .before .before .before .before .before .before .before .before .before .before .before .args .assigned .now) h (c .before .before .before .before .before .before .before .before .before .before .before .before .before .before .before .if1 .left),
+        copy-set s _ env i st _ _ a (c .before .before .before .before .before .before .before .before .before .before .before .before .before .before .before .before .before .args .memory .now) h (c .before .before .before .before .before .before .before .before .before .before .before .before .before .before .before .if1 .left),
         holds _ _ (c .before .before .before .before .before .before .before .before .before .before .before .before .present .ensures) (c .before .before .before .before .before .before .before .before .before .before .before .if2 .left),
         ← c .before .before .before .before .before .before .before .size .ensures,
         ← c .before .before .before .before .before .before .before .before .before .capacity .ensures,

@@ -12,13 +12,13 @@ use Rattle.run_actions.proofs.images.swap.Statement.{statement}
 use Rattle.run_actions.proofs.images.swap.Tie as tie
 
 returns : tie.Need-returns
-returns c = (refl, λ s env i st a h. rw (swap-unset s _ env i st _ _ a (c .before .before .args .assigned .now) h (c .if1 .taken)))
+returns c = (refl, λ s env i st a h. rw (swap-unset s _ env i st _ _ a (c .before .before .args .memory .now) h (c .if1 .taken)))
 
 returns-2 : tie.Need-returns-2
 unfolding unless
 returns-2 c = (
   refl,
-  λ s env i st a h. rw (swap-set s _ env i st _ _ a (c .before .before .before .before .before .before .args .assigned .now) h (c .before .before .before .before .if1 .left), fails _ _ (c .before .present .ensures) (c .if2 .taken)),
+  λ s env i st a h. rw (swap-set s _ env i st _ _ a (c .before .before .before .before .before .before .args .memory .now) h (c .before .before .before .before .if1 .left), fails _ _ (c .before .present .ensures) (c .if2 .taken)),
 )
 
 present-requires-2 : tie.Need-present-requires-2
@@ -30,7 +30,7 @@ returns-3 c = (
   refl,
   λ s env i st a h.
       rw (
-        swap-set s _ env i st _ _ a (c .before .before .before .before .before .before .before .before .before .args .assigned .now) h (c .before .before .before .before .before .before .before .if1 .left),
+        swap-set s _ env i st _ _ a (c .before .before .before .before .before .before .before .before .before .args .memory .now) h (c .before .before .before .before .before .before .before .if1 .left),
         holds _ _ (c .before .before .before .before .present .ensures) (c .before .before .before .if2 .left),
         fails _ _ (c .before .present2 .ensures) (c .if3 .taken),
       ),
@@ -45,7 +45,7 @@ returns-4 c = (
   refl,
   λ s env i st a h.
       rw (
-        swap-set s _ env i st _ _ a (c .before .before .before .before .before .before .before .before .before .before .before .before .before .before .args .assigned .now) h (c .before .before .before .before .before .before .before .before .before .before .before .before .if1 .left),
+        swap-set s _ env i st _ _ a (c .before .before .before .before .before .before .before .before .before .before .before .before .before .before .args .memory .now) h (c .before .before .before .before .before .before .before .before .before .before .before .before .if1 .left),
         holds _ _ (c .before .before .before .before .before .before .before .before .before .present .ensures) (c .before .before .before .before .before .before .before .before .if2 .left),
         holds _ _ (c .before .before .before .before .before .before .present2 .ensures) (c .before .before .before .before .before .if3 .left),
         ← c .before .size .ensures,
@@ -63,7 +63,7 @@ returns-5 c = (
   refl,
   λ s env i st a h.
       rw (
-        swap-set s _ env i st _ _ a (c .before .before .before .before .before .before .before .before .before .before .before .before .before .before .before .before .before .before .before .args .assigned .now) h (c .before .before .before .before .before .before .before .before .before .before .before .before .before .before .before .before .before .if1 .left),
+        swap-set s _ env i st _ _ a (c .before .before .before .before .before .before .before .before .before .before .before .before .before .before .before .before .before .before .before .args .memory .now) h (c .before .before .before .before .before .before .before .before .before .before .before .before .before .before .before .before .before .if1 .left),
         holds _ _ (c .before .before .before .before .before .before .before .before .before .before .before .before .before .before .present .ensures) (c .before .before .before .before .before .before .before .before .before .before .before .before .before .if2 .left),
         holds _ _ (c .before .before .before .before .before .before .before .before .before .before .before .present2 .ensures) (c .before .before .before .before .before .before .before .before .before .before .if3 .left),
         ← c .before .before .before .before .before .before .size .ensures,
@@ -81,7 +81,7 @@ image-requires-2 c κs = c .before .before .before .before .before .before .befo
 put-image-requires-2 : tie.Need-put-image-requires-2
 put-image-requires-2 c κs =
     let start = c .before .before .before .before .before .before .before .before .before .before .before .before .before .before .before .before .before .before .before .before .before .before .before .before .before .before .before .before in
-    let h : Holds (start .args .slots .now) (getD (start .args .assigned .now) (start .args .p .source - 1) 0) = start .pre .1 _ (omega (arith, start .pre .2)) in
+    let h : Holds (start .args .slots .now) (getD (start .args .memory .now) (start .args .p .source - 1) 0) = start .pre .1 _ (omega (arith, start .pre .2)) in
     omega (arith, h, c .before .before .slots .given)
 
 returns-6 : tie.Need-returns-6
@@ -90,7 +90,7 @@ returns-6 c = (
   refl,
   λ s env i st a h.
       rw (
-        swap-set s _ env i st _ _ a (c .before .before .before .before .before .before .before .before .before .before .before .before .before .before .before .before .before .before .before .before .before .before .before .before .before .before .before .before .before .before .before .args .assigned .now) h (c .before .before .before .before .before .before .before .before .before .before .before .before .before .before .before .before .before .before .before .before .before .before .before .before .before .before .before .before .before .if1 .left),
+        swap-set s _ env i st _ _ a (c .before .before .before .before .before .before .before .before .before .before .before .before .before .before .before .before .before .before .before .before .before .before .before .before .before .before .before .before .before .before .before .args .memory .now) h (c .before .before .before .before .before .before .before .before .before .before .before .before .before .before .before .before .before .before .before .before .before .before .before .before .before .before .before .before .before .if1 .left),
         holds _ _ (c .before .before .before .before .before .before .before .before .before .before .before .before .before .before .before .before .before .before .before .before .before .before .before .before .before .before .present .ensures) (c .before .before .before .before .before .before .before .before .before .before .before .before .before .before .before .before .before .before .before .before .before .before .before .before .before .if2 .left),
         holds _ _ (c .before .before .before .before .before .before .before .before .before .before .before .before .before .before .before .before .before .before .before .before .before .before .before .present2 .ensures) (c .before .before .before .before .before .before .before .before .before .before .before .before .before .before .before .before .before .before .before .before .before .before .if3 .left),
         ← c .before .before .before .before .before .before .before .before .before .before .before .before .before .before .before .before .before .before .size .ensures,

@@ -2,190 +2,246 @@ use mathlib.Core.Path.{_≡_, refl}
 use native.Mathlib.Omega.{arith}
 use lib.ListN.{length}
 use borrow.Author.Needs.{needs}
-use borrow.Author.Tests.{ne-eqb}
-use Rattle.rules.specs.Limits.{allParams}
+use Rattle.rules.specs.Limits.{memoryNumbers}
 use Rattle.rules.specs.Step.{acts}
+use Rattle.rules.specs.Commands as Rules
 use Rattle.run_commands.specs.Op.{opOf}
-use Rattle.run_slots.proofs.ParamsLaws.{fit-over, fit-stored}
-use Rattle.run_commands.proofs.PerformLaws.{is-at, source-at, set-params, override-params}
+use Rattle.run_commands.specs.Performed.{commandOf}
+use Rattle.run_slots.proofs.ParamsLaws.{fit-over, fit-stored, stored-kept}
+use Rattle.run_commands.proofs.PerformLaws.{is-at, source-at, set-params, override-params, swap-left}
 use Rattle.run_commands.proofs.perform.act.Statement.{statement}
 use Rattle.run_commands.proofs.perform.act.Tie as tie
 
-equal-sixteen-requires : tie.Need-equal-sixteen-requires
-equal-sixteen-requires c κs = c .before .before .before .before .before .before .pre .2 (omega (arith, c .match .keys1))
+-- from the match: where the component's parameters were loaded, and the start
+abbrev loaded : tie.After-given → tie.After-load
+loaded c = c .before .before
 
-equal-sixteen-requires-2 : tie.Need-equal-sixteen-requires-2
-equal-sixteen-requires-2 c κs = c .before .before .before .before .before .before .pre .2 (omega (arith, c .match .keys2))
+abbrev start : tie.After-given → tie.Start
+start c = loaded c .before .before .before .before .before
+
+inside : tie.Need-load-requires
+inside c κs = c .before .before .before .before .pre .inside
+
+element : tie.Need-element-copy-out-k
+element c = omega (arith, c .before .before .before .before .before .pre .inside)
+
+vendor-lies : tie.Need-equal-sixteen-requires
+vendor-lies c κs = start (c .before) .pre .sixteen (omega (arith, c .match .keys1))
+
+class-lies : tie.Need-equal-sixteen-requires-2
+class-lies c κs = start (c .before) .pre .sixteen (omega (arith, c .match .keys2))
 
 matches-requires : tie.Need-matches-requires
 matches-requires c κs =
-    let start = c .before .before .before .before .before .before .before in
-    (rw (start .pre .1) (start .pre .3 _ (start .pre .0)), rw (c .before .before .load .ensures) (start .pre .4 _ (start .pre .0) .digest))
+    let m = c .before .before in
+    let pre = start m .pre in
+    (pre .hold _ (pre .inside), rw (loaded m .load .ensures) (pre .fit _ (pre .inside) .digest))
 
 fetch-requires : tie.Need-fetch-requires
-fetch-requires c κs = (rw (c .before .before .before .before .before .before .before .pre .1) (c .before .before .before .before .before .before .before .pre .3 _ (c .before .before .before .before .before .before .before .pre .0)), c .before .before .before .before .before .before .before .pre .5)
+fetch-requires c κs = let pre = start (c .before .before) .pre in (pre .hold _ (pre .inside), pre .answered)
 
 copy-requires : tie.Need-copy-requires
 copy-requires c κs =
-    let start = c .before .before .before .before .before .before .before in
-    (rw (start .pre .1) (start .pre .3 _ (start .pre .0)), start .pre .3, rw (c .before .before .load .ensures) (start .pre .4 _ (start .pre .0) .source))
+    let m = c .before .before .before in
+    let pre = start m .pre in
+    (pre .hold _ (pre .inside), pre .hold, rw (loaded m .load .ensures) (pre .fit _ (pre .inside) .source))
 
 runs-requires : tie.Need-runs-requires
-runs-requires c κs = rw (c .before .before .before .before .before .before .before .pre .1) (c .before .before .before .before .before .before .before .pre .3 _ (c .before .before .before .before .before .before .before .pre .0))
+runs-requires c κs = let pre = start (c .before .before) .pre in pre .hold _ (pre .inside)
 
 swap-requires : tie.Need-swap-requires
 swap-requires c κs =
-    let start = c .before .before .before .before .before .before .before in
-    (rw (start .pre .1) (start .pre .3 _ (start .pre .0)), start .pre .3, rw (c .before .before .load .ensures) (start .pre .4 _ (start .pre .0) .source))
+    let m = c .before .before .before in
+    let pre = start m .pre in
+    (pre .hold _ (pre .inside), pre .hold, rw (loaded m .load .ensures) (pre .fit _ (pre .inside) .source))
 
-returns : tie.Need-returns
+vendor : tie.Need-returns
 unfolding opOf acts
-returns c =
+vendor c =
+    let e = c .before .equal-sixteen .ensures in
     rw (c .ended .ensures)
-    (refl, c .before .equal-sixteen .ensures .0, λ env trace h l f. rw (c .before .before .match .keys1, h .vendors) (c .before .equal-sixteen .ensures .1 _), λ n f g. f)
+    (record {
+      events = refl;
+      ends = e .0;
+      does = λ env trace h l f. rw (c .before .before .match .keys1, h .vendors) (e .1 _);
+      fit = λ n f g. f;
+      kept = λ i h. refl;
+    })
 
-returns-2 : tie.Need-returns-2
+class : tie.Need-returns-2
 unfolding opOf acts
-returns-2 c =
+class c =
+    let e = c .before .equal-sixteen2 .ensures in
     rw (c .ended2 .ensures)
-    (refl, c .before .equal-sixteen2 .ensures .0, λ env trace h l f. rw (c .before .before .match .keys2, h .classes) (c .before .equal-sixteen2 .ensures .1 _), λ n f g. f)
+    (record {
+      events = refl;
+      ends = e .0;
+      does = λ env trace h l f. rw (c .before .before .match .keys2, h .classes) (e .1 _);
+      fit = λ n f g. f;
+      kept = λ i h. refl;
+    })
 
-returns-3 : tie.Need-returns-3
+image-match : tie.Need-returns-3
 unfolding opOf acts
-returns-3 c =
-    rw (c .ended3 .ensures) (
-      refl,
-      c .before .matches .ensures .0,
-      λ env trace h l f. rw (c .before .before .before .match .keys3) (c .before .matches .ensures .1 env _ _ (is-at _ env _ _ _ _ _ _ trace _ _ _ h l _ (c .before .before .before .before .load .ensures) _ (c .before .before .before .before .before .before .before .before .before .pre .1))),
-      λ n f g. f,
-    )
+image-match c =
+    let arm = c .before .before .before in
+    let e = c .before .matches .ensures in
+    rw (c .ended3 .ensures)
+    (record {
+      events = refl;
+      ends = e .0;
+      does = λ env trace h l f. rw (arm .match .keys3) (e .1 env _ _ (is-at _ env _ _ _ _ _ trace _ _ _ h l _ (loaded (arm .before) .load .ensures) _ refl));
+      fit = λ n f g. f;
+      kept = λ i h. refl;
+    })
 
-returns-4 : tie.Need-returns-4
+set-index : tie.Need-returns-4
 unfolding opOf acts
-returns-4 c =
+set-index c =
     rw (c .ended4 .ensures)
-    (refl, refl, λ env trace h l f. rw (c .before .match .keys4), λ n f g. f)
+    (record { events = refl; ends = refl; does = λ env trace h l f. rw (c .before .match .keys4); fit = λ n f g. f; kept = λ i h. refl })
 
-returns-5 : tie.Need-returns-5
+abort : tie.Need-returns-5
 unfolding opOf acts
-returns-5 c =
+abort c =
     rw (c .ended5 .ensures)
-    (refl, refl, λ env trace h l f. rw (c .before .match .keys5), λ n f g. f)
+    (record { events = refl; ends = refl; does = λ env trace h l f. rw (c .before .match .keys5); fit = λ n f g. f; kept = λ i h. refl })
 
-returns-6 : tie.Need-returns-6
+set-parameters : tie.Need-returns-6
 unfolding opOf acts
-returns-6 c =
-    rw (c .ended6 .ensures)
-    (let start = c .before .before .before .before .before .before .before .before .before .before in
-    let w : length (start .args .params .now) ≡ allParams = c .before .before .before .store-arg .given .0 .1 in
-    let p = c .before .before .before .before .before .load .result in (
-      refl,
-      refl,
-      λ env trace h l f.
+set-parameters c =
+    let over = c .before .before in
+    let arm = over .before .before in
+    let a = start (arm .before) .args in
+    let pre = start (arm .before) .pre in
+    let load = loaded (arm .before) .load in
+    let w : length (a .memory .now) ≡ memoryNumbers = over .before .store-arg .given .0 .1 in
+    rw (c .ended6 .ensures, c .before .store .ensures)
+    (record {
+      events = refl;
+      ends = refl;
+      does =
+          λ env trace h l f.
           rw (
-            c .before .before .before .before .match .keys6,
-            c .before .store .ensures,
-            set-params _ env _ _ _ _ _ _ trace _ (start .args .events) (start .args .used) h l p (c .before .before .before .before .before .load .ensures) w (start .args .given) _ (c .before .before .over .ensures),
-          ),
-      λ n f g.
-          rw (c .before .store .ensures)
-          (fit-stored _ n _ _ _ w (start .pre .0) f
-          (rw (c .before .before .over .ensures) (fit-over _ n p _ (rw (c .before .before .before .before .before .load .ensures) (f _ (start .pre .0))) g))),
-    ))
+            arm .match .keys6,
+            set-params _ env _ _ _ _ _ trace _ (a .done .events) (a .done .used) h l (load .result) (load .ensures) w (a .command .given) _ (over .over .ensures),
+          );
+      fit =
+          λ n f g.
+          fit-stored _ n _ _ _ w (pre .inside) f
+          (rw (over .over .ensures) (fit-over _ n (load .result) _ (rw (load .ensures) (f _ (pre .inside))) g));
+      kept = stored-kept _ _ _;
+    })
 
-returns-7 : tie.Need-returns-7
+override-parameters : tie.Need-returns-7
 unfolding opOf acts
-returns-7 c =
-    rw (c .ended7 .ensures)
-    (let start = c .before .before .before .before .before .before .before .before .before .before in
-    let w : length (start .args .params .now) ≡ allParams = c .before .before .before .store-arg2 .given .0 .1 in
-    let p = c .before .before .before .before .before .load .result in (
-      refl,
-      refl,
-      λ env trace h l f.
+override-parameters c =
+    let over = c .before .before in
+    let arm = over .before .before in
+    let a = start (arm .before) .args in
+    let pre = start (arm .before) .pre in
+    let load = loaded (arm .before) .load in
+    let w : length (a .memory .now) ≡ memoryNumbers = over .before .store-arg2 .given .0 .1 in
+    rw (c .ended7 .ensures, c .before .store2 .ensures)
+    (record {
+      events = refl;
+      ends = refl;
+      does =
+          λ env trace h l f.
           rw (
-            c .before .before .before .before .match .keys7,
-            c .before .store2 .ensures,
-            override-params _ env _ _ _ _ _ _ trace _ (start .args .events) (start .args .used) h l p (c .before .before .before .before .before .load .ensures) w (start .args .given) _ (c .before .before .over2 .ensures),
-          ),
-      λ n f g.
-          rw (c .before .store2 .ensures)
-          (fit-stored _ n _ _ _ w (start .pre .0) f
-          (rw (c .before .before .over2 .ensures) (fit-over _ n _ p g (rw (c .before .before .before .before .before .load .ensures) (f _ (start .pre .0)))))),
-    ))
+            arm .match .keys7,
+            override-params _ env _ _ _ _ _ trace _ (a .done .events) (a .done .used) h l (load .result) (load .ensures) w (a .command .given) _ (over .over2 .ensures),
+          );
+      fit =
+          λ n f g.
+          fit-stored _ n _ _ _ w (pre .inside) f
+          (rw (over .over2 .ensures) (fit-over _ n _ (load .result) g (rw (load .ensures) (f _ (pre .inside)))));
+      kept = stored-kept _ _ _;
+    })
 
-returns-8 : tie.Need-returns-8
+fetch : tie.Need-returns-8
 unfolding opOf acts
-returns-8 c =
-    let d = c .before .before .fetch .ensures in (
-      d .0,
-      d .1,
-      λ env trace h l f.
-          rw (c .before .before .before .before .match .keys8, d .0)
-          (d .2 _ env _ _ (is-at _ env _ _ _ _ _ _ trace _ _ _ h l _ (c .before .before .before .before .before .load .ensures) _ (c .before .before .before .before .before .before .before .before .before .before .pre .1)) (h .replies) refl),
-      λ n f g. f,
-    )
+fetch c =
+    let arm = c .before .before .before .before in
+    let d = c .before .before .fetch .ensures in
+    record {
+      events = d .0;
+      ends = d .1;
+      does =
+          λ env trace h l f.
+          rw (arm .match .keys8, d .0)
+          (d .2 _ env _ _ (is-at _ env _ _ _ _ _ trace _ _ _ h l _ (loaded (arm .before) .load .ensures) _ refl) (h .replies) refl);
+      fit = λ n f g. f;
+      kept = λ i h. refl;
+    }
 
-returns-9 : tie.Need-returns-9
+copy : tie.Need-returns-9
 unfolding opOf acts
-returns-9 c =
+copy c =
+    let done = c .before .before .before in
+    let arm = done .before .before .before in
+    let e = loaded (arm .before) .load .ensures in
     rw (c .ended8 .ensures)
-    (let d = c .before .before .before .copy .ensures in
-    let e = c .before .before .before .before .before .before .load .ensures in (
-      refl,
-      d .0,
-      λ env trace h l f.
-          rw (c .before .before .before .before .before .match .keys9)
-          (d .1 _ env _ _ (is-at _ env _ _ _ _ _ _ trace _ _ _ h l _ e _ (c .before .before .before .before .before .before .before .before .before .before .before .pre .1)) (source-at _ env _ _ _ _ _ _ trace _ _ _ h l _ e f)),
-      λ n f g. f,
-    ))
+    (record {
+      events = refl;
+      ends = done .copy .ensures .0;
+      does =
+          λ env trace h l f.
+          rw (arm .match .keys9)
+          (done .copy .ensures .1 _ env _ _ (is-at _ env _ _ _ _ _ trace _ _ _ h l _ e _ refl) (source-at _ env _ _ _ _ _ trace _ _ _ h l _ e f));
+      fit = λ n f g. f;
+      kept = λ i h. refl;
+    })
 
-returns-10 : tie.Need-returns-10
+runs : tie.Need-returns-10
 unfolding opOf acts
-returns-10 c =
-    rw (c .ended9 .ensures) (
-      refl,
-      c .before .runs .ensures .0,
-      λ env trace h l f.
-          let a = is-at _ env _ _ _ _ _ _ trace _ _ _ h l _ (c .before .before .before .before .load .ensures) _ (c .before .before .before .before .before .before .before .before .before .pre .1) in
-          rw (c .before .before .before .match .keys10) (c .before .runs .ensures .1 env _ _ (a .lent) (a .number)),
-      λ n f g. f,
-    )
+runs c =
+    let arm = c .before .before .before in
+    rw (c .ended9 .ensures)
+    (record {
+      events = refl;
+      ends = c .before .runs .ensures .0;
+      does =
+          λ env trace h l f.
+          let a = is-at _ env _ _ _ _ _ trace _ _ _ h l _ (loaded (arm .before) .load .ensures) _ refl in
+          rw (arm .match .keys10) (c .before .runs .ensures .1 env _ _ (a .lent) (a .number));
+      fit = λ n f g. f;
+      kept = λ i h. refl;
+    })
 
-returns-11 : tie.Need-returns-11
-unfolding opOf acts
-returns-11 c =
+swap : tie.Need-returns-11
+unfolding acts
+swap c =
+    let done = c .before .before .before in
+    let arm = done .before .before .before in
+    let e = loaded (arm .before) .load .ensures in
+    let r = arm .match .rest in
+    let a = start (arm .before) .args in
+    let is-swap : commandOf (a .s .now) (a .command) ≡ Rules.swap =
+    swap-left _ _ _ _ (r .0 .0 .0 .0 .0 .0 .0 .0 .0 .1) (r .0 .0 .0 .0 .0 .0 .0 .0 .1) (r .0 .0 .0 .0 .0 .0 .0 .1) (r .0 .0 .0 .0 .0 .0 .1) (r .0 .0 .0 .0 .0 .1)
+    (r .0 .0 .0 .0 .1) (r .0 .0 .0 .1) (r .0 .0 .1) (r .0 .1) (r .1) in
     rw (c .ended10 .ensures)
-    (let d = c .before .before .before .swap .ensures in
-    let e = c .before .before .before .before .before .before .load .ensures in
-    let r = c .before .before .before .before .before .match .rest in (
-      refl,
-      d .0,
-      λ env trace h l f.
-          rw (
-            ne-eqb _ _ (r .0 .0 .0 .0 .0 .0 .0 .0 .0 .1),
-            ne-eqb _ _ (r .0 .0 .0 .0 .0 .0 .0 .0 .1),
-            ne-eqb _ _ (r .0 .0 .0 .0 .0 .0 .0 .1),
-            ne-eqb _ _ (r .0 .0 .0 .0 .0 .0 .1),
-            ne-eqb _ _ (r .0 .0 .0 .0 .0 .1),
-            ne-eqb _ _ (r .0 .0 .0 .0 .1),
-            ne-eqb _ _ (r .0 .0 .0 .1),
-            ne-eqb _ _ (r .0 .0 .1),
-            ne-eqb _ _ (r .0 .1),
-            ne-eqb _ _ (r .1),
-          )
-          (d .1 _ env _ _ (is-at _ env _ _ _ _ _ _ trace _ _ _ h l _ e _ (c .before .before .before .before .before .before .before .before .before .before .before .pre .1)) (source-at _ env _ _ _ _ _ _ trace _ _ _ h l _ e f)),
-      λ n f g. f,
-    ))
+    (record {
+      events = refl;
+      ends = done .swap .ensures .0;
+      does =
+          λ env trace h l f.
+          rw is-swap
+          (done .swap .ensures .1 _ env _ _ (is-at _ env _ _ _ _ _ trace _ _ _ h l _ e _ refl) (source-at _ env _ _ _ _ _ trace _ _ _ h l _ e f));
+      fit = λ n f g. f;
+      kept = λ i h. refl;
+    })
 
 pub act-spec : {M : Type 1} → statement M
 act-spec =
     tie.close
     (tie.spec
+    inside
+    (λ c. search needs)
+    element
+    vendor-lies
     (λ c κs. search needs)
-    equal-sixteen-requires
-    (λ c κs. search needs)
-    equal-sixteen-requires-2
+    class-lies
     (λ c κs. search needs)
     matches-requires
     (λ c κs. search needs)
@@ -204,19 +260,19 @@ act-spec =
     (λ c κs. search needs)
     swap-requires
     (λ c κs. search needs)
-    returns
-    returns-2
+    vendor
+    class
     (λ c. search needs)
-    returns-3
-    returns-4
-    returns-5
-    returns-6
-    returns-7
+    image-match
+    set-index
+    abort
+    set-parameters
+    override-parameters
     (λ c. search needs)
-    returns-8
+    fetch
     (λ c. search needs)
-    returns-9
+    copy
     (λ c. search needs)
-    returns-10
+    runs
     (λ c. search needs)
-    returns-11)
+    swap)

@@ -1,34 +1,48 @@
 use mathlib.Core.Path.{refl}
 use native.Mathlib.Omega.{arith}
 use borrow.Author.Needs.{needs}
-use Rattle.run_commands.specs.Op.{opOf}
 use Rattle.rules_theorems.proofs.OpLaws.{code-small}
-use Rattle.run_commands.proofs.PerformLaws.{step-is}
+use Rattle.run_commands.specs.Performed.{commandOf}
+use Rattle.run_commands.proofs.PerformLaws.{with-event}
 use Rattle.run_commands.proofs.perform.perform.Statement.{statement}
 use Rattle.run_commands.proofs.perform.perform.Tie as tie
 
+-- the way back: from where the command was done to the start, and from the end to where the event was put and to where the command was done
+abbrev start : tie.After-act-arg2 → tie.Start
+start c = c .before .before .before .before .before .before
+
+abbrev acted : tie.After-put-event-arg → tie.After-act
+acted c = c .before .before .before
+
+abbrev put : tie.After-slice-known4 → tie.After-put-event
+put c = c .before .before
+
 act-requires : tie.Need-act-requires
-act-requires c κs = let start = c .before .before .before .before .before .before .before in (start .pre .0, refl, start .pre .1, start .pre .2, start .pre .3, start .pre .4, start .pre .5)
+act-requires c κs = start c .pre .0
 
 put-event-requires : tie.Need-put-event-requires
 put-event-requires c κs =
-    let start = c .before .before .before .before .before .before .before .before .before .before .before in
-    (start .pre .6, omega (arith, start .pre .5, code-small (opOf (start .args .s .now) (start .args .code) (start .args .value) (start .args .given))), omega (arith, start .pre .0), c .before .before .before .act .ensures .1)
+    let a = start (acted c .before) in
+    (a .pre .1, omega (arith, a .pre .0 .coded, code-small (commandOf (a .args .s .now) (a .args .command))), omega (arith, a .pre .0 .inside), acted c .act .ensures .ends)
 
-add-t19 : tie.Need-add-t19
-add-t19 c = omega (arith, c .before .before .before .before .before .before .before .before .before .before .before .before .before .before .pre .6, c .before .before .before .before .before .before .before .before .before .before .before .before .before .before .good .1 .1 .1 .1 .1 .1 .1 .1 .1 .1 .1 .1 .0 .0)
+next-event : tie.Need-add-t22
+next-event c = let a = start (acted (put c .before) .before) in omega (arith, a .pre .1, a .good .1 .1 .1 .1 .1 .1 .1 .1 .0 .0)
 
 returns : tie.Need-returns
 returns c =
-    let start = c .before .before .before .before .before .before .before .before .before .before .before .before .before .before in
-    let d = c .before .before .before .before .before .before .act .ensures in (
-      refl,
-      d .1,
-      λ env h l f.
-          rw (step-is env _ _ (start .args .place) _ _ (d .2 env (start .args .trace .now) h l f), c .before .before .put-event .ensures, d .0, start .pre .5),
-      d .3,
-    )
+    let at-act = acted (put c .before) in
+    let a = start (at-act .before) in
+    let d = at-act .act .ensures in
+    record {
+      events = refl;
+      ends = d .ends;
+      does =
+          λ env h l f.
+          with-event (a .args .s .now) env _ _ _ _ _ (commandOf (a .args .s .now) (a .args .command)) _ _ (a .args .command .place) (a .args .done .events) _
+          (at-act .act .result) (d .does env (a .args .trace .now) h l f) (d .events) (a .pre .0 .coded) (put c .put-event .ensures);
+      fit = d .fit;
+      kept = d .kept;
+    }
 
 pub perform-spec : {M : Type 1} → statement M
-perform-spec =
-    tie.close (tie.spec (λ c. search needs) (λ c. search needs) act-requires put-event-requires add-t19 (λ c. search needs) (λ c. search needs) returns)
+perform-spec = tie.close (tie.spec act-requires put-event-requires next-event (λ c. search needs) (λ c. search needs) returns)

@@ -1,9 +1,9 @@
-use Prim.Native.Nat.{_*_}
+use Prim.Native.Nat.{_+_, _*_}
 use mathlib.Core.List.{[], _∷_}
 use native.Mathlib.Omega.{arith}
 use lib.ListN.{length-set}
 use borrow.Author.Needs.{needs}
-use Rattle.rules.specs.Limits.{paramNumbers}
+use Rattle.rules.specs.Limits.{limits, paramNumbers}
 use Rattle.byte_buffer.proofs.PutLaws.{in-a-row}
 use Rattle.run_slots.specs.Params.{stored}
 use Rattle.run_slots.proofs.params.store.Statement.{statement}
@@ -13,13 +13,14 @@ returns : tie.Need-returns
 unfolding stored
 returns c =
     let a = c .args in
-    in-a-row (a .params .now) (paramNumbers * a .i) (a .p .uri ∷ [])
+    in-a-row (a .memory .now) (limits .components + paramNumbers * a .i) (a .p .uri ∷ [])
     ((a .p .length ∷ []) ∷ (a .p .source ∷ []) ∷ (a .p .digest ∷ []) ∷ (a .p .size ∷ []) ∷ [])
 
 pub store-spec : {M : Type 1} → statement M
 store-spec =
     tie.close
     (tie.spec
+    (λ c. search needs)
     (λ c. search needs)
     (λ c. search needs)
     (λ c. search needs)

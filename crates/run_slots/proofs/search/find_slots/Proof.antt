@@ -4,13 +4,13 @@ use mathlib.Core.Path.{_≡_, sym}
 use native.Mathlib.Omega.{arith}
 use borrow.Author.Needs.{needs}
 use lib.ListN.{length}
-use Rattle.rules.specs.Limits.{limits}
+use Rattle.rules.specs.Limits.{memoryNumbers}
 use Rattle.run_slots.proofs.SearchLaws.{Sofar, sofar-start, sofar-stop, sofar-kept, sofar-next, sofar-all, sofar-found, sofar-done}
 use Rattle.run_slots.proofs.search.find_slots.Statement.{statement}
 use Rattle.run_slots.proofs.search.find_slots.Tie as tie
 
 abbrev Inv-loop : tie.InvT-loop
-Inv-loop s ids n slots numbers₀ count i₀ numbers i = (i ≤ n) × (length numbers ≡ limits .components) × Sofar s ids n slots numbers₀ numbers i
+Inv-loop s ids n slots numbers₀ count i₀ numbers i = (i ≤ n) × (length numbers ≡ memoryNumbers) × Sofar s ids n slots numbers₀ numbers i
 
 abbrev μ-loop : tie.MeasureT-loop
 μ-loop s ids n slots numbers₀ count i₀ numbers i = n - i
