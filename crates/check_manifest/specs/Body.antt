@@ -4,6 +4,7 @@ use mathlib.Core.Path.{_≡_}
 use mathlib.Core.List.{List}
 use lib.ListN.{length, replicate}
 use Rattle.rules.specs.Answers.{refusalNumber}
+use Rattle.rules.specs.Lent.{Lent, was, left}
 use Rattle.rules.specs.Limits.{places, sectionPlaces}
 use Rattle.rules.specs.Bytes.{Span}
 use Rattle.rules.specs.Got.{Got, refused, got}
@@ -28,6 +29,10 @@ listReading = view (λ a. a .1 .to) (λ a. length (a .0))
 abbrev pub Ids : {A P : Type 0} → (A → List Span) → Got (A × P) → List ℕ → List ℕ → Type 0
 Ids f (refused r p) ids ids′ = Unit {0}
 Ids f (got a) ids ids′ = ids′ ≡ laid (f (a .0)) ids
+
+-- the component list was read, and the places of its identifiers stand in the lent array
+abbrev pub ListRead : Got (List Span × Span) → Lent → Reading → Type 0
+ListRead g ids r = (r ≡ listReading g) × Ids (λ l. l) g (was ids) (left ids)
 
 abbrev pub commonOf : Got ((List Span × List Section) × Span) → Common
 commonOf (refused r p) = record { refusal = refusalNumber r; at = p; components = 0; commands = 0; from = 0 }
@@ -65,3 +70,7 @@ bodyOf (got a) =
 abbrev pub Kept : {A P : Type 0} → (A → List Span) → (A → List Section) → Got (A × P) → List ℕ → List ℕ → List ℕ → List ℕ → Type 0
 Kept f g (refused r p) ids ids′ at at′ = Unit {0}
 Kept f g (got a) ids ids′ at at′ = (ids′ ≡ laid (f (a .0)) ids) × (at′ ≡ placed (g (a .0)) at)
+
+-- common was read, and the places of its identifiers and of its sequence stand in the lent arrays
+abbrev pub CommonRead : Got ((List Span × List Section) × Span) → Lent → Lent → Common → Type 0
+CommonRead g ids places r = (r ≡ commonOf g) × Kept (λ c. c .0) (λ c. c .1) g (was ids) (left ids) (was places) (left places)

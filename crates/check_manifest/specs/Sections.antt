@@ -5,9 +5,12 @@ use mathlib.Core.List.{List, [], _∷_}
 use mathlib.Core.Bool.{cond}
 use lib.Dec.{eqb}
 use lib.ListN.{set}
+use Rattle.rules.specs.Lent.{Lent, was, left}
 use Rattle.rules.specs.Commands.{COMMON, PAYLOAD_FETCH}
 use Rattle.rules.specs.Got.{Got, refused, got}
 use Rattle.rules.specs.Manifest.{Section}
+use Rattle.cbor.specs.declared.reading.Reading.{Reading}
+use Rattle.cbor.specs.Reading.{reading}
 
 -- the number of a section in the array: 0 for common's sequence, 1 to 5 for sections 8 to 12
 abbrev pub sectionNo : ℕ → ℕ
@@ -24,3 +27,10 @@ placed (x ∷ xs) a = placed xs (placedOne x a)
 abbrev pub Placed : {A : Type 0} → (A → List Section) → Got (A × ℕ) → List ℕ → List ℕ → Type 0
 Placed f (refused r p) before after = Unit {0}
 Placed f (got a) before after = after ≡ placed (f (a .0)) before
+
+-- a section was read, and sections: the answer has how many commands there are with theirs, and the lent array has their places
+abbrev pub SectionRead : (Section → ℕ) → Got (Section × ℕ) → Lent → Reading → Type 0
+SectionRead commands g places r = (r ≡ reading commands g) × Placed (λ x. x ∷ []) g (was places) (left places)
+
+abbrev pub SectionsRead : (List Section → ℕ) → Got (List Section × ℕ) → Lent → Reading → Type 0
+SectionsRead commands g places r = (r ≡ reading commands g) × Placed (λ xs. xs) g (was places) (left places)

@@ -2,11 +2,11 @@
 ghost use mathlib.Core.Path.{_≡_};
 ghost use Prim.Native.Nat.{_≤_};
 ghost use lib.ListN.{length};
-ghost use Rattle.rules.specs.Lent.{was, left};
+ghost use Rattle.rules.specs.Lent.{was};
 ghost use Rattle.rules.specs.Tables.{byNumber};
 ghost use Rattle.rules.specs.Check as Check;
 ghost use Rattle.cbor.specs.Reading.{placeReading, reading};
-ghost use Rattle.check_manifest.specs.Body.{frontOf, listReading, Ids, commonOf, refusedBody, bodyOf, Kept};
+ghost use Rattle.check_manifest.specs.Body.{frontOf, ListRead, CommonRead, refusedBody, bodyOf};
 use cbor::reading::Reading;
 use cbor::reading::item;
 use cbor::reading::refuse;
@@ -148,7 +148,7 @@ fn read_front(s: &[u8], end: usize, at: usize) -> Front
 // The component list in its byte string.
 fn component_list(s: &[u8], end: usize, at: usize, ids: &mut Places) -> Reading
     requires { ⌜ end ≤ length (now s) ⌝ }
-    ensures { λ r. ⌜ (r ≡ listReading (Check.inBytes (was s) (Check.components (was s)) end at)) × Ids (λ l. l) (Check.inBytes (was s) (Check.components (was s)) end at) (was ids) (left ids) ⌝ }
+    ensures { λ r. ⌜ ListRead (Check.inBytes (was s) (Check.components (was s)) end at) ids r ⌝ }
 {
     let b = item(s, end, at, cbor::BYTES, 0, Controller::LARGEST_NUMBER);
     let refusal = b.refusal;
@@ -199,7 +199,7 @@ fn read_common(
     places: &mut SectionPlaces,
 ) -> Common
     requires { ⌜ (end ≤ length (now s)) × (now table ≡ byNumber) ⌝ }
-    ensures { λ r. ⌜ (r ≡ commonOf (Check.commonIn (was s) end at)) × Kept (λ c. c .0) (λ c. c .1) (Check.commonIn (was s) end at) (was ids) (left ids) (was places) (left places) ⌝ }
+    ensures { λ r. ⌜ CommonRead (Check.commonIn (was s) end at) ids places r ⌝ }
 {
     let b = item(s, end, at, cbor::BYTES, 0, Controller::LARGEST_NUMBER);
     let refusal = b.refusal;

@@ -1,17 +1,15 @@
 // Sections: sequences in byte strings under ascending keys.
 ghost use mathlib.Core.Path.{_≡_};
-ghost use mathlib.Core.List.{[], _∷_};
 ghost use Prim.Native.Nat.{_+_, _≤_, _<_};
 ghost use lib.ListN.{length};
-ghost use Rattle.rules.specs.Lent.{was, left};
+ghost use Rattle.rules.specs.Lent.{was};
 ghost use Rattle.rules.specs.Limits.{sectionCount};
 ghost use Rattle.rules.specs.Commands.{PAYLOAD_FETCH};
 ghost use Rattle.rules.specs.Tables.{byNumber};
 ghost use Rattle.rules.specs.Manifest.{count, countAll};
 ghost use Rattle.rules.specs.Check as Check;
-ghost use Rattle.cbor.specs.Reading.{reading};
 ghost use Rattle.check_sequence.specs.Command.{Section};
-ghost use Rattle.check_manifest.specs.Sections.{sectionNo, Placed};
+ghost use Rattle.check_manifest.specs.Sections.{sectionNo, SectionRead, SectionsRead};
 use cbor::reading::Reading;
 use cbor::reading::item;
 use cbor::reading::refuse;
@@ -52,7 +50,7 @@ fn section(
     places: &mut SectionPlaces,
 ) -> Reading
     requires { ⌜ (end ≤ length (now s)) × (now table ≡ byNumber) × Section key ⌝ }
-    ensures { λ r. ⌜ (r ≡ reading (λ x. commands + count (x .seq)) (Check.sectionAt (was s) components key commands end at)) × Placed (λ x. x ∷ []) (Check.sectionAt (was s) components key commands end at) (was places) (left places) ⌝ }
+    ensures { λ r. ⌜ SectionRead (λ x. commands + count (x .seq)) (Check.sectionAt (was s) components key commands end at) places r ⌝ }
 {
     let b = item(s, end, at, cbor::BYTES, 0, Controller::LARGEST_NUMBER);
     let refusal = b.refusal;
@@ -97,7 +95,7 @@ pub(crate) fn sections(
     places: &mut SectionPlaces,
 ) -> Reading
     requires { ⌜ (end ≤ length (now s)) × (now table ≡ byNumber) ⌝ }
-    ensures { λ r. ⌜ (r ≡ reading (λ xs. commands + countAll xs) (Check.sectionsAt (was s) components k PAYLOAD_FETCH commands end at)) × Placed (λ xs. xs) (Check.sectionsAt (was s) components k PAYLOAD_FETCH commands end at) (was places) (left places) ⌝ }
+    ensures { λ r. ⌜ SectionsRead (λ xs. commands + countAll xs) (Check.sectionsAt (was s) components k PAYLOAD_FETCH commands end at) places r ⌝ }
 {
     let mut p = at;
     let mut low = codes::PAYLOAD_FETCH;
@@ -138,7 +136,7 @@ pub(crate) fn common_sequence(
     places: &mut SectionPlaces,
 ) -> Reading
     requires { ⌜ (end ≤ length (now s)) × (now table ≡ byNumber) × (k ≤ 1) ⌝ }
-    ensures { λ r. ⌜ (r ≡ reading countAll (Check.commonSeq (was s) components k end at)) × Placed (λ xs. xs) (Check.commonSeq (was s) components k end at) (was places) (left places) ⌝ }
+    ensures { λ r. ⌜ SectionsRead countAll (Check.commonSeq (was s) components k end at) places r ⌝ }
 {
     if k == 0 {
         return Reading {

@@ -10,7 +10,8 @@ use Rattle.rules.specs.Bytes.{Bytes}
 use Rattle.rules.specs.Got.{Got, need, found, _>>=_}
 use Rattle.rules.specs.Commands.{COMMON, PAYLOAD_FETCH, INSTALL, VALIDATE, LOAD, RUN, commands, rowOf, isAllowed, among}
 use Rattle.rules.specs.Tables.{kindOf}
-use Rattle.rules.specs.Check.{number}
+use Rattle.rules.specs.Manifest.{Cmd}
+use Rattle.rules.specs.Check.{number, command, sequenceAt}
 use Rattle.check_sequence.specs.Argument.{argumentStart}
 
 module _ (s : Bytes) where
@@ -22,6 +23,10 @@ module _ (s : Bytes) where
     _ ← need (isAllowed section (row .allowed)) NotAllowed at
     _ ← need (ltb before (limits .commands)) TooManyCommands at
     argumentStart s components (kindOf (row .form)) end p
+
+  -- a whole command, after that many; the sequences that it holds may be `depth` deep
+  abbrev pub commandAt : ℕ → ℕ → ℕ → ℕ → ℕ → ℕ → Got (Cmd × ℕ)
+  commandAt components section depth before end at = command s (sequenceAt s components section depth) components section before end at
 
 -- the key of a section, or of common for its sequence
 abbrev pub Section : ℕ → Type 0

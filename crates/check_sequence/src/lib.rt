@@ -7,7 +7,7 @@ ghost use Rattle.rules.specs.Tables.{byNumber};
 ghost use Rattle.rules.specs.Manifest.{count, countCmd};
 ghost use Rattle.rules.specs.Check as Check;
 ghost use Rattle.cbor.specs.Reading.{reading};
-ghost use Rattle.check_sequence.specs.Command.{Section};
+ghost use Rattle.check_sequence.specs.Command.{Section, commandAt};
 use cbor::reading::Reading;
 use cbor::reading::item;
 use cbor::reading::refuse;
@@ -84,7 +84,7 @@ fn check_command(
     at: usize,
 ) -> Reading
     requires { ⌜ (end ≤ length (now s)) × (now table ≡ byNumber) × Section section ⌝ }
-    ensures { λ r. ⌜ r ≡ reading (λ c. commands + countCmd c) (Check.command (was s) (Check.sequenceAt (was s) components section depth) components section commands end at) ⌝ }
+    ensures { λ r. ⌜ r ≡ reading (λ c. commands + countCmd c) (commandAt (was s) components section depth commands end at) ⌝ }
 {
     let o = open_command(s, table, components, section, commands, end, at);
     let refusal = o.refusal;

@@ -83,6 +83,10 @@ pub record Entries (s : Bytes) (k at : ℕ) : Type 0 where
   pub to : ℕ
   pub reads : entries s n k 0 nothing e at ≡ got (given, to)
 
+-- they were read
+abbrev pub EntriesRead : (s : Bytes) (k at : ℕ) → Entries s k at → Args → Type 0
+EntriesRead s k at x a = (givenOf s a ≡ x .given) × (a .next ≡ x .to) × Fit s (x .n) (paramsOf a) × Within s (paramsOf a)
+
 -- the argument at `at` of a command of code c, which check has accepted
 pub record ArgumentAt (s : Bytes) (c at : ℕ) : Type 0 where
   pub deeper : ℕ → Read Seq

@@ -1,8 +1,8 @@
 // The arguments of commands that write an event, in an envelope that check has accepted.
 ghost use mathlib.Core.Path.{_≡_};
 ghost use Rattle.rules.specs.Lent.{was};
-ghost use Rattle.run_slots.specs.Params.{Fit};
-ghost use Rattle.manifest_accessors.specs.Arguments.{paramsOf, flagOf, givenOf, Within, bareAt, componentOf, EntryAt, EntryPut, Entries, ArgumentAt, ArgumentRead};
+ghost use Rattle.manifest_accessors.specs.Arguments.{flagOf, bareAt, componentOf};
+ghost use Rattle.manifest_accessors.specs.Arguments.{EntryAt, EntryPut, Entries, EntriesRead, ArgumentAt, ArgumentRead};
 use crate::heads::open;
 use rules::codes::CLASS;
 use rules::codes::COERCE;
@@ -105,7 +105,7 @@ fn entry(s: &[u8], key: usize, at: usize, a: Args) -> Args
 // k entries of a map of parameters.
 fn read_entries(s: &[u8], k: usize, at: usize) -> Args
     requires { ⌜ Entries (now s) k at ⌝ }
-    ensures { λ r. ⌜ ((x : Entries (was s) k at) → (givenOf (was s) r ≡ x .given) × (r .next ≡ x .to) × Fit (was s) (x .n) (paramsOf r) × Within (was s) (paramsOf r)) ⌝ }
+    ensures { λ r. ⌜ ((x : Entries (was s) k at) → EntriesRead (was s) k at x r) ⌝ }
 {
     let mut a = bare(0, at);
     let mut left = k;
