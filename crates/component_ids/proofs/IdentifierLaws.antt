@@ -13,7 +13,7 @@ use borrow.Author.Tests.{le-leb, lt-leb}
 use Rattle.rules.specs.declared.answers.Refusal.{Refusal}
 use Rattle.rules.specs.declared.answers.Refusal.the-variants.{Malformed, RepeatedIdentifier}
 use Rattle.rules.specs.Limits.{limits, places}
-use Rattle.rules.specs.Bytes.{Bytes, spanAt, Span, span, part, bytesAt, same, member}
+use Rattle.rules.specs.Bytes.{Bytes, spanAt, InBytes, Span, span, part, bytesAt, same, member}
 use Rattle.rules.specs.Got.{Got, refused, got, need, _>>=_}
 use Rattle.rules.specs.Cbor.{BYTES, ARRAY, Head, after, item}
 use Rattle.rules.specs.Check.{strings, identifier, identifiers, components}
@@ -24,7 +24,7 @@ use Rattle.rules.proofs.SameLaws.{same-lengths}
 use Rattle.cbor.specs.declared.reading.Reading.{Reading}
 use Rattle.component_ids.specs.declared.Repeat.{Repeat}
 use Rattle.component_ids.specs.declared.Repeat.the-variants.{At, Nothing}
-use Rattle.component_ids.specs.Identifiers.{flatSpans, laid, plain, Listing, onward, listing, idsRead, listedAs, listed, equal, among, searchFrom, repeated, InBytes}
+use Rattle.component_ids.specs.Identifiers.{flatSpans, laid, plain, Listing, onward, listing, idsRead, listedAs, listed, equal, among, searchFrom, repeated}
 use Rattle.cbor.specs.Reading.{fault, ends, headReading, placeReading, reading}
 use Rattle.cbor.proofs.ReadingLaws.{stopped, alike, bind-assoc, item-stopped, item-went, place-stopped, place-went}
 use Rattle.rules.proofs.AnswerLaws.{not-zero}

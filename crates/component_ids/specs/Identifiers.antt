@@ -1,5 +1,5 @@
 -- Identifiers as check reads them: all of the list, or up to the first that is refused; then the search for a repeated one.
-use Prim.Native.Nat.{ℕ, zero, suc, _*_, _≤_, _<_}
+use Prim.Native.Nat.{ℕ, zero, suc, _*_}
 use mathlib.Core.List.{List, [], _∷_, _++_}
 use mathlib.Core.Bool.{Bool, true, false, _||_}
 use lib.ListN.{length, drop}
@@ -77,7 +77,3 @@ listedAs n (got q) = ends q n
 
 abbrev pub listed : Listing → Reading
 listed l = listedAs (length (l .ids)) (l .end)
-
--- the first n places of the array lie in that many bytes
-abbrev pub InBytes : List ℕ → ℕ → ℕ → Type 0
-InBytes a n size = (k : ℕ) → k < n → (spanAt a k .from ≤ spanAt a k .to) × (spanAt a k .to ≤ size)

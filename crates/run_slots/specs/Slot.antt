@@ -2,9 +2,11 @@
 use Prim.Native.Nat.{ℕ, _+_, _-_, _*_, _/_, _≤_, _<_}
 use mathlib.Core.Path.{_≡_}
 use mathlib.Core.List.{List, [], _∷_, map}
-use mathlib.Core.Bool.{cond}
+use mathlib.Core.Bool.{Bool, true, cond}
 use lib.ListN.{length, getD}
-use Rattle.rules.specs.Bytes.{Bytes, bytesAt, spanAt, member}
+use lib.Seq.{sets}
+use Rattle.rules.specs.Lent.{Lent, was, left}
+use Rattle.rules.specs.Bytes.{Bytes, bytesAt, spanAt, member, allIn}
 use Rattle.rules.specs.Slots.{Slot, slotBytes, slotAt, numbers, slotNames, slotOf}
 use Rattle.rules.specs.Limits.{limits}
 
@@ -37,3 +39,10 @@ pub record Found (ids : List Bytes) (slots : Bytes) (before after : List ℕ) : 
   pub number : (i : ℕ) → i < length ids → getD after i 0 ≡ slotOf (getD ids i []) slots
   pub there : (i : ℕ) → i < length ids → Holds slots (getD after i 0)
   pub beyond : (i : ℕ) → length ids ≤ i → getD after i 0 ≡ getD before i 0
+
+-- r says whether each identifier has a slot; if so the lent memory has the slots' numbers, and else those up to the first that has none
+abbrev pub SlotsFound : List Bytes → Bytes → Lent → Bool → Type 0
+SlotsFound ids slots memory r =
+    (r ≡ allIn ids (slotNames slots))
+    × (r ≡ true → Found ids slots (was memory) (left memory))
+    × (left memory ≡ sets (was memory) 0 (slotNumbers ids slots))

@@ -1,14 +1,12 @@
 // Slots are found by identifier, never by position.
 ghost use mathlib.Core.Path.{_≡_};
-ghost use mathlib.Core.Bool.{true};
-ghost use Prim.Native.Nat.{ℕ, _+_, _-_, _*_, _≤_, _<_};
+ghost use Prim.Native.Nat.{_+_, _*_, _≤_};
 ghost use lib.ListN.{length, getD};
-ghost use lib.Seq.{sets};
-ghost use Rattle.rules.specs.Lent.{was, left};
-ghost use Rattle.rules.specs.Bytes.{part, same, allIn, spanAt};
+ghost use Rattle.rules.specs.Lent.{was};
+ghost use Rattle.rules.specs.Bytes.{part, same, InBytes};
 ghost use Rattle.rules.specs.Limits.{limits};
-ghost use Rattle.rules.specs.Slots.{slotBytes, slotAt, slotOf, slotNames};
-ghost use Rattle.run_slots.specs.Slot.{Holds, Short, namesAt, slotNumbers, Found};
+ghost use Rattle.rules.specs.Slots.{slotBytes, slotAt, slotOf};
+ghost use Rattle.run_slots.specs.Slot.{Holds, Short, namesAt, SlotsFound};
 use byte_buffer::equal;
 use rules::controller::Memory;
 use rules::controller::Places;
@@ -46,8 +44,8 @@ pub(crate) fn slot_of(s: &[u8], at: usize, n: usize, slots: &[u8]) -> usize
 // The slots of n components, whose identifiers stand at the places `ids` of s; false if one of them has none. Then those of the components
 // before it are assigned.
 pub fn find_slots(s: &[u8], ids: &Places, n: usize, slots: &[u8], memory: &mut Memory) -> bool
-    requires { ⌜ (n ≤ limits .components) × ((k : ℕ) → k < n → (spanAt (now ids) k .from ≤ spanAt (now ids) k .to) × (spanAt (now ids) k .to ≤ length (now s))) × Short (now slots) ⌝ }
-    ensures { λ r. ⌜ (r ≡ allIn (namesAt (was s) (was ids) n) (slotNames (was slots))) × (r ≡ true → Found (namesAt (was s) (was ids) n) (was slots) (was memory) (left memory)) × (left memory ≡ sets (was memory) 0 (slotNumbers (namesAt (was s) (was ids) n) (was slots))) ⌝ }
+    requires { ⌜ (n ≤ limits .components) × InBytes (now ids) n (length (now s)) × Short (now slots) ⌝ }
+    ensures { λ r. ⌜ SlotsFound (namesAt (was s) (was ids) n) (was slots) memory r ⌝ }
 {
     let numbers: &mut [usize] = memory;
     let count = slots.len() / SLOT_BYTES;

@@ -4,12 +4,11 @@ use mathlib.Core.Path.{_≡_, sym, ap, _∙_}
 use mathlib.Core.List.{List, [], _++_, map}
 use native.Mathlib.Omega.{arith}
 use lib.ListN.{length, length-append}
-use Rattle.rules.specs.Bytes.{Bytes, put, bytesAt, spanAt, flat}
+use Rattle.rules.specs.Bytes.{Bytes, put, bytesAt, spanAt, InBytes, flat}
 use Rattle.rules.specs.ProgramFormat.{nameSize}
 use Rattle.rules.specs.Program.{idBytes}
 use Rattle.run_slots.specs.Slot.{namesAt}
 use Rattle.run_slots.proofs.SearchLaws.{leftAt, left-turn, left-end, left-all}
-use Rattle.component_ids.specs.Identifiers.{InBytes}
 use Rattle.translate_record.specs.Record.{Filled}
 use Rattle.rules.proofs.BytesLaws.{length-part}
 use Rattle.byte_buffer.proofs.PutLaws.{put-append}

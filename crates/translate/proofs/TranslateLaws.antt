@@ -11,7 +11,7 @@ use Rattle.rules.specs.declared.answers.Refusal.{Refusal}
 use Rattle.rules.specs.declared.answers.Refusal.the-variants.{ShortRoom}
 use Rattle.rules.specs.Limits.{limits}
 use Rattle.rules.specs.ProgramFormat.{startSize, recordSize}
-use Rattle.rules.specs.Bytes.{Bytes, put, flat, spanAt}
+use Rattle.rules.specs.Bytes.{Bytes, put, flat, spanAt, InBytes}
 use Rattle.rules.specs.Tables.{byNumber}
 use Rattle.rules.specs.Got.{refused}
 use Rattle.rules.specs.Manifest.{Seq}
@@ -22,7 +22,6 @@ use Rattle.rules_theorems.proofs.RoundTrip.{GoodIds}
 use Rattle.rules_theorems.proofs.FlatLaws.{well-formed, program-size, length-all}
 use Rattle.run_slots.specs.Slot.{namesAt}
 use Rattle.run_slots.proofs.SearchLaws.{name-at, names-count}
-use Rattle.component_ids.specs.Identifiers.{InBytes}
 use Rattle.manifest_accessors.specs.Accepted.{Accepted}
 use Rattle.manifest_accessors.proofs.AcceptedLaws.{known, envelope-short, inside, named}
 use Rattle.translate_size.specs.declared.sizes.Size.{Size}

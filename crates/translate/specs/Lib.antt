@@ -1,3 +1,4 @@
 pub mod Start
+pub mod Names
 pub mod Sections
 pub mod Translate

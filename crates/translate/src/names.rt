@@ -1,16 +1,14 @@
 // The identifiers of the components: their records, sized and written.
 ghost use mathlib.Core.Path.{_≡_};
-ghost use mathlib.Core.List.{map};
-ghost use Prim.Native.Nat.{ℕ, _+_, _-_, _*_, _≤_, _<_};
+ghost use Prim.Native.Nat.{_+_, _≤_, _<_};
 ghost use lib.ListN.{length};
 ghost use Rattle.rules.specs.Lent.{was, left};
-ghost use Rattle.rules.specs.Bytes.{Bytes, part, flat, spanAt};
+ghost use Rattle.rules.specs.Bytes.{Bytes, part, InBytes};
 ghost use Rattle.rules.specs.Limits.{limits};
 ghost use Rattle.rules.specs.ProgramFormat.{nameSize};
 ghost use Rattle.rules.specs.Program.{idBytes};
-ghost use Rattle.run_slots.specs.Slot.{namesAt};
-ghost use Rattle.component_ids.specs.Identifiers.{InBytes};
 ghost use Rattle.translate_record.specs.Record.{Filled};
+ghost use Rattle.translate.specs.Names.{nameRecords, NamesFit};
 use byte_buffer::copy;
 use rules::controller::Places;
 use rules::program_format;
@@ -19,7 +17,7 @@ use rules::program_format::NAME_BYTES;
 // How many bytes the records of the n identifiers have.
 pub(crate) fn size_names(ids: &Places, n: usize) -> usize
     requires { ⌜ (n ≤ limits .components) × InBytes (now ids) n (limits .envelope) ⌝ }
-    ensures { λ r. ⌜ ((s : Bytes) → InBytes (was ids) n (length s) → r ≡ length (flat (map idBytes (namesAt s (was ids) n)))) ⌝ }
+    ensures { λ r. ⌜ ((s : Bytes) → InBytes (was ids) n (length s) → r ≡ length (nameRecords s (was ids) n)) ⌝ }
 {
     let mut sum = 0;
     let mut k = 0;
@@ -45,8 +43,8 @@ fn put_name(s: &[u8], from: usize, n: usize, room: &mut [u8], to: usize) -> usiz
 
 // The records of the n identifiers at the places `ids` of s, written from `at` on: the place after them.
 pub(crate) fn write_names(s: &[u8], ids: &Places, n: usize, room: &mut [u8], at: usize) -> usize
-    requires { ⌜ (n ≤ limits .components) × InBytes (now ids) n (length (now s)) × ((k : ℕ) → k < n → spanAt (now ids) k .to - spanAt (now ids) k .from < 256) × (at + length (flat (map idBytes (namesAt (now s) (now ids) n))) ≤ length (now room)) ⌝ }
-    ensures { λ r. ⌜ Filled (flat (map idBytes (namesAt (was s) (was ids) n))) at (was room) r (left room) ⌝ }
+    requires { ⌜ NamesFit (now s) (now ids) n (now room) at ⌝ }
+    ensures { λ r. ⌜ Filled (nameRecords (was s) (was ids) n) at (was room) r (left room) ⌝ }
 {
     let mut to = at;
     let mut k = 0;

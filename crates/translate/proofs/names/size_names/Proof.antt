@@ -5,8 +5,7 @@ use lib.ListN.{length}
 use borrow.Author.Needs.{needs}
 use Rattle.rules.specs.Limits.{limits}
 use Rattle.rules.specs.ProgramFormat.{nameSize}
-use Rattle.rules.specs.Bytes.{Bytes}
-use Rattle.component_ids.specs.Identifiers.{InBytes}
+use Rattle.rules.specs.Bytes.{Bytes, InBytes}
 use Rattle.translate.proofs.NameLaws.{named, namesLeft, names-all, names-none, left-size}
 use Rattle.translate.proofs.names.size_names.Statement.{statement}
 use Rattle.translate.proofs.names.size_names.Tie as tie
