@@ -1,12 +1,15 @@
 -- The sections of a group, sized, and written one after the other.
 use Prim.Native.Nat.{ℕ, _+_, _*_, _≤_}
 use mathlib.Core.Path.{_≡_}
+use mathlib.Core.Bool.{Bool, true, false}
 use mathlib.Core.List.{List}
 use lib.ListN.{length, replicate}
 use Rattle.rules.specs.declared.answers.Group.{Group}
-use Rattle.rules.specs.Bytes.{Bytes}
-use Rattle.rules.specs.Limits.{sectionPlaces}
-use Rattle.rules.specs.ProgramFormat.{recordSize}
+use Rattle.rules.specs.Lent.{Lent, was, left}
+use Rattle.rules.specs.Bytes.{Bytes, put}
+use Rattle.rules.specs.Limits.{limits, sectionPlaces}
+use Rattle.rules.specs.ProgramFormat.{NONE, recordSize}
+use Rattle.rules.specs.Program.{flatSeq, flatAll}
 use Rattle.rules.specs.Tables.{byNumber}
 use Rattle.rules.specs.Got.{got}
 use Rattle.rules.specs.Manifest.{Seq, Manifest}
@@ -16,7 +19,9 @@ use Rattle.rules.specs.ProgramSize.{sizeAll, argSizeAll}
 use Rattle.check_manifest.specs.Sections.{placed}
 use Rattle.translate_size.specs.declared.sizes.Size.{Size}
 use Rattle.translate_record.specs.declared.record.WriteState.{WriteState}
-use Rattle.translate_size.specs.Size.{most}
+use Rattle.translate_record.specs.Record.{written, Wrote}
+use Rattle.translate_size.specs.Size.{most, SequenceHere, SequenceSized}
+use Rattle.translate_sequence.specs.Write.{SequenceJob}
 
 -- the places of the sections of an accepted envelope, and the lent table
 pub record SectionsHere (s : Bytes) (table sections : List ℕ) : Type 0 where
@@ -38,3 +43,22 @@ pub record SectionsJob (s : Bytes) (table : List ℕ) (group : Group) (sections 
 -- the state at the start of the sequence at `from`: its records follow those of `now`
 abbrev pub startOf : ℕ → WriteState → WriteState
 startOf from now = record { next = from; index = 0; coerce = 1; n = now .n; to = now .to }
+
+-- r is the size of the sequence at `from`, and nothing where it is not wanted
+abbrev pub SectionSizes : Lent → Lent → Bool → ℕ → Size → Type 0
+SectionSizes s table wanted from r =
+    (wanted ≡ true → (j : SequenceHere (was s) (was table) (limits .depth) from) → SequenceSized (j .place .seq) r)
+    × (wanted ≡ false → (r .records ≡ 0) × (r .arguments ≡ 0))
+
+-- the records of the sequence at `from` were written from the state on, and nothing where it is not wanted
+abbrev pub SectionWrites : Lent → Lent → Bool → ℕ → WriteState → Lent → WriteState → Type 0
+SectionWrites s table wanted from state room r =
+    (wanted ≡ true → (j : SequenceJob (was s) (was table) (limits .depth) (startOf from state) (was room)) →
+    Wrote (flatSeq (j .place .seq) false 0 false NONE 0 (state .n)) state (was room) r (left room))
+    × (wanted ≡ false → (r ≡ state) × (left room ≡ was room))
+
+-- the records of the group's sections were written from `to` on
+abbrev pub SectionsWrite : Lent → Lent → Group → Lent → ℕ → Lent → Type 0
+SectionsWrite s table group sections to room =
+    (j : SectionsJob (was s) (was table) group (was sections) to (was room)) →
+    left room ≡ put (was room) to (written (flatAll (planOf group (j .here .manifest)) 0))

@@ -1,16 +1,13 @@
 // The sections of a group: sized, and written one after the other.
 ghost use mathlib.Core.Path.{_≡_};
-ghost use mathlib.Core.Bool.{true, false};
-ghost use Rattle.rules.specs.Lent.{was, left};
-ghost use Rattle.rules.specs.Bytes.{put};
+ghost use mathlib.Core.Bool.{true};
+ghost use Rattle.rules.specs.Lent.{was};
 ghost use Rattle.rules.specs.Limits.{limits};
-ghost use Rattle.rules.specs.Program.{flatSeq, flatAll};
-ghost use Rattle.rules.specs.ProgramFormat.{NONE};
 ghost use Rattle.rules.specs.Run.{planOf};
-ghost use Rattle.translate_size.specs.Size.{SequenceHere, SequenceSized};
-ghost use Rattle.translate_record.specs.Record.{written, Wrote};
+ghost use Rattle.translate_size.specs.Size.{SequenceHere};
 ghost use Rattle.translate_sequence.specs.Write.{SequenceJob};
 ghost use Rattle.translate.specs.Sections.{SectionsHere, SectionsSized, SectionsJob, startOf};
+ghost use Rattle.translate.specs.Sections.{SectionSizes, SectionWrites, SectionsWrite};
 use manifest_accessors::arguments::COERCE_FALSE;
 use manifest_accessors::sections::wanted;
 use rules::answers::Group;
@@ -27,7 +24,7 @@ use translate_size::sizes::size_sequence;
 // The size of the sequence at `from`; nothing where it is not wanted.
 fn size_section(s: &[u8], table: &Table, wanted: bool, from: usize) -> Size
     requires { ⌜ (wanted ≡ true → SequenceHere (now s) (now table) (limits .depth) from) ⌝ }
-    ensures { λ r. ⌜ (wanted ≡ true → (j : SequenceHere (was s) (was table) (limits .depth) from) → SequenceSized (j .place .seq) r) × (wanted ≡ false → (r .records ≡ 0) × (r .arguments ≡ 0)) ⌝ }
+    ensures { λ r. ⌜ SectionSizes s table wanted from r ⌝ }
 {
     if !wanted {
         return Size {
@@ -74,7 +71,7 @@ fn write_section(
     room: &mut [u8],
 ) -> WriteState
     requires { ⌜ (wanted ≡ true → SequenceJob (now s) (now table) (limits .depth) (startOf from state) (now room)) ⌝ }
-    ensures { λ r. ⌜ (wanted ≡ true → (j : SequenceJob (was s) (was table) (limits .depth) (startOf from state) (was room)) → Wrote (flatSeq (j .place .seq) false 0 false NONE 0 (state .n)) state (was room) r (left room)) × (wanted ≡ false → (r ≡ state) × (left room ≡ was room)) ⌝ }
+    ensures { λ r. ⌜ SectionWrites s table wanted from state room r ⌝ }
 {
     if !wanted {
         return state;
@@ -107,7 +104,7 @@ pub(crate) fn write_sections(
     room: &mut [u8],
 )
     requires { ⌜ SectionsJob (now s) (now table) group (now sections) to (now room) ⌝ }
-    ensures { λ _. ⌜ ((j : SectionsJob (was s) (was table) group (was sections) to (was room)) → left room ≡ put (was room) to (written (flatAll (planOf group (j .here .manifest)) 0))) ⌝ }
+    ensures { λ _. ⌜ SectionsWrite s table group sections to room ⌝ }
 {
     let mut now = WriteState {
         next: 0,

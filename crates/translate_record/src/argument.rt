@@ -1,17 +1,13 @@
 // The argument of a record, written to lent room. Each function gives the place after what it wrote.
-ghost use mathlib.Core.Path.{_≡_};
 ghost use mathlib.Core.List.{[], _∷_};
 ghost use Prim.Native.Nat.{_+_, _-_, _≤_, _<_};
 ghost use lib.ListN.{length};
 ghost use Rattle.rules.specs.Lent.{was, left};
-ghost use Rattle.rules.specs.Bytes.{part, be4};
-ghost use Rattle.rules.specs.Limits.{limits};
-ghost use Rattle.rules.specs.Tables.{byNumber};
-ghost use Rattle.rules.specs.Program.{entry, paramBytes, argBytes};
+ghost use Rattle.rules.specs.Bytes.{be4};
+ghost use Rattle.rules.specs.Program.{entry, paramBytes};
 ghost use Rattle.run_slots.specs.Params.{optional, meaning, Fit};
-ghost use Rattle.run_commands.specs.Op.{opOf, IsCode, SixteenAt};
 ghost use Rattle.manifest_accessors.specs.Arguments.{paramsOf, Within};
-ghost use Rattle.translate_record.specs.Record.{Filled};
+ghost use Rattle.translate_record.specs.Record.{Filled, stringEntry, argumentOf, ArgumentFits};
 ghost use Rattle.rules.specs.Commands.{sourceKey, sizeKey};
 use byte_buffer::copy;
 use byte_buffer::put_u32;
@@ -27,8 +23,8 @@ use translate_size::kinds::kind_of;
 
 // The URI or the digest under that key: the n bytes of s from `from` on; 0 is unset.
 fn put_string(s: &[u8], key: u8, from: usize, n: usize, room: &mut [u8], to: usize) -> usize
-    requires { ⌜ (0 < from → from + n ≤ length (now s)) × (n < 256) × (to + length (entry key (λ b. b) (optional from (part (now s) from n))) ≤ length (now room)) ⌝ }
-    ensures { λ r. ⌜ Filled (entry key (λ b. b) (optional from (part (was s) from n))) to (was room) r (left room) ⌝ }
+    requires { ⌜ (0 < from → from + n ≤ length (now s)) × (n < 256) × (to + length (stringEntry (now s) key from n) ≤ length (now room)) ⌝ }
+    ensures { λ r. ⌜ Filled (stringEntry (was s) key from n) to (was room) r (left room) ⌝ }
 {
     if from == 0 {
         return to;
@@ -95,8 +91,8 @@ pub(crate) fn put_argument(
     room: &mut [u8],
     to: usize,
 ) -> usize
-    requires { ⌜ Within (now s) (paramsOf a) × Fit (now s) 256 (paramsOf a) × SixteenAt (now s) code (a .value) × IsCode (now s) code (a .value) (paramsOf a) × (to + length (argBytes (opOf (now s) code (a .value) (paramsOf a))) ≤ length (now room)) × (now table ≡ byNumber) ⌝ }
-    ensures { λ r. ⌜ Filled (argBytes (opOf (was s) code (a .value) (paramsOf a))) to (was room) r (left room) ⌝ }
+    requires { ⌜ ArgumentFits (now s) (now table) code a (now room) to ⌝ }
+    ensures { λ r. ⌜ Filled (argumentOf (was s) code a) to (was room) r (left room) ⌝ }
 {
     match kind_of(table, code) {
         Argument::Sixteen => {

@@ -8,9 +8,8 @@ ghost use Rattle.rules.specs.Bytes.{put};
 ghost use Rattle.rules.specs.Commands.{commands, rowOf, conditionIn};
 ghost use Rattle.rules.specs.Limits.{limits};
 ghost use Rattle.rules.specs.Tables.{byNumber};
-ghost use Rattle.rules.specs.Manifest.{one};
 ghost use Rattle.rules.specs.ProgramFormat.{NONE, recordSize};
-ghost use Rattle.translate_record.specs.Record.{headBytes, JumpWrote, LeafJob, CommandWrote};
+ghost use Rattle.translate_record.specs.Record.{headBytes, JumpWrote, LeafJob, LeafWrites};
 use crate::argument::put_argument;
 use byte_buffer::put_u16;
 use manifest_accessors::arguments::component;
@@ -91,7 +90,7 @@ pub fn put_command(
     room: &mut [u8],
 ) -> WriteState
     requires { ⌜ LeafJob (now s) (now table) code at state (now room) ⌝ }
-    ensures { λ r. ⌜ ((j : LeafJob (was s) (was table) code at state (was room)) → CommandWrote (one (state .next) (j .argument .op) (j .argument .coerce)) (j .argument .to) (j .argument .n) target state (was room) r (left room)) ⌝ }
+    ensures { λ r. ⌜ LeafWrites s table code at target state room r ⌝ }
 {
     let a = read_one(s, code, at);
     let index = component(code, a.value, state.index);

@@ -1,13 +1,10 @@
 // The records of sequences and commands, written to lent room.
 ghost use mathlib.Core.Path.{_≡_};
 ghost use Prim.Native.Nat.{_+_, _≤_};
-ghost use Rattle.rules.specs.Lent.{was, left};
 ghost use Rattle.rules.specs.Limits.{limits};
-ghost use Rattle.rules.specs.Program.{flatSeq};
-ghost use mathlib.Core.Bool.{false, _&&_, cond};
+ghost use mathlib.Core.Bool.{_&&_, cond};
 ghost use Rattle.manifest_accessors.specs.Arguments.{isTrue};
-ghost use Rattle.translate_record.specs.Record.{Wrote, CommandWrote};
-ghost use Rattle.translate_sequence.specs.Write.{SequenceJob, CommandJob};
+ghost use Rattle.translate_sequence.specs.Write.{SequenceJob, CommandJob, SequenceWrites, CommandWrites};
 use manifest_accessors::arguments::COERCE_FALSE;
 use manifest_accessors::arguments::COERCE_TRUE;
 use manifest_accessors::heads::open;
@@ -66,7 +63,7 @@ pub fn write_sequence(
     room: &mut [u8],
 ) -> WriteState
     requires { ⌜ SequenceJob (now s) (now table) depth state (now room) ⌝ }
-    ensures { λ r. ⌜ ((j : SequenceJob (was s) (was table) depth state (was room)) → Wrote (flatSeq (j .place .seq) coercible (state .index) false target beyond (state .n)) state (was room) r (left room)) ⌝ }
+    ensures { λ r. ⌜ SequenceWrites s table depth coercible target beyond state room r ⌝ }
 {
     let h = open(s, state.next);
     let mut now = WriteState {
@@ -95,7 +92,7 @@ fn write_command(
     room: &mut [u8],
 ) -> WriteState
     requires { ⌜ CommandJob (now s) (now table) depth state (now room) ⌝ }
-    ensures { λ r. ⌜ ((j : CommandJob (was s) (was table) depth state (was room)) → CommandWrote (j .place .cmd) (j .place .to) (j .n) target state (was room) r (left room)) ⌝ }
+    ensures { λ r. ⌜ CommandWrites s table depth target state room r ⌝ }
 {
     let c = open(s, state.next);
     let code = c.value;
