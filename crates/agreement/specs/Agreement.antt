@@ -7,6 +7,7 @@ use Rattle.rules.specs.declared.answers.Group.{Group}
 use Rattle.rules.specs.declared.answers.Refusal.{Refusal}
 use Rattle.rules.specs.declared.answers.Refusal.the-variants.{ShortRoom, BadProgram}
 use Rattle.rules.specs.declared.controller.Controller.{Controller}
+use Rattle.rules.specs.Lent.{Lent, was, left}
 use Rattle.rules.specs.Bytes.{Bytes}
 use Rattle.rules.specs.Got.{refused, got}
 use Rattle.rules.specs.Manifest.{Manifest}
@@ -47,3 +48,9 @@ pub record Agreed (s : Bytes) (group : Group) (verdict : Bool) (device : Control
   -- answers used, every slot, the device's sequence number, every byte of the trace buffer'
   pub agree : (m : Manifest) → check s ≡ got m → length (programFor s group m) ≤ length room → pslots ≡ eslots → ptrace ≡ etrace →
       (r .program ≡ r .envelope) × (pslots′ ≡ eslots′) × (ptrace′ ≡ etrace′)
+
+-- the same of lent memory, by what it was and how it is left
+abbrev pub Agrees : Lent → Group → Bool → Controller → Lent → Lent → Lent → Lent → Lent → Lent → Agreement → Type 0
+Agrees s group verdict device answers room pslots ptrace eslots etrace r =
+    Agreed (was s) group verdict device (was answers) (was room) (left room)
+    (was pslots) (left pslots) (was ptrace) (left ptrace) (was eslots) (left eslots) (was etrace) (left etrace) r

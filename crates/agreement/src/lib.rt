@@ -1,6 +1,5 @@
 // Demand 3 over the jobs: an envelope is translated, its program is run, and the envelope itself is run.
-ghost use Rattle.rules.specs.Lent.{was, left};
-ghost use Rattle.agreement.specs.Agreement.{Agreed};
+ghost use Rattle.agreement.specs.Agreement.{Agrees};
 use program_run::run_program;
 use rules::answers::Group;
 use rules::controller::Controller;
@@ -30,7 +29,7 @@ pub fn agree(
     eslots: &mut [u8],
     etrace: &mut [u8],
 ) -> Agreement
-    ensures { λ r. ⌜ Agreed (was s) group verdict device (was answers) (was room) (left room) (was pslots) (left pslots) (was ptrace) (left ptrace) (was eslots) (left eslots) (was etrace) (left etrace) r ⌝ }
+    ensures { λ r. ⌜ Agrees s group verdict device answers room pslots ptrace eslots etrace r ⌝ }
 {
     let envelope = run(s, group, verdict, device, eslots, answers, etrace);
     let translated = translate(s, group, room);
