@@ -1,6 +1,7 @@
 -- The answers of the jobs as C has them. The numbers of refusals and ends are those that the rules' definitions `refusalNumber` and
 -- `endNumber` give each case (01: 'a definition gives this paper's number .. The promises use that definition').
 use Prim.Native.Nat.{ℕ}
+use mathlib.Core.Path.{_≡_}
 use mathlib.Core.Bool.{Bool, true, false}
 use mathlib.Core.List.{_++_}
 use lib.ListN.{length, drop, replicate}
@@ -9,16 +10,18 @@ use Rattle.rules.specs.declared.answers.Group.the-variants.{Install, Boot}
 use Rattle.rules.specs.declared.controller.Controller.{Controller}
 use Rattle.rules.specs.Limits.{places, sectionPlaces}
 use Rattle.rules.specs.Answers.{refusalNumber, endNumber}
+use Rattle.rules.specs.Lent.{Lent, was, left}
 use Rattle.rules.specs.Bytes.{Bytes}
 use Rattle.rules.specs.Got.{Got, refused, got}
 use Rattle.rules.specs.Manifest.{Manifest}
 use Rattle.rules.specs.Newer.{Newer, inFirst, inSecond}
-use Rattle.rules.specs.Run.{Ran}
+use Rattle.rules.specs.Run.{Input, Ran}
 use Rattle.component_ids.specs.Identifiers.{laid}
 use Rattle.check_manifest.specs.Sections.{placed}
 use Rattle.run_admission.specs.declared.answer.Answer.{Answer}
 use Rattle.run_admission.specs.declared.answer.Answer.the-variants as A
 use Rattle.run_admission.specs.declared.answer.Outcome.{Outcome}
+use Rattle.run_admission.specs.Answer.{inputOf, slotsAfter, traceAfter}
 use Rattle.pitvorgas.specs.declared.Device.{Device}
 use Rattle.pitvorgas.specs.declared.CheckAnswer.{CheckAnswer}
 use Rattle.pitvorgas.specs.declared.NewerAnswer.{NewerAnswer}
@@ -71,3 +74,16 @@ answerWith (A.Ran e) n = record { refusal = 0; place = e .place; end = endNumber
 
 abbrev pub answerOf : Outcome → RunAnswer
 answerOf o = answerWith (o .answer) (o .number)
+
+-- the answer and the lent room are those of the rule's answer g
+abbrev pub Translation : Got Bytes → Lent → TranslateAnswer → Type 0
+Translation g room r = (r ≡ translatedOf g) × (left room ≡ roomAfter (was room) g)
+
+-- what a run is given
+abbrev pub given : Bool → Device → Lent → Lent → Lent → Input
+given verdict device slots answers trace = inputOf verdict (controllerOf device) (was slots) (was answers) (was trace)
+
+-- the answer, the lent slots and the lent trace are those of the rule's answer g
+abbrev pub Answers : Got Ran → Device → Lent → Lent → RunAnswer → Type 0
+Answers g device slots trace r =
+    (r ≡ ranOf (controllerOf device) g) × (left slots ≡ slotsAfter (was slots) g) × (left trace ≡ traceAfter (was trace) g)

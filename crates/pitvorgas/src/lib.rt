@@ -3,14 +3,13 @@
 // (rules/specs/Answers.antt: refusalNumber, endNumber).
 ghost use mathlib.Core.Path.{_≡_};
 ghost use lib.ListN.{length};
-ghost use Rattle.rules.specs.Lent.{was, left};
+ghost use Rattle.rules.specs.Lent.{was};
 ghost use Rattle.rules.specs.Check as Check;
 ghost use Rattle.rules.specs.Newer as Newer;
 ghost use Rattle.rules.specs.Run.{runEnvelope};
 ghost use Rattle.rules.specs.Program as Program;
 ghost use Rattle.rules.specs.ProgramRun.{runProgram};
-ghost use Rattle.run_admission.specs.Answer.{inputOf, outcomeOf, slotsAfter, traceAfter};
-ghost use Rattle.pitvorgas.specs.Answers.{controllerOf, groupOf, checkedOf, newerOf, translatedOf, roomAfter, ranOf, answerOf};
+ghost use Rattle.pitvorgas.specs.Answers.{controllerOf, groupOf, checkedOf, newerOf, answerOf, Translation, given, Answers};
 use check_envelope::check;
 use check_envelope::newest::choose;
 use check_envelope::report::Checked;
@@ -179,7 +178,7 @@ pub extern "C" fn pitvorgas_translate(
     boot: bool,
     room: &mut [u8],
 ) -> TranslateAnswer
-    ensures { λ r. ⌜ (r ≡ translatedOf (Program.translate (was envelope) (groupOf boot) (length (was room)))) × (left room ≡ roomAfter (was room) (Program.translate (was envelope) (groupOf boot) (length (was room)))) ⌝ }
+    ensures { λ r. ⌜ Translation (Program.translate (was envelope) (groupOf boot) (length (was room))) room r ⌝ }
 {
     let answer = translate(envelope, group_of(boot), room);
     match answer {
@@ -206,7 +205,7 @@ pub extern "C" fn pitvorgas_run(
     answers: &[u8],
     trace: &mut [u8],
 ) -> RunAnswer
-    ensures { λ r. ⌜ (r ≡ ranOf (controllerOf device) (runEnvelope (was envelope) (groupOf boot) (inputOf verdict (controllerOf device) (was slots) (was answers) (was trace)))) × (left slots ≡ slotsAfter (was slots) (runEnvelope (was envelope) (groupOf boot) (inputOf verdict (controllerOf device) (was slots) (was answers) (was trace)))) × (left trace ≡ traceAfter (was trace) (runEnvelope (was envelope) (groupOf boot) (inputOf verdict (controllerOf device) (was slots) (was answers) (was trace)))) ⌝ }
+    ensures { λ r. ⌜ Answers (runEnvelope (was envelope) (groupOf boot) (given verdict device slots answers trace)) device slots trace r ⌝ }
 {
     let o = run(
         envelope,
@@ -229,7 +228,7 @@ pub extern "C" fn pitvorgas_run_program(
     answers: &[u8],
     trace: &mut [u8],
 ) -> RunAnswer
-    ensures { λ r. ⌜ (r ≡ ranOf (controllerOf device) (runProgram (was program) (inputOf verdict (controllerOf device) (was slots) (was answers) (was trace)))) × (left slots ≡ slotsAfter (was slots) (runProgram (was program) (inputOf verdict (controllerOf device) (was slots) (was answers) (was trace)))) × (left trace ≡ traceAfter (was trace) (runProgram (was program) (inputOf verdict (controllerOf device) (was slots) (was answers) (was trace)))) ⌝ }
+    ensures { λ r. ⌜ Answers (runProgram (was program) (given verdict device slots answers trace)) device slots trace r ⌝ }
 {
     let o = run_program(
         program,
