@@ -4,6 +4,7 @@ use mathlib.Core.Path.{_≡_}
 use mathlib.Core.Bool.{Bool, true, false, _&&_, cond}
 use mathlib.Core.List.{List, [], _∷_, _++_}
 use lib.Dec.{eqb, leb}
+use Rattle.rules.specs.Lent.{Lent, was, left}
 use Rattle.rules.specs.Bytes.{Bytes, same, put}
 use Rattle.rules.specs.Limits.{limits}
 use Rattle.rules.specs.Slots.{slotBytes, answerBytes}
@@ -224,3 +225,18 @@ pub record Took (x : Said) (d : Scenario) (slots answers : Bytes) (r : Scenario)
   pub scenario : r ≡ x .scenario
   pub slotsAre : slots′ ≡ put slots (d .slots) (x .slots)
   pub answersAre : answers′ ≡ put answers (d .answers) (x .answers)
+
+-- the answer and the lent rooms hold what a text says
+abbrev pub Holds : Said → Lent → Lent → Scenario → Type 0
+Holds x slots answers r = Describes x (was slots) (was answers) r (left slots) (left answers)
+
+-- and what one line says, beside what the lines before it said
+abbrev pub Takes : Said → Scenario → Lent → Lent → Scenario → Type 0
+Takes x d slots answers r = Took x d (was slots) (was answers) r (left slots) (left answers)
+
+-- the same of a line with a slot, and of one with an answer
+abbrev pub TakesSlot : Said → Scenario → Lent → Scenario → Type 0
+TakesSlot x d slots r = (r ≡ x .scenario) × (left slots ≡ put (was slots) (d .slots) (x .slots))
+
+abbrev pub TakesAnswer : Said → Scenario → Lent → Scenario → Type 0
+TakesAnswer x d answers r = (r ≡ x .scenario) × (left answers ≡ put (was answers) (d .answers) (x .answers))

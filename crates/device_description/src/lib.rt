@@ -4,8 +4,8 @@ ghost use mathlib.Core.Bool.{_&&_};
 ghost use Prim.Native.Nat.{_+_};
 ghost use lib.Dec.{leb};
 ghost use lib.ListN.{length};
-ghost use Rattle.rules.specs.Lent.{was, left};
-ghost use Rattle.rules.specs.Bytes.{same, put};
+ghost use Rattle.rules.specs.Lent.{was};
+ghost use Rattle.rules.specs.Bytes.{same};
 ghost use Rattle.device_description.specs.Scenario as Rule;
 ghost use Rattle.device_description.specs.Values.{flagIf, nameOf};
 use device_text::is;
@@ -207,7 +207,7 @@ fn fits(good: bool, at: usize, width: usize, length: usize) -> bool
 }
 
 fn slot_line(mut d: Scenario, n: usize, t: &[u8], slots: &mut [u8]) -> Scenario
-    ensures { λ r. ⌜ (r ≡ Rule.slotLine (length (was slots)) n d (was t) .scenario) × (left slots ≡ put (was slots) (d .slots) (Rule.slotLine (length (was slots)) n d (was t) .slots)) ⌝ }
+    ensures { λ r. ⌜ Rule.TakesSlot (Rule.slotLine (length (was slots)) n d (was t)) d slots r ⌝ }
 {
     let at = d.slots;
     if !fits(is_slot(t), at, SLOT_BYTES, slots.len()) {
@@ -219,7 +219,7 @@ fn slot_line(mut d: Scenario, n: usize, t: &[u8], slots: &mut [u8]) -> Scenario
 }
 
 fn answer_line(mut d: Scenario, n: usize, t: &[u8], answers: &mut [u8]) -> Scenario
-    ensures { λ r. ⌜ (r ≡ Rule.answerLine (length (was answers)) n d (was t) .scenario) × (left answers ≡ put (was answers) (d .answers) (Rule.answerLine (length (was answers)) n d (was t) .answers)) ⌝ }
+    ensures { λ r. ⌜ Rule.TakesAnswer (Rule.answerLine (length (was answers)) n d (was t)) d answers r ⌝ }
 {
     let at = d.answers;
     if !fits(is_answer(t), at, IMAGE_BYTES, answers.len()) {
@@ -242,7 +242,7 @@ fn passed(l: &[u8]) -> bool
 
 // One line.
 fn take_line(d: Scenario, n: usize, l: &[u8], slots: &mut [u8], answers: &mut [u8]) -> Scenario
-    ensures { λ r. ⌜ Rule.Took (Rule.line (length (was slots)) (length (was answers)) n d (was l)) d (was slots) (was answers) r (left slots) (left answers) ⌝ }
+    ensures { λ r. ⌜ Rule.Takes (Rule.line (length (was slots)) (length (was answers)) n d (was l)) d slots answers r ⌝ }
 {
     if passed(l) {
         return d;
@@ -260,7 +260,7 @@ fn take_line(d: Scenario, n: usize, l: &[u8], slots: &mut [u8], answers: &mut [u
 
 // A description, whatever its bytes. Slots and answers are put into the lent rooms, each from the start; more than fit are refused as a line is.
 pub fn describe(text: &[u8], slots: &mut [u8], answers: &mut [u8]) -> Scenario
-    ensures { λ r. ⌜ Rule.Describes (Rule.described (length (was slots)) (length (was answers)) (was text)) (was slots) (was answers) r (left slots) (left answers) ⌝ }
+    ensures { λ r. ⌜ Rule.Holds (Rule.described (length (was slots)) (length (was answers)) (was text)) slots answers r ⌝ }
 {
     let mut d = start();
     let mut n = 1;
