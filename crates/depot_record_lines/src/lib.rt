@@ -8,7 +8,8 @@ ghost use Rattle.rules.specs.ProgramFormat.{recordSize as ProgramFormat·record
 ghost use Rattle.text.specs.Text.{Writes};
 ghost use Rattle.text_names.specs.Words.{wide as Words·wide};
 ghost use Rattle.rules.specs.Bytes.{twoAt};
-ghost use Rattle.depot_record_lines.specs.Lines.{column, nameText, lineText, targetText, failureText, jumpText, recordSize, commandText, recordText, recordsText};
+ghost use Rattle.depot_record_lines.specs.Lines.{column, nameText, lineText, targetText, failureText, jumpText};
+ghost use Rattle.depot_record_lines.specs.Lines.{recordSize, commandText, recordText, recordsText};
 use byte_buffer::two;
 use byte_buffer::wide;
 use depot_argument_lines::put_argument;

@@ -3,7 +3,8 @@
 ghost use mathlib.Core.Path.{_≡_};
 ghost use Rattle.rules.specs.Lent.{was, left};
 ghost use Rattle.rules_tables.specs.Kinds.{kindOf};
-ghost use Rattle.depot_show.specs.Shown.{holdsSequence, Shows, stopped, parametersShown, nestedShown, alternativesShown, commandShown, commandsShown, sequenceShown};
+ghost use Rattle.depot_show.specs.Shown.{holdsSequence, Shows, stopped};
+ghost use Rattle.depot_show.specs.Shown.{parametersShown, nestedShown, alternativesShown, commandShown, commandsShown, sequenceShown};
 use depot_items::line::NEWLINE;
 use depot_items::line::put_alternative;
 use depot_items::line::put_argument;
