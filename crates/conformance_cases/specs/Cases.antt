@@ -49,9 +49,13 @@ abbrev pub ranWith : Bytes → Bytes → Bytes → Got Ran → Bytes
 ranWith head slots trace g =
     ranLine (ranOf (controllerOf (deviceOf head)) g) slots (slotsAfter slots g) (getD head fillFrom 0) (traceAfter trace g)
 
+-- a run with a trace of n bytes, filled with the head's value
+abbrev pub runFilled : Bool → Bytes → Bytes → Bytes → Bytes → ℕ → Bytes
+runFilled program head slots answers s n =
+    let trace = replicate n (getD head fillFrom 0) in ranWith head slots trace (ranBy program head s slots answers trace)
+
 unfoldable pub runLine : Bool → Bytes → Bytes → Bytes → Bytes → Bytes
-runLine program head slots answers s =
-    ranWith head slots (replicate (twoAt head traceFrom) (getD head fillFrom 0)) (ranBy program head s slots answers (replicate (twoAt head traceFrom) (getD head fillFrom 0)))
+runLine program head slots answers s = runFilled program head slots answers s (twoAt head traceFrom)
 
 unfoldable pub newerCase : Bytes → Bytes
 newerCase b =

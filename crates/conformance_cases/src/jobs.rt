@@ -1,13 +1,12 @@
 // The jobs, each with memory of its own, and the line of its answer.
 ghost use mathlib.Core.Path.{_≡_};
 ghost use Prim.Native.Nat.{_<_};
-ghost use lib.ListN.{length, getD, replicate};
-ghost use Rattle.rules.specs.Lent.{was, left};
-ghost use Rattle.text.specs.Text.{Writes, Wrote};
-ghost use Rattle.run_admission.specs.Answer.{slotsAfter, traceAfter};
-ghost use Rattle.pitvorgas.specs.Answers.{controllerOf, ranOf};
-ghost use Rattle.conformance_cases.specs.Fields.{fillFrom, runHead, deviceOf};
-ghost use Rattle.conformance_cases.specs.Cases.{checkLine, newerLine, translateLine, ranBy, ranWith, runLine};
+ghost use lib.ListN.{length};
+ghost use Rattle.rules.specs.Lent.{was};
+ghost use Rattle.text.specs.Text.{Writes};
+ghost use Rattle.pitvorgas.specs.Answers.{Answers};
+ghost use Rattle.conformance_cases.specs.Fields.{runHead, deviceOf};
+ghost use Rattle.conformance_cases.specs.Cases.{checkLine, newerLine, translateLine, ranBy, runFilled, runLine};
 use crate::fields::FILL;
 use crate::fields::GROUP;
 use crate::fields::TRACE;
@@ -68,7 +67,7 @@ fn run_by(
     trace: &mut [u8],
 ) -> RunAnswer
     requires { ⌜ length (now head) ≡ runHead ⌝ }
-    ensures { λ r. ⌜ (r ≡ ranOf (controllerOf (deviceOf (was head))) (ranBy program (was head) (was s) (was slots) (was answers) (was trace))) × (left slots ≡ slotsAfter (was slots) (ranBy program (was head) (was s) (was slots) (was answers) (was trace))) × (left trace ≡ traceAfter (was trace) (ranBy program (was head) (was s) (was slots) (was answers) (was trace))) ⌝ }
+    ensures { λ r. ⌜ Answers (ranBy program (was head) (was s) (was slots) (was answers) (was trace)) (deviceOf (was head)) slots trace r ⌝ }
 {
     let device = device_of(head);
     let verdict = head[VERDICT] != 0;
@@ -91,7 +90,7 @@ fn run_with(
     room: &mut [u8],
 ) -> usize
     requires { ⌜ (length (now head) ≡ runHead) × (length (now slots) ≡ length (now before)) ⌝ }
-    ensures { λ r. ⌜ Wrote (ranWith (was head) (was before) (replicate (length (was trace)) (getD (was head) fillFrom 0)) (ranBy program (was head) (was s) (was before) (was answers) (replicate (length (was trace)) (getD (was head) fillFrom 0)))) 0 (was room) r (left room) ⌝ }
+    ensures { λ r. ⌜ Writes (runFilled program (was head) (was before) (was answers) (was s) (length (was trace))) 0 room r ⌝ }
 {
     put(slots, 0, before);
     let x = head[FILL];
