@@ -8,7 +8,9 @@ use Rattle.manifest_accessors.proofs.PlaceLaws.{remaining}
 use Rattle.translate_size.specs.Size.{SequenceHere, CommandHere}
 use Rattle.translate_size.proofs.KindTests.{runs, runs-not, tries, tries-not}
 use Rattle.translate_size.proofs.SequenceSizes.{Commands, sequence-head, sequence-deep, commands-start, command-here, commands-small, commands-on, commands-done}
-use Rattle.translate_size.proofs.CommandSizes.{Choices, starts, command-head, sub-head, sub-later, sub-here, sub-fits, sub-sized, one-here, one-small, one-sized, tries-head, tries-some, choices-start, choice-head, choice-later, choice-here, choice-fits, choices-small, choices-on, choices-done}
+use Rattle.translate_size.proofs.CommandSizes.{Choices, starts, command-head, sub-head, sub-later, sub-here, sub-fits, sub-sized, one-here}
+use Rattle.translate_size.proofs.CommandSizes.{one-small, one-sized, tries-head, tries-some, choices-start, choice-head, choice-later}
+use Rattle.translate_size.proofs.CommandSizes.{choice-here, choice-fits, choices-small, choices-on, choices-done}
 use Rattle.translate_size.proofs.sizes.size_command.Reads as size-command
 use Rattle.translate_size.proofs.sizes.size_command.Kinds as size-command-kinds
 use Rattle.translate_size.proofs.sizes.+size_command+size_sequence.Lts-size_command as size-command-lts
@@ -56,7 +58,22 @@ size-sequence-below t =
 
 -- what size-command knows of what it calls
 abbrev size-command-callees : ℕ → size-command-lts.Claims
-size-command-callees t = (open-reads.Asked, open-reads.Learnt, kind-of-reads.Asked, kind-of-reads.Learnt, holds-sequence-reads.Asked, holds-sequence-reads.Learnt, size-sequence-below t, size-sequence.Post, holds-alternatives-reads.Asked, holds-alternatives-reads.Learnt, read-one-reads.Asked, read-one-reads.Learnt, argument-size-reads.Asked, argument-size-reads.Learnt)
+size-command-callees t = (
+  open-reads.Asked,
+  open-reads.Learnt,
+  kind-of-reads.Asked,
+  kind-of-reads.Learnt,
+  holds-sequence-reads.Asked,
+  holds-sequence-reads.Learnt,
+  size-sequence-below t,
+  size-sequence.Post,
+  holds-alternatives-reads.Asked,
+  holds-alternatives-reads.Learnt,
+  read-one-reads.Asked,
+  read-one-reads.Learnt,
+  argument-size-reads.Asked,
+  argument-size-reads.Learnt,
+)
 
 -- what size-sequence knows of what it calls
 abbrev size-sequence-callees : ℕ → size-sequence-lts.Claims
@@ -68,13 +85,42 @@ size-command-Inv-loop s table depth at code left₀ now₀ left now = (j : Comma
 abbrev size-command-μ-loop : size-command-lts.MeasureT-loop
 size-command-μ-loop s table depth at code left₀ now₀ left now = left
 
+-- back to the entry of a command, from where the command's kind was read
+abbrev to-entry :
+    {t : ℕ} →
+    size-command-lts.After-holds-sequence (size-command-callees t) (size-command-at t) size-command.Post size-command-Inv-loop size-command-μ-loop →
+    size-command-lts.Start (size-command-callees t) (size-command-at t) size-command.Post size-command-Inv-loop size-command-μ-loop
+to-entry c = c .before .before .before .before
+
+-- back to where the command's kind was read, from where it was asked whether it has alternatives
+abbrev to-kinds :
+    {t : ℕ} →
+    size-command-lts.After-holds-alternatives (size-command-callees t) (size-command-at t) size-command.Post size-command-Inv-loop size-command-μ-loop →
+    size-command-lts.After-holds-sequence (size-command-callees t) (size-command-at t) size-command.Post size-command-Inv-loop size-command-μ-loop
+to-kinds c = c .before .before
+
+-- back to where it was asked whether it has alternatives, from where the head of an alternative was read
+abbrev to-choices :
+    {t : ℕ} →
+    size-command-lts.After-open4 (size-command-callees t) (size-command-at t) size-command.Post size-command-Inv-loop size-command-μ-loop →
+    size-command-lts.After-holds-alternatives (size-command-callees t) (size-command-at t) size-command.Post size-command-Inv-loop size-command-μ-loop
+to-choices c = c .before .before .before .before .before
+
+-- back to where the head of an alternative was read, from where the sizes so far were known
+abbrev to-opened :
+    {t : ℕ} →
+    size-command-lts.After-struct-known2 (size-command-callees t) (size-command-at t) size-command.Post size-command-Inv-loop size-command-μ-loop →
+    size-command-lts.After-open4 (size-command-callees t) (size-command-at t) size-command.Post size-command-Inv-loop size-command-μ-loop
+to-opened c = c .before .before
+
 size-command-open-requires : (t : ℕ) → size-command-lts.Need-open-requires (size-command-callees t) (size-command-at t) size-command.Post size-command-Inv-loop size-command-μ-loop
 size-command-open-requires t c κs = command-head _ _ _ _ (c .before .pre .1)
 
 size-command-kind-of-requires : (t : ℕ) → size-command-lts.Need-kind-of-requires (size-command-callees t) (size-command-at t) size-command.Post size-command-Inv-loop size-command-μ-loop
 size-command-kind-of-requires t c κs = c .before .before .pre .1 .rows
 
-size-command-holds-sequence-requires : (t : ℕ) → size-command-lts.Need-holds-sequence-requires (size-command-callees t) (size-command-at t) size-command.Post size-command-Inv-loop size-command-μ-loop
+size-command-holds-sequence-requires :
+    (t : ℕ) → size-command-lts.Need-holds-sequence-requires (size-command-callees t) (size-command-at t) size-command.Post size-command-Inv-loop size-command-μ-loop
 size-command-holds-sequence-requires t c κs = search needs
 
 size-command-open-requires-2 : (t : ℕ) → size-command-lts.Need-open-requires-2 (size-command-callees t) (size-command-at t) size-command.Post size-command-Inv-loop size-command-μ-loop
@@ -84,91 +130,109 @@ size-command-open-requires-2 t c κs =
     let z = runs _ _ (c .before .before .kind-of .ensures) _ (c .before .holds-sequence .ensures) (c .if1 .taken) in
     sub-head _ _ _ _ j _ _ h z
 
-size-command-size-sequence-requires : (t : ℕ) → size-command-lts.Need-size-sequence-requires (size-command-callees t) (size-command-at t) size-command.Post size-command-Inv-loop size-command-μ-loop
+size-command-size-sequence-requires :
+    (t : ℕ) → size-command-lts.Need-size-sequence-requires (size-command-callees t) (size-command-at t) size-command.Post size-command-Inv-loop size-command-μ-loop
 size-command-size-sequence-requires t c κs =
-    let j = c .before .before .before .before .before .before .pre .1 in
+    let entry = to-entry (c .before .before) in
+    let j = entry .pre .1 in
     let h = c .before .before .before .before .«open» .ensures (command-head _ _ _ _ j) in
     let z = runs _ _ (c .before .before .before .kind-of .ensures) _ (c .before .before .holds-sequence .ensures) (c .before .if1 .taken) in
     let o = c .open2 .ensures (sub-head _ _ _ _ j _ _ h z) in
-    (omega (arith, c .before .before .before .before .before .before .pre .0, starts _ _ _ _ j, sub-later _ _ _ _ j _ _ h z _ _ o), sub-here _ _ _ _ j _ _ h z _ _ o)
+    (omega (arith, entry .pre .0, starts _ _ _ _ j, sub-later _ _ _ _ j _ _ h z _ _ o), sub-here _ _ _ _ j _ _ h z _ _ o)
 
 size-command-add-t17 : (t : ℕ) → size-command-lts.Need-add-t17 (size-command-callees t) (size-command-at t) size-command.Post size-command-Inv-loop size-command-μ-loop
 size-command-add-t17 t c =
-    let j = c .before .before .before .before .before .before .before .before .pre .1 in
-    let h = c .before .before .before .before .before .before .«open» .ensures (command-head _ _ _ _ j) in
-    let z = runs _ _ (c .before .before .before .before .before .kind-of .ensures) _ (c .before .before .before .before .holds-sequence .ensures) (c .before .before .before .if1 .taken) in
+    let kinds = c .before .before .before .before in
+    let entry = to-entry kinds in
+    let j = entry .pre .1 in
+    let h = kinds .before .before .«open» .ensures (command-head _ _ _ _ j) in
+    let z = runs _ _ (kinds .before .kind-of .ensures) _ (kinds .holds-sequence .ensures) (c .before .before .before .if1 .taken) in
     let o = c .before .before .open2 .ensures (sub-head _ _ _ _ j _ _ h z) in
-    omega (arith, c .before .before .before .before .before .before .before .before .good .0, c .before .before .before .before .before .before .before .before .fits, sub-fits _ _ _ _ j _ _ h z, o .0, o .1)
+    omega (arith, entry .good .0, entry .fits, sub-fits _ _ _ _ j _ _ h z, o .0, o .1)
 
 size-command-returns : (t : ℕ) → size-command-lts.Need-returns (size-command-callees t) (size-command-at t) size-command.Post size-command-Inv-loop size-command-μ-loop
-size-command-returns t c = λ j.
-    let h = c .before .before .before .before .before .before .«open» .ensures (command-head _ _ _ _ j) in
-    let z = runs _ _ (c .before .before .before .before .before .kind-of .ensures) _ (c .before .before .before .before .holds-sequence .ensures) (c .before .before .before .if1 .taken) in
+size-command-returns t c =
+    let kinds = c .before .before .before .before in
+    λ j.
+    let h = kinds .before .before .«open» .ensures (command-head _ _ _ _ j) in
+    let z = runs _ _ (kinds .before .kind-of .ensures) _ (kinds .holds-sequence .ensures) (c .before .before .before .if1 .taken) in
     let o = c .before .before .open2 .ensures (sub-head _ _ _ _ j _ _ h z) in
     sub-sized _ _ _ _ j _ _ h z _ _ o _ (c .before .size-sequence .ensures (sub-here _ _ _ _ j _ _ h z _ _ o))
 
-size-command-holds-alternatives-requires : (t : ℕ) → size-command-lts.Need-holds-alternatives-requires (size-command-callees t) (size-command-at t) size-command.Post size-command-Inv-loop size-command-μ-loop
+size-command-holds-alternatives-requires :
+    (t : ℕ) → size-command-lts.Need-holds-alternatives-requires (size-command-callees t) (size-command-at t) size-command.Post size-command-Inv-loop size-command-μ-loop
 size-command-holds-alternatives-requires t c κs = search needs
 
 size-command-open-requires-3 : (t : ℕ) → size-command-lts.Need-open-requires-3 (size-command-callees t) (size-command-at t) size-command.Post size-command-Inv-loop size-command-μ-loop
 size-command-open-requires-3 t c κs =
-    let j = c .before .before .before .before .before .before .before .pre .1 in
-    let h = c .before .before .before .before .before .«open» .ensures (command-head _ _ _ _ j) in
-    let y = tries _ _ (c .before .before .before .before .kind-of .ensures) _ (c .before .holds-alternatives .ensures) (c .if2 .taken) in
+    let kinds = to-kinds (c .before) in
+    let j = to-entry kinds .pre .1 in
+    let h = kinds .before .before .«open» .ensures (command-head _ _ _ _ j) in
+    let y = tries _ _ (kinds .before .kind-of .ensures) _ (c .before .holds-alternatives .ensures) (c .if2 .taken) in
     tries-head _ _ _ _ j _ _ h y
 
 size-command-sub-t19 : (t : ℕ) → size-command-lts.Need-sub-t19 (size-command-callees t) (size-command-at t) size-command.Post size-command-Inv-loop size-command-μ-loop
 size-command-sub-t19 t c =
-    let j = c .before .before .before .before .before .before .before .before .pre .1 in
-    let h = c .before .before .before .before .before .before .«open» .ensures (command-head _ _ _ _ j) in
-    let y = tries _ _ (c .before .before .before .before .before .kind-of .ensures) _ (c .before .before .holds-alternatives .ensures) (c .before .if2 .taken) in
+    let kinds = to-kinds (c .before .before) in
+    let j = to-entry kinds .pre .1 in
+    let h = kinds .before .before .«open» .ensures (command-head _ _ _ _ j) in
+    let y = tries _ _ (kinds .before .kind-of .ensures) _ (c .before .before .holds-alternatives .ensures) (c .before .if2 .taken) in
     let o = c .open3 .ensures (tries-head _ _ _ _ j _ _ h y) in
     omega (arith, tries-some _ _ _ _ j _ _ h y _ _ o)
 
 size-command-loop-holds : (t : ℕ) → size-command-lts.Need-loop-holds (size-command-callees t) (size-command-at t) size-command.Post size-command-Inv-loop size-command-μ-loop
-size-command-loop-holds t c = λ j.
-    let h = c .before .before .before .before .before .before .«open» .ensures (command-head _ _ _ _ j) in
-    let y = tries _ _ (c .before .before .before .before .before .kind-of .ensures) _ (c .before .before .holds-alternatives .ensures) (c .before .if2 .taken) in
+size-command-loop-holds t c =
+    let kinds = to-kinds (c .before .before) in
+    λ j.
+    let h = kinds .before .before .«open» .ensures (command-head _ _ _ _ j) in
+    let y = tries _ _ (kinds .before .kind-of .ensures) _ (c .before .before .holds-alternatives .ensures) (c .before .if2 .taken) in
     let o = c .open3 .ensures (tries-head _ _ _ _ j _ _ h y) in
     choices-start _ _ _ _ j _ _ h y _ _ o
 
 size-command-open-requires-4 : (t : ℕ) → size-command-lts.Need-open-requires-4 (size-command-callees t) (size-command-at t) size-command.Post size-command-Inv-loop size-command-μ-loop
 size-command-open-requires-4 t c κs =
-    let l = c .before .loop .inv (c .before .before .before .before .before .before .before .before .before .before .pre .1) in
+    let l = c .before .loop .inv (to-entry (to-kinds (c .before .before .before .before)) .pre .1) in
     let m = c .loop-test .taken in
     choice-head _ _ _ _ _ _ _ _ l m
 
-size-command-size-sequence-requires-2 : (t : ℕ) → size-command-lts.Need-size-sequence-requires-2 (size-command-callees t) (size-command-at t) size-command.Post size-command-Inv-loop size-command-μ-loop
+size-command-size-sequence-requires-2 :
+    (t : ℕ) → size-command-lts.Need-size-sequence-requires-2 (size-command-callees t) (size-command-at t) size-command.Post size-command-Inv-loop size-command-μ-loop
 size-command-size-sequence-requires-2 t c κs =
-    let j = c .before .before .before .before .before .before .before .before .before .before .before .pre .1 in
+    let entry = to-entry (to-kinds (to-choices c)) in
+    let j = entry .pre .1 in
     let l = c .before .before .loop .inv j in
     let m = c .before .loop-test .taken in
     let o = c .open4 .ensures (choice-head _ _ _ _ _ _ _ _ l m) in
-    (omega (arith, c .before .before .before .before .before .before .before .before .before .before .before .pre .0, starts _ _ _ _ j, choice-later _ _ _ _ _ _ _ _ l m _ _ o), choice-here _ _ _ _ _ _ _ _ l m _ _ o)
+    (omega (arith, entry .pre .0, starts _ _ _ _ j, choice-later _ _ _ _ _ _ _ _ l m _ _ o), choice-here _ _ _ _ _ _ _ _ l m _ _ o)
 
 size-command-add-t21 : (t : ℕ) → size-command-lts.Need-add-t21 (size-command-callees t) (size-command-at t) size-command.Post size-command-Inv-loop size-command-μ-loop
 size-command-add-t21 t c =
-    let j = c .before .before .before .before .before .before .before .before .before .before .before .before .before .pre .1 in
-    let l = c .before .before .before .before .loop .inv j in
-    let m = c .before .before .before .loop-test .taken in
+    let opened = to-opened c in
+    let entry = to-entry (to-kinds (to-choices opened)) in
+    let j = entry .pre .1 in
+    let l = opened .before .before .loop .inv j in
+    let m = opened .before .loop-test .taken in
     let o = c .before .before .open4 .ensures (choice-head _ _ _ _ _ _ _ _ l m) in
-    omega (arith, c .before .before .before .before .before .before .before .before .before .before .before .before .before .good .0, c .before .before .before .before .before .before .before .before .before .before .before .before .before .fits, choice-fits _ _ _ _ _ _ _ _ l m, o .0, o .1)
+    omega (arith, entry .good .0, entry .fits, choice-fits _ _ _ _ _ _ _ _ l m, o .0, o .1)
 
 size-command-add-t22 : (t : ℕ) → size-command-lts.Need-add-t22 (size-command-callees t) (size-command-at t) size-command.Post size-command-Inv-loop size-command-μ-loop
 size-command-add-t22 t c =
-    let j = c .before .before .before .before .before .before .before .before .before .before .before .before .before .before .before .pre .1 in
-    let l = c .before .before .before .before .before .before .loop .inv j in
-    let m = c .before .before .before .before .before .loop-test .taken in
-    let o = c .before .before .before .before .open4 .ensures (choice-head _ _ _ _ _ _ _ _ l m) in
+    let opened = to-opened (c .before .before) in
+    let j = to-entry (to-kinds (to-choices opened)) .pre .1 in
+    let l = opened .before .before .loop .inv j in
+    let m = opened .before .loop-test .taken in
+    let o = opened .open4 .ensures (choice-head _ _ _ _ _ _ _ _ l m) in
     omega (arith, choices-small _ _ _ _ _ _ _ _ l m _ _ o _ (c .before .before .before .size-sequence2 .ensures (choice-here _ _ _ _ _ _ _ _ l m _ _ o)) .0)
 
 size-command-add-t23 : (t : ℕ) → size-command-lts.Need-add-t23 (size-command-callees t) (size-command-at t) size-command.Post size-command-Inv-loop size-command-μ-loop
 size-command-add-t23 t c =
-    let j = c .before .before .before .before .before .before .before .before .before .before .before .before .before .before .before .before .before .pre .1 in
-    let l = c .before .before .before .before .before .before .before .before .loop .inv j in
-    let m = c .before .before .before .before .before .before .before .loop-test .taken in
-    let o = c .before .before .before .before .before .before .open4 .ensures (choice-head _ _ _ _ _ _ _ _ l m) in
-    omega (arith, choices-small _ _ _ _ _ _ _ _ l m _ _ o _ (c .before .before .before .before .before .size-sequence2 .ensures (choice-here _ _ _ _ _ _ _ _ l m _ _ o)) .1)
+    let known = c .before .before .before .before in
+    let opened = to-opened known in
+    let j = to-entry (to-kinds (to-choices opened)) .pre .1 in
+    let l = opened .before .before .loop .inv j in
+    let m = opened .before .loop-test .taken in
+    let o = opened .open4 .ensures (choice-head _ _ _ _ _ _ _ _ l m) in
+    omega (arith, choices-small _ _ _ _ _ _ _ _ l m _ _ o _ (known .before .size-sequence2 .ensures (choice-here _ _ _ _ _ _ _ _ l m _ _ o)) .1)
 
 size-command-sub-left : (t : ℕ) → size-command-lts.Need-sub-left (size-command-callees t) (size-command-at t) size-command.Post size-command-Inv-loop size-command-μ-loop
 size-command-sub-left t c = search needs
@@ -177,37 +241,46 @@ size-command-loop-less : (t : ℕ) → size-command-lts.Need-loop-less (size-com
 size-command-loop-less t c = search needs
 
 size-command-loop-again : (t : ℕ) → size-command-lts.Need-loop-again (size-command-callees t) (size-command-at t) size-command.Post size-command-Inv-loop size-command-μ-loop
-size-command-loop-again t c = λ j.
-    let l = c .before .before .before .before .before .before .before .before .loop .inv j in
-    let m = c .before .before .before .before .before .before .before .loop-test .taken in
-    let o = c .before .before .before .before .before .before .open4 .ensures (choice-head _ _ _ _ _ _ _ _ l m) in
-    choices-on _ _ _ _ _ _ _ _ l m _ _ o _ (c .before .before .before .before .before .size-sequence2 .ensures (choice-here _ _ _ _ _ _ _ _ l m _ _ o))
+size-command-loop-again t c =
+    let known = c .before .before .before .before in
+    let opened = to-opened known in
+    λ j.
+    let l = opened .before .before .loop .inv j in
+    let m = opened .before .loop-test .taken in
+    let o = opened .open4 .ensures (choice-head _ _ _ _ _ _ _ _ l m) in
+    choices-on _ _ _ _ _ _ _ _ l m _ _ o _ (known .before .size-sequence2 .ensures (choice-here _ _ _ _ _ _ _ _ l m _ _ o))
 
 size-command-returns-2 : (t : ℕ) → size-command-lts.Need-returns-2 (size-command-callees t) (size-command-at t) size-command.Post size-command-Inv-loop size-command-μ-loop
 size-command-returns-2 t c = λ j. choices-done _ _ _ _ _ _ _ _ (c .before .loop .inv j) (omega (arith, c .loop-test .left))
 
 size-command-read-one-requires : (t : ℕ) → size-command-lts.Need-read-one-requires (size-command-callees t) (size-command-at t) size-command.Post size-command-Inv-loop size-command-μ-loop
 size-command-read-one-requires t c κs =
-    let j = c .before .before .before .before .before .before .before .pre .1 in
-    let h = c .before .before .before .before .before .«open» .ensures (command-head _ _ _ _ j) in
-    let z = runs-not _ _ (c .before .before .before .before .kind-of .ensures) _ (c .before .before .before .holds-sequence .ensures) (c .before .before .if1 .left) in
-    let y = tries-not _ _ (c .before .before .before .before .kind-of .ensures) _ (c .before .holds-alternatives .ensures) (c .if2 .left) in
+    let kinds = to-kinds (c .before) in
+    let j = to-entry kinds .pre .1 in
+    let h = kinds .before .before .«open» .ensures (command-head _ _ _ _ j) in
+    let z = runs-not _ _ (kinds .before .kind-of .ensures) _ (kinds .holds-sequence .ensures) (c .before .before .if1 .left) in
+    let y = tries-not _ _ (kinds .before .kind-of .ensures) _ (c .before .holds-alternatives .ensures) (c .if2 .left) in
     one-here _ _ _ _ j _ _ h z y
 
-size-command-argument-size-requires : (t : ℕ) → size-command-lts.Need-argument-size-requires (size-command-callees t) (size-command-at t) size-command.Post size-command-Inv-loop size-command-μ-loop
+size-command-argument-size-requires :
+    (t : ℕ) → size-command-lts.Need-argument-size-requires (size-command-callees t) (size-command-at t) size-command.Post size-command-Inv-loop size-command-μ-loop
 size-command-argument-size-requires t c κs =
-    let j = c .before .before .before .before .before .before .before .before .pre .1 in
-    let h = c .before .before .before .before .before .before .«open» .ensures (command-head _ _ _ _ j) in
-    let z = runs-not _ _ (c .before .before .before .before .before .kind-of .ensures) _ (c .before .before .before .before .holds-sequence .ensures) (c .before .before .before .if1 .left) in
-    let y = tries-not _ _ (c .before .before .before .before .before .kind-of .ensures) _ (c .before .before .holds-alternatives .ensures) (c .before .if2 .left) in
-    one-small _ _ _ _ j _ _ h z y _ (c .read-one .ensures (one-here _ _ _ _ j _ _ h z y)) _ (c .before .before .before .before .before .kind-of .ensures)
+    let kinds = to-kinds (c .before .before) in
+    let j = to-entry kinds .pre .1 in
+    let h = kinds .before .before .«open» .ensures (command-head _ _ _ _ j) in
+    let z = runs-not _ _ (kinds .before .kind-of .ensures) _ (kinds .holds-sequence .ensures) (c .before .before .before .if1 .left) in
+    let y = tries-not _ _ (kinds .before .kind-of .ensures) _ (c .before .before .holds-alternatives .ensures) (c .before .if2 .left) in
+    one-small _ _ _ _ j _ _ h z y _ (c .read-one .ensures (one-here _ _ _ _ j _ _ h z y)) _ (kinds .before .kind-of .ensures)
 
 size-command-returns-3 : (t : ℕ) → size-command-lts.Need-returns-3 (size-command-callees t) (size-command-at t) size-command.Post size-command-Inv-loop size-command-μ-loop
-size-command-returns-3 t c = λ j.
-    let h = c .before .before .before .before .before .before .before .«open» .ensures (command-head _ _ _ _ j) in
-    let z = runs-not _ _ (c .before .before .before .before .before .before .kind-of .ensures) _ (c .before .before .before .before .before .holds-sequence .ensures) (c .before .before .before .before .if1 .left) in
-    let y = tries-not _ _ (c .before .before .before .before .before .before .kind-of .ensures) _ (c .before .before .before .holds-alternatives .ensures) (c .before .before .if2 .left) in
-    one-sized _ _ _ _ j _ _ h z y _ (c .before .read-one .ensures (one-here _ _ _ _ j _ _ h z y)) _ (c .before .before .before .before .before .before .kind-of .ensures) _ (c .argument-size .ensures)
+size-command-returns-3 t c =
+    let choices = c .before .before .before in
+    let kinds = to-kinds choices in
+    λ j.
+    let h = kinds .before .before .«open» .ensures (command-head _ _ _ _ j) in
+    let z = runs-not _ _ (kinds .before .kind-of .ensures) _ (kinds .holds-sequence .ensures) (choices .before .if1 .left) in
+    let y = tries-not _ _ (kinds .before .kind-of .ensures) _ (choices .holds-alternatives .ensures) (c .before .before .if2 .left) in
+    one-sized _ _ _ _ j _ _ h z y _ (c .before .read-one .ensures (one-here _ _ _ _ j _ _ h z y)) _ (kinds .before .kind-of .ensures) _ (c .argument-size .ensures)
 
 abbrev size-sequence-Inv-loop : size-sequence-lts.InvT-loop
 size-sequence-Inv-loop s table depth at now₀ left₀ now left = (j : SequenceHere s table depth at) → Commands s table (depth - 1) at (j .place .seq) left now
@@ -215,16 +288,32 @@ size-sequence-Inv-loop s table depth at now₀ left₀ now left = (j : SequenceH
 abbrev size-sequence-μ-loop : size-sequence-lts.MeasureT-loop
 size-sequence-μ-loop s table depth at now₀ left₀ now left = left
 
+-- back to the entry of a sequence, from the head of the loop over its commands
+abbrev sequence-to-entry :
+    {t : ℕ} →
+    size-sequence-lts.At-loop (size-sequence-callees t) (size-sequence-at t) size-sequence.Post size-sequence-Inv-loop size-sequence-μ-loop →
+    size-sequence-lts.Start (size-sequence-callees t) (size-sequence-at t) size-sequence.Post size-sequence-Inv-loop size-sequence-μ-loop
+sequence-to-entry c = c .before .before .before .before
+
+-- back to the head of the loop over its commands, from where a command was sized
+abbrev sequence-to-turns :
+    {t : ℕ} →
+    size-sequence-lts.After-size-command (size-sequence-callees t) (size-sequence-at t) size-sequence.Post size-sequence-Inv-loop size-sequence-μ-loop →
+    size-sequence-lts.At-loop (size-sequence-callees t) (size-sequence-at t) size-sequence.Post size-sequence-Inv-loop size-sequence-μ-loop
+sequence-to-turns c = c .before .before
+
 size-sequence-open-requires : (t : ℕ) → size-sequence-lts.Need-open-requires (size-sequence-callees t) (size-sequence-at t) size-sequence.Post size-sequence-Inv-loop size-sequence-μ-loop
 size-sequence-open-requires t c κs = sequence-head _ _ _ _ (c .before .pre .1)
 
 size-sequence-loop-holds : (t : ℕ) → size-sequence-lts.Need-loop-holds (size-sequence-callees t) (size-sequence-at t) size-sequence.Post size-sequence-Inv-loop size-sequence-μ-loop
 size-sequence-loop-holds t c = λ j. commands-start _ _ _ _ j _ _ (c .before .«open» .ensures (sequence-head _ _ _ _ j))
 
-size-sequence-sub-size-command : (t : ℕ) → size-sequence-lts.Need-sub-size-command (size-sequence-callees t) (size-sequence-at t) size-sequence.Post size-sequence-Inv-loop size-sequence-μ-loop
+size-sequence-sub-size-command :
+    (t : ℕ) → size-sequence-lts.Need-sub-size-command (size-sequence-callees t) (size-sequence-at t) size-sequence.Post size-sequence-Inv-loop size-sequence-μ-loop
 size-sequence-sub-size-command t c = omega (arith, sequence-deep _ _ _ _ (c .before .before .before .before .before .pre .1))
 
-size-sequence-size-command-requires : (t : ℕ) → size-sequence-lts.Need-size-command-requires (size-sequence-callees t) (size-sequence-at t) size-sequence.Post size-sequence-Inv-loop size-sequence-μ-loop
+size-sequence-size-command-requires :
+    (t : ℕ) → size-sequence-lts.Need-size-command-requires (size-sequence-callees t) (size-sequence-at t) size-sequence.Post size-sequence-Inv-loop size-sequence-μ-loop
 size-sequence-size-command-requires t c κs =
     let l = c .before .loop .inv (c .before .before .before .before .before .pre .1) in
     let m = c .loop-test .taken in
@@ -232,15 +321,18 @@ size-sequence-size-command-requires t c κs =
 
 size-sequence-add-t10 : (t : ℕ) → size-sequence-lts.Need-add-t10 (size-sequence-callees t) (size-sequence-at t) size-sequence.Post size-sequence-Inv-loop size-sequence-μ-loop
 size-sequence-add-t10 t c =
-    let l = c .before .before .before .before .loop .inv (c .before .before .before .before .before .before .before .before .pre .1) in
+    let turns = sequence-to-turns (c .before .before) in
+    let l = turns .loop .inv (sequence-to-entry turns .pre .1) in
     let m = c .before .before .before .loop-test .taken in
     omega (arith, commands-small _ _ _ _ _ _ _ l m _ (c .before .before .size-command .ensures (command-here _ _ _ _ _ _ _ l m)) .0)
 
 size-sequence-add-t11 : (t : ℕ) → size-sequence-lts.Need-add-t11 (size-sequence-callees t) (size-sequence-at t) size-sequence.Post size-sequence-Inv-loop size-sequence-μ-loop
 size-sequence-add-t11 t c =
-    let l = c .before .before .before .before .before .before .loop .inv (c .before .before .before .before .before .before .before .before .before .before .pre .1) in
-    let m = c .before .before .before .before .before .loop-test .taken in
-    omega (arith, commands-small _ _ _ _ _ _ _ l m _ (c .before .before .before .before .size-command .ensures (command-here _ _ _ _ _ _ _ l m)) .1)
+    let sized = c .before .before .before .before in
+    let turns = sequence-to-turns sized in
+    let l = turns .loop .inv (sequence-to-entry turns .pre .1) in
+    let m = sized .before .loop-test .taken in
+    omega (arith, commands-small _ _ _ _ _ _ _ l m _ (sized .size-command .ensures (command-here _ _ _ _ _ _ _ l m)) .1)
 
 size-sequence-sub-left : (t : ℕ) → size-sequence-lts.Need-sub-left (size-sequence-callees t) (size-sequence-at t) size-sequence.Post size-sequence-Inv-loop size-sequence-μ-loop
 size-sequence-sub-left t c = search needs
@@ -249,10 +341,12 @@ size-sequence-loop-less : (t : ℕ) → size-sequence-lts.Need-loop-less (size-s
 size-sequence-loop-less t c = search needs
 
 size-sequence-loop-again : (t : ℕ) → size-sequence-lts.Need-loop-again (size-sequence-callees t) (size-sequence-at t) size-sequence.Post size-sequence-Inv-loop size-sequence-μ-loop
-size-sequence-loop-again t c = λ j.
-    let l = c .before .before .before .before .before .before .loop .inv (j) in
-    let m = c .before .before .before .before .before .loop-test .taken in
-    commands-on _ _ _ _ _ _ _ l m _ (c .before .before .before .before .size-command .ensures (command-here _ _ _ _ _ _ _ l m))
+size-sequence-loop-again t c =
+    let sized = c .before .before .before .before in
+    λ j.
+    let l = sequence-to-turns sized .loop .inv (j) in
+    let m = sized .before .loop-test .taken in
+    commands-on _ _ _ _ _ _ _ l m _ (sized .size-command .ensures (command-here _ _ _ _ _ _ _ l m))
 
 size-sequence-returns : (t : ℕ) → size-sequence-lts.Need-returns (size-sequence-callees t) (size-sequence-at t) size-sequence.Post size-sequence-Inv-loop size-sequence-μ-loop
 size-sequence-returns t c = λ j. commands-done _ _ _ _ _ _ _ (c .before .loop .inv j) (omega (arith, c .loop-test .left))
