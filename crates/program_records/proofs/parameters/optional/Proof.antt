@@ -6,6 +6,14 @@ use Rattle.program_records.proofs.EntryLaws.{next-end, next-other, next
 use Rattle.program_records.proofs.parameters.optional.Statement.{statement}
 use Rattle.program_records.proofs.parameters.optional.Tie as tie
 
+-- back to the entry, from where the parameter has its key
+abbrev to-entry : tie.Else2 → tie.Start
+to-entry c = c .before .before .before .before .before
+
+-- back to where the parameter has its key, from where its length was read
+abbrev to-keyed : tie.After-wide2 → tie.Else2
+to-keyed c = c .before .before .before
+
 ended : tie.Need-returns
 ended c = next-end _ _ _ _ _ _ (omega arith) (omega arith) (c .if1 .taken)
 
@@ -14,32 +22,37 @@ other c = next-other _ _ _ _ _ _ (omega arith) (omega arith) (omega arith) (λ e
 
 cut : tie.Need-returns-3
 cut c =
-    let a = c .before .before .before .before .before .before .args in
+    let a = to-entry (c .before) .args in
     next-cut (now (a .p)) (a .at) (a .to) (a .key) (a .lo) (a .hi) (omega arith) (omega arith) (omega arith) (sym (c .before .before .wide .ensures .0) ∙ c .before .if2 .left) (omega arith)
 
 low : tie.Need-returns-4
 low c =
-    let a = c .before .before .before .before .before .before .before .before .before .args in
+    let keyed = to-keyed (c .before) in
+    let a = to-entry keyed .args in
     next-low (now (a .p)) (a .at) (a .to) (a .key) (a .lo) (a .hi) (omega arith) (omega arith) (omega arith)
-    (sym (c .before .before .before .before .before .wide .ensures .0) ∙ c .before .before .before .before .if2 .left) (omega arith)
+    (sym (keyed .before .wide .ensures .0) ∙ keyed .if2 .left) (omega arith)
 
 high : tie.Need-returns-5
 high c =
-    let a = c .before .before .before .before .before .before .before .before .before .before .args in
+    let keyed = to-keyed (c .before .before) in
+    let a = to-entry keyed .args in
     next-high (now (a .p)) (a .at) (a .to) (a .key) (a .lo) (a .hi) (omega arith) (omega arith) (omega arith)
-    (sym (c .before .before .before .before .before .before .wide .ensures .0) ∙ c .before .before .before .before .before .if2 .left) (omega arith) (omega arith)
+    (sym (keyed .before .wide .ensures .0) ∙ keyed .if2 .left) (omega arith) (omega arith)
 
 long : tie.Need-returns-6
 long c =
-    let a = c .before .before .before .before .before .before .before .before .before .before .before .args in
+    let keyed = to-keyed (c .before .before .before) in
+    let a = to-entry keyed .args in
     next-long (now (a .p)) (a .at) (a .to) (a .key) (a .lo) (a .hi) (omega arith) (omega arith) (omega arith)
-    (sym (c .before .before .before .before .before .before .before .wide .ensures .0) ∙ c .before .before .before .before .before .before .if2 .left)
+    (sym (keyed .before .wide .ensures .0) ∙ keyed .if2 .left)
     (omega arith) (omega arith) (omega arith)
 
 there : tie.Need-returns-7
 there c =
-    next-some _ _ _ _ _ _ (omega arith) (omega arith) _ (c .before .before .before .wide2 .ensures .0) (omega arith)
-    (sym (c .before .before .before .before .before .before .before .wide .ensures .0) ∙ c .before .before .before .before .before .before .if2 .left)
+    let length = c .before .before .before in
+    let keyed = to-keyed length in
+    next-some _ _ _ _ _ _ (omega arith) (omega arith) _ (length .wide2 .ensures .0) (omega arith)
+    (sym (keyed .before .wide .ensures .0) ∙ keyed .if2 .left)
     (omega arith) (omega arith) (omega arith)
 
 pub optional-spec : {M : Type 1} → statement M

@@ -6,6 +6,14 @@ use Rattle.program_records.proofs.RecordLaws.{two-is, jump-component, j
 use Rattle.program_records.proofs.record.jump_fits.Statement.{statement}
 use Rattle.program_records.proofs.record.jump_fits.Tie as tie
 
+-- back to the entry, from where it has no place
+abbrev to-entry : tie.Else2 → tie.Start
+to-entry c = c .before .before .before .before .before
+
+-- back to where it has no place, from where its target was read
+abbrev to-placed : tie.After-two2 → tie.Else2
+to-placed c = c .before .before
+
 component : tie.Need-returns
 component c =
     let a = c .before .before .before .args in
@@ -19,22 +27,24 @@ place c =
 
 argument : tie.Need-returns-3
 argument c =
-    let a = c .before .before .before .before .before .before .args in
+    let a = to-entry (c .before) .args in
     jump-size (now (a .p)) (a .at) (a .size) (a .total) (a .n) (c .before .before .before .if1 .left) _
     (two-is (now (a .p)) (a .at) placeFrom _ (omega arith) (c .before .before .two .ensures .0)) (c .before .if2 .left) (c .if3 .taken)
 
 back : tie.Need-returns-4
 back c =
-    let a = c .before .before .before .before .before .before .before .before .args in
-    jump-back (now (a .p)) (a .at) (a .size) (a .total) (a .n) (c .before .before .before .before .before .if1 .left) _
-    (two-is (now (a .p)) (a .at) placeFrom _ (omega arith) (c .before .before .before .before .two .ensures .0)) (c .before .before .before .if2 .left)
+    let placed = to-placed (c .before) in
+    let a = to-entry placed .args in
+    jump-back (now (a .p)) (a .at) (a .size) (a .total) (a .n) (placed .before .before .if1 .left) _
+    (two-is (now (a .p)) (a .at) placeFrom _ (omega arith) (placed .before .two .ensures .0)) (placed .if2 .left)
     (c .before .before .if3 .left) _ (two-is (now (a .p)) (a .at) targetFrom _ (omega arith) (c .before .two2 .ensures .0)) (omega arith)
 
 on : tie.Need-returns-5
 on c =
-    let a = c .before .before .before .before .before .before .before .before .args in
-    jump-on (now (a .p)) (a .at) (a .size) (a .total) (a .n) (c .before .before .before .before .before .if1 .left) _
-    (two-is (now (a .p)) (a .at) placeFrom _ (omega arith) (c .before .before .before .before .two .ensures .0)) (c .before .before .before .if2 .left)
+    let placed = to-placed (c .before) in
+    let a = to-entry placed .args in
+    jump-on (now (a .p)) (a .at) (a .size) (a .total) (a .n) (placed .before .before .if1 .left) _
+    (two-is (now (a .p)) (a .at) placeFrom _ (omega arith) (placed .before .two .ensures .0)) (placed .if2 .left)
     (c .before .before .if3 .left) _ (two-is (now (a .p)) (a .at) targetFrom _ (omega arith) (c .before .two2 .ensures .0)) (omega arith)
 
 pub jump-fits-spec : {M : Type 1} → statement M

@@ -13,6 +13,10 @@ Inv-loop p table at group components total next₀ commands₀ n₀ next command
 abbrev μ-loop : tie.MeasureT-loop
 μ-loop p table at group components total next₀ commands₀ n₀ next commands n = total - n
 
+-- back to the head of the loop over the records, from where a record was found well formed
+abbrev to-turns : tie.Else1 Inv-loop μ-loop → tie.At-loop Inv-loop μ-loop
+to-turns c = c .before .before .before
+
 loop-holds : tie.Need-loop-holds Inv-loop μ-loop
 loop-holds c = (omega arith, sofar-start _ _ _ _ _ (c .before .pre .0))
 
@@ -26,14 +30,16 @@ add-wide : tie.Need-add-wide Inv-loop μ-loop
 add-wide c = omega (arith, sofar-room _ _ _ _ _ _ _ _ (c .before .before .before .loop .inv .1) (omega arith) _ (c .before .test-record .ensures) (c .if1 .left))
 
 shared-slice-read-wide : tie.Need-shared-slice-read-wide Inv-loop μ-loop
-shared-slice-read-wide c = omega (arith, sofar-room _ _ _ _ _ _ _ _ (c .before .before .before .before .loop .inv .1) (omega arith) _ (c .before .before .test-record .ensures) (c .before .if1 .left))
+shared-slice-read-wide c =
+    omega (arith, sofar-room _ _ _ _ _ _ _ _ (c .before .before .before .before .loop .inv .1) (omega arith) _ (c .before .before .test-record .ensures) (c .before .if1 .left))
 
 loop-again : tie.Need-loop-again Inv-loop μ-loop
-loop-again c = (
-  omega arith,
-  sofar-next _ _ _ _ _ _ _ _ (c .before .before .before .before .before .before .loop .inv .1) (omega arith) _ (c .before .before .before .before .test-record .ensures) (c .before .before .before .if1 .left) _
-      (⊎-elim (λ w. count-command _ _ _ _ (c .before .wide .ensures .0) (w .0 .taken) (w .1)) (λ w. count-jump _ _ _ _ (c .before .wide .ensures .0) (w .0 .left) (w .1)) (c .if2 .came)),
-)
+loop-again c =
+    let tested = c .before .before .before in (
+      omega arith,
+      sofar-next _ _ _ _ _ _ _ _ (to-turns tested .loop .inv .1) (omega arith) _ (tested .before .test-record .ensures) (tested .if1 .left) _
+          (⊎-elim (λ w. count-command _ _ _ _ (c .before .wide .ensures .0) (w .0 .taken) (w .1)) (λ w. count-jump _ _ _ _ (c .before .wide .ensures .0) (w .0 .left) (w .1)) (c .if2 .came)),
+    )
 
 returns-2 : tie.Need-returns-2 Inv-loop μ-loop
 returns-2 c = sofar-end _ _ _ _ _ _ _ _ (c .before .loop .inv .1) (omega arith)
