@@ -9,6 +9,10 @@ use Rattle.check_manifest.proofs.ListLaws.{list-stop, list-good}
 use Rattle.check_manifest.proofs.component_list.Statement.{statement}
 use Rattle.check_manifest.proofs.component_list.Tie as tie
 
+-- back to where its head was good, from where its components were good
+abbrev to-head : tie.Else2 → tie.Else1
+to-head c = c .before .before .before .before
+
 no-string : tie.Need-returns
 no-string c = list-stop _ _ _ _ _ _ (in-stop _ _ _ _ _ (item-stopped _ _ _ _ _ _ _ (c .before .item .ensures) (c .if1 .taken)))
 
@@ -26,7 +30,7 @@ refused c =
 
 over : tie.Need-returns-3
 over c =
-    let i = c .before .before .before .before .before .before in
+    let i = (to-head (c .before .before)) in
     let (ids, w, n) = reading-went length _ _ (c .before .before .before .components .ensures .0) (c .before .before .if2 .left) in
     list-stop _ _ _ _ _ _
     (in-over _ _ _ _ _ _ (item-went _ _ _ _ _ _ _ (i .before .item .ensures) (i .if1 .left)) ids _ w (c .before .if3 .taken) _ (c .refuse .ensures))

@@ -8,6 +8,10 @@ use Rattle.check_manifest.proofs.SectionLaws.{stopped-promise, section-
 use Rattle.check_manifest.proofs.sections.section.Statement.{statement}
 use Rattle.check_manifest.proofs.sections.section.Tie as tie
 
+-- back to where its head was read, from where its key was good
+abbrev to-head : tie.Else2 → tie.After-item
+to-head c = c .before .before .before .before
+
 refusal : tie.Need-returns
 refusal c = stopped-promise _ _ _ _ _ _ (section-stop _ _ _ _ _ _ _ (item-stopped _ _ _ _ _ _ _ (c .before .item .ensures) (c .if1 .taken)))
 
@@ -21,12 +25,12 @@ left-over : tie.Need-returns-3
 left-over c =
     let (a, w, v) = read _ _ _ _ _ _ _ _ (c .before .before .before .check-sequence .ensures) (c .before .before .if2 .left) in
     stopped-promise _ _ _ _ _ _
-    (section-left-over _ _ _ _ _ _ _ _ (item-went _ _ _ _ _ _ _ (c .before .before .before .before .before .before .item .ensures) (c .before .before .before .before .before .if1 .left))
+    (section-left-over _ _ _ _ _ _ _ _ (item-went _ _ _ _ _ _ _ (to-head (c .before .before) .item .ensures) (c .before .before .before .before .before .if1 .left))
     a _ w (c .before .if3 .taken) _ (c .refuse .ensures))
 
 good : tie.Need-returns-4
 good c =
-    section-promise _ _ _ _ _ _ _ _ (item-went _ _ _ _ _ _ _ (c .before .before .before .before .before .before .item .ensures) (c .before .before .before .before .before .if1 .left))
+    section-promise _ _ _ _ _ _ _ _ (item-went _ _ _ _ _ _ _ (to-head (c .before .before) .item .ensures) (c .before .before .before .before .before .if1 .left))
     _ (c .before .before .before .check-sequence .ensures) (c .before .before .if2 .left) (c .before .if3 .left) _ _ (c .section-number .ensures .0)
 
 pub section-spec : {M : Type 1} → statement M
@@ -36,7 +40,11 @@ section-spec =
     (λ c κs. search needs)
     refusal
     (λ c. omega (arith, string-fits _ _ _ _ _ _ _ (inl refl) (item-went _ _ _ _ _ _ _ (c .before .before .item .ensures) (c .before .if1 .left))))
-    (λ c κs. let f = string-fits _ _ _ _ _ _ _ (inl refl) (item-went _ _ _ _ _ _ _ (c .before .before .item .ensures) (c .before .if1 .left)) in (omega (arith, f), search needs, search needs))
+    (λ c κs. let f = string-fits _ _ _ _ _ _ _ (inl refl) (item-went _ _ _ _ _ _ _ (c .before .before .item .ensures) (c .before .if1 .left)) in (
+      omega (arith, f),
+      search needs,
+      search needs,
+    ))
     bad
     (λ c κs. search needs)
     left-over

@@ -16,6 +16,10 @@ Inv-loop s table n k m e at places₀ p₀ low₀ so-far₀ left₀ places p low
 abbrev μ-loop : tie.MeasureT-loop
 μ-loop s table n k m e at places₀ p₀ low₀ so-far₀ left₀ places p low so-far left = left
 
+-- back to the head of the loop over the sections, from where a section was read
+abbrev to-turns : tie.After-section Inv-loop μ-loop → tie.At-loop Inv-loop μ-loop
+to-turns c = c .before .before .before .before .before
+
 refusal : tie.Need-returns Inv-loop μ-loop
 refusal c =
     left-stopped _ _ _ _ _ _ _ _ (c .before .before .before .loop .inv .1)
@@ -28,18 +32,19 @@ section-requires c κs =
 
 bad : tie.Need-returns-2 Inv-loop μ-loop
 bad c =
-    left-stopped _ _ _ _ _ _ _ _ (c .before .before .before .before .before .before .loop .inv .1)
+    left-stopped _ _ _ _ _ _ _ _ (to-turns (c .before) .loop .inv .1)
     (sections-bad _ _ _ _ _ _ _ _ (pos _ (c .before .before .before .before .before .loop-test .taken)) _ _
     (item-went _ _ _ _ _ _ _ (c .before .before .before .before .item .ensures) (c .before .before .before .if1 .left))
     _ (reading-stopped (λ x. _) _ _ (c .before .section .ensures .0) (c .if2 .taken)))
 
 again : tie.Need-loop-again Inv-loop μ-loop
 again c =
+    let turns = to-turns (c .before) in
     let g = item-went _ _ _ _ _ _ _ (c .before .before .before .before .item .ensures) (c .before .before .before .if1 .left) in
     let i = item-law _ _ _ _ _ _ _ g in (
-      omega (arith, i .low, c .before .before .before .before .before .before .loop .inv .0),
+      omega (arith, i .low, turns .loop .inv .0),
       sections-more _ _ _ _ _ _ _ _ (pos _ (c .before .before .before .before .before .loop-test .taken)) _ _ g
-          _ _ _ (c .before .section .ensures) (c .if2 .left) _ _ _ (c .before .before .before .before .before .before .loop .inv .1),
+          _ _ _ (c .before .section .ensures) (c .if2 .left) _ _ _ (turns .loop .inv .1),
     )
 
 done : tie.Need-returns-3 Inv-loop μ-loop
