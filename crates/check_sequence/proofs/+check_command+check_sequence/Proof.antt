@@ -11,7 +11,9 @@ use Rattle.cbor.specs.Reading.{reading}
 use Rattle.cbor.proofs.ReadingLaws.{item-stopped, item-went, string-fits, pos, above, reading-stopped}
 use Rattle.rules.proofs.CheckLaws.{item-law}
 use Rattle.check_sequence.proofs.CommandLaws.{start-forth}
-use Rattle.check_sequence.proofs.SequenceLaws.{nested, opened, read, done, command-forth, command-stop, command-opened, nested-none, nested-stop, nested-bad, nested-left-over, nested-more, commands-none, commands-stop, commands-more, sequence-stop, sequence-odd, sequence-deep, sequence-body}
+use Rattle.check_sequence.proofs.SequenceLaws.{nested, opened, read, done, command-forth, command-stop, command-opened, nested-none}
+use Rattle.check_sequence.proofs.SequenceLaws.{nested-stop, nested-bad, nested-left-over, nested-more, commands-none, commands-stop}
+use Rattle.check_sequence.proofs.SequenceLaws.{commands-more, sequence-stop, sequence-odd, sequence-deep, sequence-body}
 use Rattle.check_sequence.proofs.check_command.Reads as check-command
 use Rattle.check_sequence.proofs.check_command.Kinds as check-command-kinds
 use Rattle.check_sequence.proofs.+check_command+check_sequence.Lts-check_command as check-command-lts
@@ -61,19 +63,30 @@ check-sequence-below t =
 
 -- what check-command knows of what it calls
 abbrev check-command-callees : ℕ → check-command-lts.Claims
-check-command-callees t = (open-command-reads.Asked, open-command-reads.Learnt, item-reads.Asked, item-reads.Learnt, check-sequence-below t, check-sequence.Post, refuse-reads.Asked, refuse-reads.Learnt)
+check-command-callees t =
+    (open-command-reads.Asked, open-command-reads.Learnt, item-reads.Asked, item-reads.Learnt, check-sequence-below t, check-sequence.Post, refuse-reads.Asked, refuse-reads.Learnt)
 
 -- what check-sequence knows of what it calls
 abbrev check-sequence-callees : ℕ → check-sequence-lts.Claims
 check-sequence-callees t = (item-reads.Asked, item-reads.Learnt, refuse-reads.Asked, refuse-reads.Learnt, check-command-below t, check-command.Post)
 
 abbrev check-command-Inv-loop : check-command-lts.InvT-loop
-check-command-Inv-loop s table components section depth commands end at refusal p₀ so-far₀ left₀ p so-far left = (reading (λ c. commands + countCmd c) (command s (sequenceAt s components section depth) components section commands end at) ≡ reading (λ c. c) (nested s (sequenceAt s components section depth) left so-far end p)) × (at < p)
+check-command-Inv-loop s table components section depth commands end at refusal p₀ so-far₀ left₀ p so-far left =
+    (reading (λ c. commands + countCmd c) (command s (sequenceAt s components section depth) components section commands end at)
+    ≡ reading (λ c. c) (nested s (sequenceAt s components section depth) left so-far end p)) × (at < p)
 
 abbrev check-command-μ-loop : check-command-lts.MeasureT-loop
 check-command-μ-loop s table components section depth commands end at refusal p₀ so-far₀ left₀ p so-far left = left
 
-check-command-open-command-requires : (t : ℕ) → check-command-lts.Need-open-command-requires (check-command-callees t) (check-command-at t) check-command.Post check-command-Inv-loop check-command-μ-loop
+-- back to where the head of its argument was read, from where its sequence was checked
+abbrev to-head :
+    {t : ℕ} →
+    check-command-lts.After-check-sequence (check-command-callees t) (check-command-at t) check-command.Post check-command-Inv-loop check-command-μ-loop →
+    check-command-lts.After-item (check-command-callees t) (check-command-at t) check-command.Post check-command-Inv-loop check-command-μ-loop
+to-head c = c .before .before .before
+
+check-command-open-command-requires :
+    (t : ℕ) → check-command-lts.Need-open-command-requires (check-command-callees t) (check-command-at t) check-command.Post check-command-Inv-loop check-command-μ-loop
 check-command-open-command-requires t c κs = search needs
 
 check-command-returns : (t : ℕ) → check-command-lts.Need-returns (check-command-callees t) (check-command-at t) check-command.Post check-command-Inv-loop check-command-μ-loop
@@ -89,22 +102,36 @@ check-command-item-requires : (t : ℕ) → check-command-lts.Need-item-requires
 check-command-item-requires t c κs = search needs
 
 check-command-returns-2 : (t : ℕ) → check-command-lts.Need-returns-2 (check-command-callees t) (check-command-at t) check-command.Post check-command-Inv-loop check-command-μ-loop
-check-command-returns-2 t c = nested-stop _ _ _ _ _ _ _ (pos _ (c .before .before .loop-test .taken)) _ (item-stopped _ _ _ _ _ _ _ (c .before .item .ensures) (c .if2 .taken)) ∙ sym (c .before .before .before .loop .inv .0)
+check-command-returns-2 t c =
+    nested-stop _ _ _ _ _ _ _ (pos _ (c .before .before .loop-test .taken)) _ (item-stopped _ _ _ _ _ _ _ (c .before .item .ensures) (c .if2 .taken))
+    ∙ sym (c .before .before .before .loop .inv .0)
 
 check-command-add-to : (t : ℕ) → check-command-lts.Need-add-to (check-command-callees t) (check-command-at t) check-command.Post check-command-Inv-loop check-command-μ-loop
 check-command-add-to t c = omega (arith, string-fits _ _ _ _ _ _ _ (inl refl) (item-went _ _ _ _ _ _ _ (c .before .before .item .ensures) (c .before .if2 .left)))
 
-check-command-check-sequence-requires : (t : ℕ) → check-command-lts.Need-check-sequence-requires (check-command-callees t) (check-command-at t) check-command.Post check-command-Inv-loop check-command-μ-loop
-check-command-check-sequence-requires t c κs = let i = item-went _ _ _ _ _ _ _ (c .before .before .item .ensures) (c .before .if2 .left) in let f = string-fits _ _ _ _ _ _ _ (inl refl) i in (omega (arith, f, item-law _ _ _ _ _ _ _ i .up, c .before .before .before .before .loop .inv .1), (omega (arith, f), search needs, search needs))
+check-command-check-sequence-requires :
+    (t : ℕ) → check-command-lts.Need-check-sequence-requires (check-command-callees t) (check-command-at t) check-command.Post check-command-Inv-loop check-command-μ-loop
+check-command-check-sequence-requires t c κs =
+    let i = item-went _ _ _ _ _ _ _ (c .before .before .item .ensures) (c .before .if2 .left) in
+    let f = string-fits _ _ _ _ _ _ _ (inl refl) i in
+    (omega (arith, f, item-law _ _ _ _ _ _ _ i .up, c .before .before .before .before .loop .inv .1), (omega (arith, f), search needs, search needs))
 
 check-command-returns-3 : (t : ℕ) → check-command-lts.Need-returns-3 (check-command-callees t) (check-command-at t) check-command.Post check-command-Inv-loop check-command-μ-loop
-check-command-returns-3 t c = nested-bad _ _ _ _ _ _ _ (pos _ (c .before .before .before .before .before .loop-test .taken)) _ _ (item-went _ _ _ _ _ _ _ (c .before .before .before .before .item .ensures) (c .before .before .before .if2 .left)) _ (reading-stopped (λ a. _) _ _ (c .before .check-sequence .ensures) (c .if3 .taken)) ∙ sym (c .before .before .before .before .before .before .loop .inv .0)
+check-command-returns-3 t c =
+    let head = to-head (c .before) in
+    nested-bad _ _ _ _ _ _ _ (pos _ (head .before .loop-test .taken)) _ _ (item-went _ _ _ _ _ _ _ (head .item .ensures) (c .before .before .before .if2 .left)) _
+    (reading-stopped (λ a. _) _ _ (c .before .check-sequence .ensures) (c .if3 .taken)) ∙ sym (head .before .before .loop .inv .0)
 
 check-command-refuse-requires : (t : ℕ) → check-command-lts.Need-refuse-requires (check-command-callees t) (check-command-at t) check-command.Post check-command-Inv-loop check-command-μ-loop
 check-command-refuse-requires t c κs = search needs
 
 check-command-returns-4 : (t : ℕ) → check-command-lts.Need-returns-4 (check-command-callees t) (check-command-at t) check-command.Post check-command-Inv-loop check-command-μ-loop
-check-command-returns-4 t c = let (a, w, v) = read _ _ _ _ _ _ _ _ (c .before .before .before .check-sequence .ensures) (c .before .before .if3 .left) in c .refuse .ensures ∙ nested-left-over _ _ _ _ _ _ _ (pos _ (c .before .before .before .before .before .before .before .loop-test .taken)) _ _ (item-went _ _ _ _ _ _ _ (c .before .before .before .before .before .before .item .ensures) (c .before .before .before .before .before .if2 .left)) a _ w (c .before .if4 .taken) ∙ sym (c .before .before .before .before .before .before .before .before .loop .inv .0)
+check-command-returns-4 t c =
+    let inner = c .before .before .before in
+    let head = to-head inner in
+    let (a, w, v) = read _ _ _ _ _ _ _ _ (inner .check-sequence .ensures) (c .before .before .if3 .left) in
+    c .refuse .ensures ∙ nested-left-over _ _ _ _ _ _ _ (pos _ (head .before .loop-test .taken)) _ _
+    (item-went _ _ _ _ _ _ _ (head .item .ensures) (inner .before .before .if2 .left)) a _ w (c .before .if4 .taken) ∙ sym (head .before .before .loop .inv .0)
 
 check-command-sub-left : (t : ℕ) → check-command-lts.Need-sub-left (check-command-callees t) (check-command-at t) check-command.Post check-command-Inv-loop check-command-μ-loop
 check-command-sub-left t c = search needs
@@ -113,13 +140,21 @@ check-command-loop-less : (t : ℕ) → check-command-lts.Need-loop-less (check-
 check-command-loop-less t c = search needs
 
 check-command-loop-again : (t : ℕ) → check-command-lts.Need-loop-again (check-command-callees t) (check-command-at t) check-command.Post check-command-Inv-loop check-command-μ-loop
-check-command-loop-again t c = let i = item-went _ _ _ _ _ _ _ (c .before .before .before .before .before .item .ensures) (c .before .before .before .before .if2 .left) in let (a, w, v) = read _ _ _ _ _ _ _ _ (c .before .before .check-sequence .ensures) (c .before .if3 .left) in (c .before .before .before .before .before .before .before .loop .inv .0 ∙ nested-more _ _ _ _ _ _ _ (pos _ (c .before .before .before .before .before .before .loop-test .taken)) _ _ i a _ w (c .if4 .left) _ v, omega (arith, item-law _ _ _ _ _ _ _ i .up, c .before .before .before .before .before .before .before .loop .inv .1))
+check-command-loop-again t c =
+    let head = to-head (c .before .before) in
+    let i = item-went _ _ _ _ _ _ _ (head .item .ensures) (c .before .before .before .before .if2 .left) in
+    let (a, w, v) = read _ _ _ _ _ _ _ _ (c .before .before .check-sequence .ensures) (c .before .if3 .left) in (
+      head .before .before .loop .inv .0 ∙ nested-more _ _ _ _ _ _ _ (pos _ (head .before .loop-test .taken)) _ _ i a _ w (c .if4 .left) _ v,
+      omega (arith, item-law _ _ _ _ _ _ _ i .up, head .before .before .loop .inv .1),
+    )
 
 check-command-returns-5 : (t : ℕ) → check-command-lts.Need-returns-5 (check-command-callees t) (check-command-at t) check-command.Post check-command-Inv-loop check-command-μ-loop
 check-command-returns-5 t c = nested-none _ _ _ _ _ _ (omega arith) ∙ sym (c .before .loop .inv .0)
 
 abbrev check-sequence-Inv-loop : check-sequence-lts.InvT-loop
-check-sequence-Inv-loop s table components section depth commands end at refusal v p₀ so-far₀ left₀ p so-far left = (reading (λ a. commands + count a) (sequenceAt s components section depth commands end at) ≡ reading (λ a. so-far + count a) (commandsAt s (sequenceAt s components section (depth - 1)) components section left so-far end p)) × (at < p)
+check-sequence-Inv-loop s table components section depth commands end at refusal v p₀ so-far₀ left₀ p so-far left =
+    (reading (λ a. commands + count a) (sequenceAt s components section depth commands end at)
+    ≡ reading (λ a. so-far + count a) (commandsAt s (sequenceAt s components section (depth - 1)) components section left so-far end p)) × (at < p)
 
 abbrev check-sequence-μ-loop : check-sequence-lts.MeasureT-loop
 check-sequence-μ-loop s table components section depth commands end at refusal v p₀ so-far₀ left₀ p so-far left = left
@@ -127,35 +162,47 @@ check-sequence-μ-loop s table components section depth commands end at refusal 
 check-sequence-mul-item : (t : ℕ) → check-sequence-lts.Need-mul-item (check-sequence-callees t) (check-sequence-at t) check-sequence.Post check-sequence-Inv-loop check-sequence-μ-loop
 check-sequence-mul-item t c = search needs
 
-check-sequence-item-requires : (t : ℕ) → check-sequence-lts.Need-item-requires (check-sequence-callees t) (check-sequence-at t) check-sequence.Post check-sequence-Inv-loop check-sequence-μ-loop
+check-sequence-item-requires :
+    (t : ℕ) → check-sequence-lts.Need-item-requires (check-sequence-callees t) (check-sequence-at t) check-sequence.Post check-sequence-Inv-loop check-sequence-μ-loop
 check-sequence-item-requires t c κs = search needs
 
 check-sequence-returns : (t : ℕ) → check-sequence-lts.Need-returns (check-sequence-callees t) (check-sequence-at t) check-sequence.Post check-sequence-Inv-loop check-sequence-μ-loop
 check-sequence-returns t c = sequence-stop _ _ _ _ _ _ _ _ (item-stopped _ _ _ _ _ _ _ (c .before .item .ensures) (c .if1 .taken))
 
-check-sequence-refuse-requires : (t : ℕ) → check-sequence-lts.Need-refuse-requires (check-sequence-callees t) (check-sequence-at t) check-sequence.Post check-sequence-Inv-loop check-sequence-μ-loop
+check-sequence-refuse-requires :
+    (t : ℕ) → check-sequence-lts.Need-refuse-requires (check-sequence-callees t) (check-sequence-at t) check-sequence.Post check-sequence-Inv-loop check-sequence-μ-loop
 check-sequence-refuse-requires t c κs = search needs
 
 check-sequence-returns-2 : (t : ℕ) → check-sequence-lts.Need-returns-2 (check-sequence-callees t) (check-sequence-at t) check-sequence.Post check-sequence-Inv-loop check-sequence-μ-loop
-check-sequence-returns-2 t c = c .refuse .ensures ∙ sequence-odd _ _ _ _ _ _ _ _ _ (item-went _ _ _ _ _ _ _ (c .before .before .before .item .ensures) (c .before .before .if1 .left)) (c .before .if2 .taken)
+check-sequence-returns-2 t c =
+    c .refuse .ensures ∙ sequence-odd _ _ _ _ _ _ _ _ _ (item-went _ _ _ _ _ _ _ (c .before .before .before .item .ensures) (c .before .before .if1 .left)) (c .before .if2 .taken)
 
-check-sequence-refuse-requires-2 : (t : ℕ) → check-sequence-lts.Need-refuse-requires-2 (check-sequence-callees t) (check-sequence-at t) check-sequence.Post check-sequence-Inv-loop check-sequence-μ-loop
+check-sequence-refuse-requires-2 :
+    (t : ℕ) → check-sequence-lts.Need-refuse-requires-2 (check-sequence-callees t) (check-sequence-at t) check-sequence.Post check-sequence-Inv-loop check-sequence-μ-loop
 check-sequence-refuse-requires-2 t c κs = search needs
 
 check-sequence-returns-3 : (t : ℕ) → check-sequence-lts.Need-returns-3 (check-sequence-callees t) (check-sequence-at t) check-sequence.Post check-sequence-Inv-loop check-sequence-μ-loop
-check-sequence-returns-3 t c = c .refuse2 .ensures ∙ sequence-deep _ _ _ _ _ _ _ _ _ (item-went _ _ _ _ _ _ _ (c .before .before .before .before .item .ensures) (c .before .before .before .if1 .left)) (c .before .before .if2 .left) (c .before .if3 .taken)
+check-sequence-returns-3 t c =
+    c .refuse2 .ensures ∙ sequence-deep _ _ _ _ _ _ _ _ _ (item-went _ _ _ _ _ _ _ (c .before .before .before .before .item .ensures)
+    (c .before .before .before .if1 .left)) (c .before .before .if2 .left) (c .before .if3 .taken)
 
 check-sequence-loop-holds : (t : ℕ) → check-sequence-lts.Need-loop-holds (check-sequence-callees t) (check-sequence-at t) check-sequence.Post check-sequence-Inv-loop check-sequence-μ-loop
-check-sequence-loop-holds t c = let i = item-went _ _ _ _ _ _ _ (c .before .before .before .item .ensures) (c .before .before .if1 .left) in (sequence-body _ _ _ _ _ _ _ _ _ i (c .before .if2 .left) _ (above _ (c .if3 .left)), item-law _ _ _ _ _ _ _ i .up)
+check-sequence-loop-holds t c =
+    let i = item-went _ _ _ _ _ _ _ (c .before .before .before .item .ensures) (c .before .before .if1 .left) in
+    (sequence-body _ _ _ _ _ _ _ _ _ i (c .before .if2 .left) _ (above _ (c .if3 .left)), item-law _ _ _ _ _ _ _ i .up)
 
-check-sequence-sub-check-command : (t : ℕ) → check-sequence-lts.Need-sub-check-command (check-sequence-callees t) (check-sequence-at t) check-sequence.Post check-sequence-Inv-loop check-sequence-μ-loop
+check-sequence-sub-check-command :
+    (t : ℕ) → check-sequence-lts.Need-sub-check-command (check-sequence-callees t) (check-sequence-at t) check-sequence.Post check-sequence-Inv-loop check-sequence-μ-loop
 check-sequence-sub-check-command t c = search needs
 
-check-sequence-check-command-requires : (t : ℕ) → check-sequence-lts.Need-check-command-requires (check-sequence-callees t) (check-sequence-at t) check-sequence.Post check-sequence-Inv-loop check-sequence-μ-loop
+check-sequence-check-command-requires :
+    (t : ℕ) → check-sequence-lts.Need-check-command-requires (check-sequence-callees t) (check-sequence-at t) check-sequence.Post check-sequence-Inv-loop check-sequence-μ-loop
 check-sequence-check-command-requires t c κs = search needs
 
 check-sequence-returns-4 : (t : ℕ) → check-sequence-lts.Need-returns-4 (check-sequence-callees t) (check-sequence-at t) check-sequence.Post check-sequence-Inv-loop check-sequence-μ-loop
-check-sequence-returns-4 t c = commands-stop _ _ _ _ _ _ _ _ _ (pos _ (c .before .before .loop-test .taken)) _ (reading-stopped (λ a. _) _ _ (c .before .check-command .ensures) (c .if4 .taken)) ∙ sym (c .before .before .before .loop .inv .0)
+check-sequence-returns-4 t c =
+    commands-stop _ _ _ _ _ _ _ _ _ (pos _ (c .before .before .loop-test .taken)) _ (reading-stopped (λ a. _) _ _ (c .before .check-command .ensures) (c .if4 .taken))
+    ∙ sym (c .before .before .before .loop .inv .0)
 
 check-sequence-sub-left : (t : ℕ) → check-sequence-lts.Need-sub-left (check-sequence-callees t) (check-sequence-at t) check-sequence.Post check-sequence-Inv-loop check-sequence-μ-loop
 check-sequence-sub-left t c = search needs
@@ -164,7 +211,11 @@ check-sequence-loop-less : (t : ℕ) → check-sequence-lts.Need-loop-less (chec
 check-sequence-loop-less t c = search needs
 
 check-sequence-loop-again : (t : ℕ) → check-sequence-lts.Need-loop-again (check-sequence-callees t) (check-sequence-at t) check-sequence.Post check-sequence-Inv-loop check-sequence-μ-loop
-check-sequence-loop-again t c = let (a, w, v) = done _ _ _ _ _ _ _ _ (c .before .check-command .ensures) (c .if4 .left) in (c .before .before .before .loop .inv .0 ∙ commands-more _ _ _ _ _ _ _ _ _ (pos _ (c .before .before .loop-test .taken)) a _ w _ v, omega (arith, command-forth _ _ _ _ _ _ _ _ _ w, c .before .before .before .loop .inv .1))
+check-sequence-loop-again t c =
+    let (a, w, v) = done _ _ _ _ _ _ _ _ (c .before .check-command .ensures) (c .if4 .left) in (
+      c .before .before .before .loop .inv .0 ∙ commands-more _ _ _ _ _ _ _ _ _ (pos _ (c .before .before .loop-test .taken)) a _ w _ v,
+      omega (arith, command-forth _ _ _ _ _ _ _ _ _ w, c .before .before .before .loop .inv .1),
+    )
 
 check-sequence-returns-5 : (t : ℕ) → check-sequence-lts.Need-returns-5 (check-sequence-callees t) (check-sequence-at t) check-sequence.Post check-sequence-Inv-loop check-sequence-μ-loop
 check-sequence-returns-5 t c = commands-none _ _ _ _ _ _ _ _ (omega arith) ∙ sym (c .before .loop .inv .0)
