@@ -4,12 +4,23 @@ use Rattle.translate.proofs.TranslateLaws.{refused-translation}
 use Rattle.translate.proofs.translate.Statement.{statement}
 use Rattle.translate.proofs.translate.Tie as tie
 
+-- back to the entry, from where the envelope was checked
+abbrev to-entry : tie.After-check → tie.Start
+to-entry c = c .before .before .before
+
+-- back to where the envelope was checked, from where it was accepted
+abbrev to-checked : tie.After-enum-told → tie.After-check
+to-checked c = c .before .before
+
 checked : tie.Need-translate-checked-requires
 checked c κs =
-    accepted _ _ (c .before .before .before .before .before .before .before .check .ensures .0) (c .before .before .before .before .before .enum-told .given .1)
+    let told = c .before .before .before .before .before in
+    accepted _ _ (to-checked told .check .ensures .0) (told .enum-told .given .1)
 
 refused : tie.Need-returns
-refused c = refused-translation _ _ _ _ (c .before .before .before .before .before .before .args .room .now) (refused-by _ _ (c .before .before .before .check .ensures .0) _ _ (c .before .answer .given .1))
+refused c =
+    let checked = c .before .before .before in
+    refused-translation _ _ _ _ (to-entry checked .args .room .now) (refused-by _ _ (checked .check .ensures .0) _ _ (c .before .answer .given .1))
 
 pub translate-spec : {M : Type 1} → statement M
 translate-spec =

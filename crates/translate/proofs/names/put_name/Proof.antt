@@ -11,9 +11,13 @@ use Rattle.byte_buffer.proofs.PutLaws.{in-a-row}
 use Rattle.translate.proofs.names.put_name.Statement.{statement}
 use Rattle.translate.proofs.names.put_name.Tie as tie
 
+-- back to the entry, from where the head was written
+abbrev to-entry : tie.After-copy-arg → tie.Start
+to-entry c = c .before .before .before
+
 returns : tie.Need-returns
 returns c =
-    let a = c .before .before .before .before .before .before .args in
+    let a = to-entry (c .before .before .before) .args in
     let id = part (a .s .now) (a .from) (a .n) in
     let l : length id ≡ a .n = length-part (a .s .now) (a .from) (a .n) (omega arith) in
     record {

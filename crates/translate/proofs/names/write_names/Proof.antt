@@ -16,6 +16,14 @@ Inv-loop s ids n room₀ at to₀ k₀ room to k =
 abbrev μ-loop : tie.MeasureT-loop
 μ-loop s ids n room₀ at to₀ k₀ room to k = n - k
 
+-- back to the entry, from the start of a turn
+abbrev to-entry : tie.In-loop Inv-loop μ-loop → tie.Start Inv-loop μ-loop
+to-entry c = c .before .before .before .before
+
+-- back to the start of a turn, from where the name's place was read
+abbrev to-turn : tie.After-put-name-arg Inv-loop μ-loop → tie.In-loop Inv-loop μ-loop
+to-turn c = c .before .before
+
 start : tie.Need-loop-holds Inv-loop μ-loop
 start c =
     let a = c .before .before .args in
@@ -23,21 +31,24 @@ start c =
     (omega arith, refl, ap (put (a .room .now) (a .at)) e, omega (arith, ap length e))
 
 ordered : tie.Need-sub-put-name Inv-loop μ-loop
-ordered c = omega (arith, c .before .before .before .before .before .before .pre .1 _ (c .before .before .loop-test .taken))
+ordered c = omega (arith, to-entry (to-turn c) .pre .1 _ (c .before .before .loop-test .taken))
 
 writes : tie.Need-put-name-requires Inv-loop μ-loop
 writes c κs =
-    let p = c .before .before .before .before .before .before .before .pre in
-    let t = c .before .before .before .loop-test .taken in
-    let a = c .before .before .before .before .before .before .before .args in
-    let k = c .before .before .before .before .loop .k in
-    (omega (arith, p .1 k t), p .2 k t, omega (arith, p .1 k t, p .3, left-size (a .s .now) (a .ids .now) (a .n) k t (p .1), c .before .before .before .before .loop .inv .1, c .before .before .before .before .loop .inv .3))
+    let turn = to-turn (c .before) in
+    let entry = to-entry turn in
+    let p = entry .pre in
+    let t = turn .loop-test .taken in
+    let a = entry .args in
+    let k = turn .before .loop .k in
+    (omega (arith, p .1 k t), p .2 k t, omega (arith, p .1 k t, p .3, left-size (a .s .now) (a .ids .now) (a .n) k t (p .1), turn .before .loop .inv .1, turn .before .loop .inv .3))
 
 again : tie.Need-loop-again Inv-loop μ-loop
 again c =
-    let p = c .before .before .before .before .before .before .before .before .before .before .pre in
-    let t = c .before .before .before .before .before .before .loop-test .taken in
-    let i = c .before .before .before .before .before .before .before .loop .inv in
+    let turn = to-turn (c .before .before .before .before) in
+    let p = to-entry turn .pre in
+    let t = turn .loop-test .taken in
+    let i = turn .before .loop .inv in
     let f = c .before .before .put-name .ensures in (
       omega arith,
       search needs,

@@ -17,20 +17,30 @@ Inv-loop s table group sections to room₀ now₀ k₀ room now k =
 abbrev μ-loop : tie.MeasureT-loop
 μ-loop s table group sections to room₀ now₀ k₀ room now k = sectionCount - k
 
+-- back to the entry, from the start of a turn
+abbrev to-entry : tie.In-loop Inv-loop μ-loop → tie.Start Inv-loop μ-loop
+to-entry c = c .before .before .before .before
+
+-- back to the start of a turn, from where the section's end was read
+abbrev to-turn : tie.After-end Inv-loop μ-loop → tie.In-loop Inv-loop μ-loop
+to-turn c = c .before .before
+
 start : tie.Need-loop-holds Inv-loop μ-loop
 start c = (refl, λ j. writing-starts _ _ _ _ (j .here) _ _ refl (j .enough) (j .small))
 
 section : tie.Need-write-section-requires Inv-loop μ-loop
 section c κs t =
-    let j = c .before .before .before .before .before .before .before .before .pre in
-    writing-job _ _ _ _ (j .here) _ _ _ _ _ (c .before .before .before .before .before .loop .inv .1 j) (c .before .before .before .before .loop-test .taken) _ (c .before .wanted .ensures) t
+    let turn = to-turn (c .before .before) in
+    let j = to-entry turn .pre in
+    writing-job _ _ _ _ (j .here) _ _ _ _ _ (turn .before .loop .inv .1 j) (turn .loop-test .taken) _ (c .before .wanted .ensures) t
 
 again : tie.Need-loop-again Inv-loop μ-loop
-again c = (
-  search needs,
-  λ j. writing-on _ _ _ _ (j .here) _ _ _ _ _ (c .before .before .before .before .before .before .before .before .loop .inv .1 j) (c .before .before .before .before .before .before .before .loop-test .taken) _
-      (c .before .before .before .before .wanted .ensures) _ _ (c .before .before .write-section .ensures .0) (c .before .before .write-section .ensures .1),
-)
+again c =
+    let turn = to-turn (c .before .before .before .before .before) in (
+      search needs,
+      λ j. writing-on _ _ _ _ (j .here) _ _ _ _ _ (turn .before .loop .inv .1 j) (turn .loop-test .taken) _
+          (c .before .before .before .before .wanted .ensures) _ _ (c .before .before .write-section .ensures .0) (c .before .before .write-section .ensures .1),
+    )
 
 returns : tie.Need-returns Inv-loop μ-loop
 returns c j = writing-done _ _ _ _ (j .here) _ _ _ _ _ (c .before .loop .inv .1 j) (c .loop-test .left)

@@ -38,25 +38,37 @@ module _ (room : Bytes) (g number components records : ℕ) (room₁ : Bytes)
     unfolding startBytes
     started group q = rw (← q) whole
 
+-- back to the entry, from where the number was written
+abbrev to-entry : tie.After-put-u32 → tie.Start
+to-entry c = c .before .before .before .before
+
+-- back to where the number was written, from before the number of records is written
+abbrev to-numbered : tie.After-put-u16-arg → tie.After-put-u32
+to-numbered c = c .before .before .before
+
 components : tie.Need-slice-write-room-5
 components c =
-    let a = c .before .before .before .before .before .before .args in
+    let a = to-entry (c .before .before) .args in
     omega (arith, numbered-length (a .room .now) _ (a .number) 0 0 _ (c .before .before .put-u32 .ensures))
 
 records : tie.Need-put-u16-requires
 records c κs =
-    let a = c .before .before .before .before .before .before .before .args in
-    simp length-set (omega (arith, numbered-length (a .room .now) _ (a .number) 0 0 _ (c .before .before .before .put-u32 .ensures)))
+    let numbered = to-numbered c in
+    let a = to-entry numbered .args in
+    simp length-set (omega (arith, numbered-length (a .room .now) _ (a .number) 0 0 _ (numbered .put-u32 .ensures)))
 
 same : tie.Need-same-length
 same c =
-    let a = c .before .before .before .before .before .before .before .before .before .before .args in
-    whole-length (a .room .now) _ (a .number) (a .components) (a .records) _ (c .before .before .before .before .before .before .put-u32 .ensures) _ (c .before .before .put-u16 .ensures)
+    let numbered = to-numbered (c .before .before .before) in
+    let a = to-entry numbered .args in
+    whole-length (a .room .now) _ (a .number) (a .components) (a .records) _ (numbered .put-u32 .ensures) _ (c .before .before .put-u16 .ensures)
 
 returns : tie.Need-returns
 returns c =
-    let a = c .before .before .before .before .before .before .before .before .before .before .args in
-    started (a .room .now) _ (a .number) (a .components) (a .records) _ (c .before .before .before .before .before .before .put-u32 .ensures) _ (c .before .before .put-u16 .ensures) (a .group) (c .before .before .before .before .before .before .before .before .number .ensures)
+    let numbered = to-numbered (c .before .before .before) in
+    let a = to-entry numbered .args in
+    started (a .room .now) _ (a .number) (a .components) (a .records) _ (numbered .put-u32 .ensures) _ (c .before .before .put-u16 .ensures) (a .group)
+    (numbered .before .before .number .ensures)
 
 pub put-start-spec : {M : Type 1} → statement M
 put-start-spec =
