@@ -10,31 +10,48 @@ use Rattle.translate_record.proofs.RecordLaws.{sixteen-bytes, sixteen-f
 use Rattle.translate_record.proofs.argument.put_argument.Statement.{statement}
 use Rattle.translate_record.proofs.argument.put_argument.Tie as tie
 
+-- back to the entry, from where the kind was read
+abbrev to-entry : tie.After-kind-of → tie.Start
+to-entry c = c .before .before .before
+
+-- back to where the kind was read, from where it is sixteen bytes
+abbrev sixteen-to-kinds : tie.After-enum-told → tie.After-kind-of
+sixteen-to-kinds c = c .before .before
+
+-- back to where the kind was read, from where it is parameters
+abbrev parameters-to-kinds : tie.After-enum-told2 → tie.After-kind-of
+parameters-to-kinds c = c .before .before
+
 copies : tie.Need-copy-requires
 copies c κs =
-    let d = c .before .before .before .before .before .before in
+    let kinds = sixteen-to-kinds (c .before) in
+    let d = to-entry kinds in
     let a = d .args .a in
     let (_, _, v, _, l, _) = d .pre in
-    let k = sixteen-codes _ (sym (c .before .before .before .kind-of .ensures) ∙ c .before .enum-told .given .1) in
+    let k = sixteen-codes _ (sym (kinds .kind-of .ensures) ∙ c .before .enum-told .given .1) in
     let inside = v (⊎-elim (λ i. omega arith) (λ i. omega arith) k) in
     (inside, omega (arith, length-part (d .args .s .now) (a .value) 16 inside, rw (sixteen-bytes _ _ _ _ k) at l))
 
 puts : tie.Need-put-parameters-requires
 puts c κs =
-    let d = c .before .before .before .before .before .before in
+    let kinds = parameters-to-kinds (c .before) in
+    let d = to-entry kinds in
     let (w, f, _, _, l, _) = d .pre in
-    (w, f, rw (params-bytes _ _ _ _ (parameter-codes _ (sym (c .before .before .before .kind-of .ensures) ∙ c .before .enum-told2 .given .1))) at l)
+    (w, f, rw (params-bytes _ _ _ _ (parameter-codes _ (sym (kinds .kind-of .ensures) ∙ c .before .enum-told2 .given .1))) at l)
 
 sixteen : tie.Need-returns
 sixteen c =
-    let d = c .before .before .before .before .before .before .before .before .before in
+    let sixteen = c .before .before .before .before in
+    let kinds = sixteen-to-kinds sixteen in
+    let d = to-entry kinds in
     let (_, _, v, _, l, _) = d .pre in
-    let k = sixteen-codes _ (sym (c .before .before .before .before .before .before .kind-of .ensures) ∙ c .before .before .before .before .enum-told .given .1) in
+    let k = sixteen-codes _ (sym (kinds .kind-of .ensures) ∙ sixteen .enum-told .given .1) in
     sixteen-filled (d .args .s .now) _ (d .args .a .value) (paramsOf (d .args .a)) k (v (⊎-elim (λ i. omega arith) (λ i. omega arith) k)) _ _ _ (c .before .before .copy .ensures)
 
 parameters : tie.Need-returns-2
 parameters c =
-    rw (params-bytes _ _ _ _ (parameter-codes _ (sym (c .before .before .before .before .before .before .kind-of .ensures) ∙ c .before .before .before .before .enum-told2 .given .1))) (c .before .before .put-parameters .ensures)
+    let parameters = c .before .before .before .before in
+    rw (params-bytes _ _ _ _ (parameter-codes _ (sym (parameters-to-kinds parameters .kind-of .ensures) ∙ parameters .enum-told2 .given .1))) (c .before .before .put-parameters .ensures)
 
 nil : tie.Need-returns-3
 nil c =

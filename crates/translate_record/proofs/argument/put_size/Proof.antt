@@ -14,6 +14,10 @@ use Rattle.translate_record.proofs.argument.put_size.Tie as tie
 use Rattle.translate_record.proofs.argument.put_size.Reads as reads
 use Rattle.translate_record.proofs.argument.put_size.Lts as lts
 
+-- back to the entry, from where there is a size
+abbrev to-entry : tie.Else1 → tie.Start
+to-entry c = c .before .before
+
 returns : tie.Need-returns
 returns c = unset-filled 12 be4 _ _ _ _ (c .if1 .taken)
 
@@ -22,13 +26,14 @@ fits c = omega (arith, set-fits 12 be4 _ _ _ _ (c .if1 .left) (c .before .before
 
 same : tie.Need-same-length
 same c =
-    let a = c .before .before .before .before .before .before .args in
+    let a = to-entry (c .before .before .before .before) .args in
     length-kept (a .room .now) (a .to) 12 (a .to + 1) sizeBytes (a .to + entrySize) (be4 (a .size - 1)) _ (c .before .before .put-u32 .ensures)
 
 returns-2 : tie.Need-returns-2
 returns-2 c =
-    let a = c .before .before .before .before .before .before .args in
-    set-filled 12 be4 _ _ _ _ (c .before .before .before .before .if1 .left) _ (omega arith) _
+    let some = c .before .before .before .before in
+    let a = to-entry some .args in
+    set-filled 12 be4 _ _ _ _ (some .if1 .left) _ (omega arith) _
     (c .before .before .put-u32 .ensures ∙ in-a-row (a .room .now) (a .to) (12 ∷ []) ((sizeBytes ∷ []) ∷ be4 (a .size - 1) ∷ []))
 
 pub put-size-spec : {M : Type 1} → statement M

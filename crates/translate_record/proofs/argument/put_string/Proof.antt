@@ -15,6 +15,10 @@ use Rattle.translate_record.proofs.argument.put_string.Reads as reads
 use Rattle.translate_record.proofs.argument.put_string.Lts as lts
 use Rattle.byte_buffer.proofs.copy.Reads as copy-reads
 
+-- back to the entry, from where there is a string
+abbrev to-entry : tie.Else1 → tie.Start
+to-entry c = c .before .before .before
+
 unset : tie.Need-returns
 unset c = unset-filled _ (λ b. b) _ _ _ _ (c .if1 .taken)
 
@@ -37,7 +41,7 @@ copies c κs =
 
 same : tie.Need-same-length
 same c =
-    let a = c .before .before .before .before .before .before .before .args in
+    let a = to-entry (c .before .before .before .before) .args in
     length-kept (a .room .now) (a .to) (a .key) (a .to + 1) (a .n) (a .to + entrySize) (part (a .s .now) (a .from) (a .n)) _ (c .before .before .copy .ensures)
 
 set : tie.Need-returns-2

@@ -36,25 +36,45 @@ module _ (room : Bytes) (to code component place target size : ℕ) (room₁ : B
       whole-length : length room₃ ≡ length room
       whole-length = put-length room to (headBytes code component place target size) room₃ whole
 
+-- back to the entry, from where the place was written
+abbrev to-entry : tie.After-put-u16 → tie.Start
+to-entry c = c .before .before .before
+
+-- back to where the place was written, from where the target was written
+abbrev to-placed : tie.After-put-u162 → tie.After-put-u16
+to-placed c = c .before .before .before .before
+
+-- back to where the target was written, from before the length is written
+abbrev to-aimed : tie.After-put-u16-arg3 → tie.After-put-u162
+to-aimed c = c .before .before .before
+
 targets : tie.Need-put-u16-requires-2
 targets c κs =
-    let a = c .before .before .before .before .before .before .args in
-    omega (arith, placed-length (a .room .now) (a .to) (a .code) (a .component) (a .place) 0 0 _ (c .before .before .before .put-u16 .ensures))
+    let placed = c .before .before .before in
+    let a = to-entry placed .args in
+    omega (arith, placed-length (a .room .now) (a .to) (a .code) (a .component) (a .place) 0 0 _ (placed .put-u16 .ensures))
 
 sizes : tie.Need-put-u16-requires-3
 sizes c κs =
-    let a = c .before .before .before .before .before .before .before .before .before .before .args in
-    omega (arith, aimed-length (a .room .now) (a .to) (a .code) (a .component) (a .place) (a .target) 0 _ (c .before .before .before .before .before .before .before .put-u16 .ensures) _ (c .before .before .before .put-u162 .ensures))
+    let aimed = to-aimed c in
+    let placed = to-placed aimed in
+    let a = to-entry placed .args in
+    omega (arith, aimed-length (a .room .now) (a .to) (a .code) (a .component) (a .place) (a .target) 0 _ (placed .put-u16 .ensures) _ (aimed .put-u162 .ensures))
 
 same : tie.Need-same-length
 same c =
-    let a = c .before .before .before .before .before .before .before .before .before .before .before .before .before .args in
-    whole-length (a .room .now) (a .to) (a .code) (a .component) (a .place) (a .target) (a .size) _ (c .before .before .before .before .before .before .before .before .before .before .put-u16 .ensures) _ (c .before .before .before .before .before .before .put-u162 .ensures) _ (c .before .before .put-u163 .ensures)
+    let aimed = to-aimed (c .before .before .before) in
+    let placed = to-placed aimed in
+    let a = to-entry placed .args in
+    whole-length (a .room .now) (a .to) (a .code) (a .component) (a .place) (a .target) (a .size) _ (placed .put-u16 .ensures) _ (aimed .put-u162 .ensures) _
+    (c .before .before .put-u163 .ensures)
 
 returns : tie.Need-returns
 returns c =
-    let a = c .before .before .before .before .before .before .before .before .before .before .before .before .before .args in
-    whole (a .room .now) (a .to) (a .code) (a .component) (a .place) (a .target) (a .size) _ (c .before .before .before .before .before .before .before .before .before .before .put-u16 .ensures) _ (c .before .before .before .before .before .before .put-u162 .ensures) _ (c .before .before .put-u163 .ensures)
+    let aimed = to-aimed (c .before .before .before) in
+    let placed = to-placed aimed in
+    let a = to-entry placed .args in
+    whole (a .room .now) (a .to) (a .code) (a .component) (a .place) (a .target) (a .size) _ (placed .put-u16 .ensures) _ (aimed .put-u162 .ensures) _ (c .before .before .put-u163 .ensures)
 
 pub put-head-spec : {M : Type 1} → statement M
 put-head-spec =
