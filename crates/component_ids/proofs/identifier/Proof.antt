@@ -5,6 +5,10 @@ use Rattle.component_ids.proofs.IdentifierLaws.{plain-stop, strings-sto
 use Rattle.component_ids.proofs.identifier.Statement.{statement}
 use Rattle.component_ids.proofs.identifier.Tie as tie
 
+-- back to where the head was read, from where the strings were good
+abbrev to-head : tie.Else2 → tie.After-item
+to-head c = c .before .before .before .before .before
+
 no-head : tie.Need-returns
 no-head c = plain-stop _ _ _ _ (c .before .before .item .ensures) (c .if1 .taken)
 
@@ -20,12 +24,12 @@ onward c =
 long : tie.Need-returns-3
 long c =
     c .refuse .ensures
-    ∙ plain-long _ _ _ _ (c .before .before .before .before .before .before .before .item .ensures) (c .before .before .before .before .before .if1 .left) _
+    ∙ plain-long _ _ _ _ (to-head (c .before .before) .item .ensures) (c .before .before .before .before .before .if1 .left) _
     (c .before .before .before .before .strings .ensures) (c .before .before .if2 .left) (omega arith)
 
 good : tie.Need-returns-4
 good c =
-    plain-good _ _ _ _ (c .before .before .before .before .before .before .item .ensures) (c .before .before .before .before .if1 .left) _
+    plain-good _ _ _ _ (to-head (c .before) .item .ensures) (c .before .before .before .before .if1 .left) _
     (c .before .before .before .strings .ensures) (c .before .if2 .left) (omega arith)
 
 pub identifier-spec : {M : Type 1} → statement M

@@ -20,6 +20,14 @@ Inv-pairs s ids count j₀ j = repeated s ids count ≡ searchFrom s ids j (coun
 abbrev μ-pairs : tie.MeasureT-pairs
 μ-pairs s ids count j₀ j = count - j
 
+-- back to the entry, from the head of the loop over the later identifiers
+abbrev to-entry : tie.At-pairs Inv-loop μ-loop Inv-pairs μ-pairs → tie.Start Inv-loop μ-loop Inv-pairs μ-pairs
+to-entry c = c .before .before
+
+-- back to the head of the loop over the later identifiers, from the head of the loop over the earlier ones
+abbrev to-later : tie.At-loop Inv-loop μ-loop Inv-pairs μ-pairs → tie.At-pairs Inv-loop μ-loop Inv-pairs μ-pairs
+to-later c = c .before .before .before .before
+
 pairs-holds : tie.Need-pairs-holds Inv-loop μ-loop Inv-pairs μ-pairs
 pairs-holds c = search-start _ _ _
 
@@ -30,12 +38,17 @@ loop-holds : tie.Need-loop-holds Inv-loop μ-loop Inv-pairs μ-pairs
 loop-holds c = (omega arith, among-start _ _ _)
 
 sub-width : tie.Need-sub-width Inv-loop μ-loop Inv-pairs μ-pairs
-sub-width c = c .before .before .before .before .before .before .before .before .before .pre .1 (c .before .before .before .loop .i) (omega arith) .0
+sub-width c =
+    let earlier = c .before .before .before in
+    to-entry (to-later earlier) .pre .1 (earlier .loop .i) (omega arith) .0
 
 same-bytes-requires : tie.Need-same-bytes-requires Inv-loop μ-loop Inv-pairs μ-pairs
 same-bytes-requires c κs =
-    let (f, g) = c .before .before .before .before .before .before .before .before .before .pre .1 (c .before .before .before .before .before .before .before .pairs .j) (omega arith) in
-    let (u, v) = c .before .before .before .before .before .before .before .before .before .pre .1 (c .before .before .before .loop .i) (omega arith) in
+    let earlier = c .before .before .before in
+    let later = to-later earlier in
+    let entry = to-entry later in
+    let (f, g) = entry .pre .1 (later .pairs .j) (omega arith) in
+    let (u, v) = entry .pre .1 (earlier .loop .i) (omega arith) in
     (omega arith, omega arith)
 
 loop-again : tie.Need-loop-again Inv-loop μ-loop Inv-pairs μ-pairs
@@ -49,9 +62,10 @@ returns c = sym (c .before .pairs .inv ∙ search-end _ _ _ _ (omega arith))
 
 returns-2 : tie.Need-returns-2 Inv-loop μ-loop Inv-pairs μ-pairs
 returns-2 c =
+    let earlier = c .before .before .before .before .before in
     sym
-    (c .before .before .before .before .before .before .before .before .before .pairs .inv
-    ∙ search-found _ _ _ _ (omega arith) (c .before .before .before .before .before .loop .inv .1 ∙ among-found _ _ _ _ (omega arith) (sym (c .before .same-bytes .ensures) ∙ c .if2 .taken)))
+    (to-later earlier .pairs .inv
+    ∙ search-found _ _ _ _ (omega arith) (earlier .loop .inv .1 ∙ among-found _ _ _ _ (omega arith) (sym (c .before .same-bytes .ensures) ∙ c .if2 .taken)))
 
 pub repeated-one-spec : {M : Type 1} → statement M
 repeated-one-spec =
