@@ -20,26 +20,36 @@ Inv-loop text slots₀ answers₀ d₀ n₀ at₀ slots answers d n at =
 abbrev μ-loop : tie.MeasureT-loop
 μ-loop text slots₀ answers₀ d₀ n₀ at₀ slots answers d n at = length text - at
 
+-- back to where the line was cut, from where the line was taken
+abbrev to-cut : tie.After-take-line Inv-loop μ-loop → tie.After-line-at Inv-loop μ-loop
+to-cut c = c .before .before .before
+
+-- back to where the line was taken, from where the answers' room was known
+abbrev to-took : tie.After-slice-known4 Inv-loop μ-loop → tie.After-take-line Inv-loop μ-loop
+to-took c = c .before .before .before .before
+
 loop-holds : tie.Need-loop-holds Inv-loop μ-loop
 loop-holds c =
     let a = c .before .before .before .before .args in
     (omega arith, omega arith, refl, refl, rw (c .start .ensures) (left-start (length (a .slots .now)) (length (a .answers .now)) (a .text .now) (a .slots .now) (a .answers .now)))
 
 same-length : tie.Need-same-length Inv-loop μ-loop
-same-length c = took-slots (c .before .before .before .before .before .take-line .ensures) ∙ c .before .before .before .before .before .before .before .before .before .before .loop .inv .2
+same-length c = took-slots (to-took (c .before) .take-line .ensures) ∙ to-cut (to-took (c .before)) .before .before .loop .inv .2
 
 same-length-2 : tie.Need-same-length-2 Inv-loop μ-loop
-same-length-2 c = took-answers (c .before .before .before .before .before .take-line .ensures) ∙ c .before .before .before .before .before .before .before .before .before .before .loop .inv .3
+same-length-2 c = took-answers (to-took (c .before) .take-line .ensures) ∙ to-cut (to-took (c .before)) .before .before .loop .inv .3
 
 returns : tie.Need-returns Inv-loop μ-loop
 returns c =
-    let l = c .before .before .before .before .before .before .before .before .before .before in
+    let took = c .before .before .before .before .before in
+    let cut = took .before .before .before in
+    let l = cut .before .before in
     let a = l .before .before .before .before .before .args in
     let text = a .text .now in
     let i = l .loop .inv in
-    let r = c .before .before .before .before .before .take-line in
-    let f = rw (lines-next text (l .loop .at) (c .before .before .before .before .before .before .before .before .before .loop-test .taken)) at (i .4) in
-    let t = rw (i .2, i .3, c .before .before .before .before .before .before .before .before .line-at .ensures) at (r .ensures) in
+    let r = took .take-line in
+    let f = rw (lines-next text (l .loop .at) (cut .before .loop-test .taken)) at (i .4) in
+    let t = rw (i .2, i .3, cut .line-at .ensures) at (r .ensures) in
     left-stop _ _ _ _ _ _ _ _ _ _ _ _ _ _ f t (c .if1 .taken)
 
 add-n : tie.Need-add-n Inv-loop μ-loop
@@ -50,17 +60,25 @@ loop-less c = omega (arith, c .next-line .ensures .2 (omega arith))
 
 loop-again : tie.Need-loop-again Inv-loop μ-loop
 loop-again c =
-    let l = c .before .before .before .before .before .before .before .before .before .before .before in
+    let known = c .before .before in
+    let took = known .before .before .before .before in
+    let cut = took .before .before .before in
+    let l = cut .before .before in
     let a = l .before .before .before .before .before .args in
     let text = a .text .now in
     let m = length (a .slots .now) in
     let k = length (a .answers .now) in
     let i = l .loop .inv in
-    let r = c .before .before .before .before .before .before .take-line in
-    let f = rw (lines-next text (l .loop .at) (c .before .before .before .before .before .before .before .before .before .before .loop-test .taken)) at (i .4) in
-    let t = rw (i .2, i .3, c .before .before .before .before .before .before .before .before .before .line-at .ensures) at (r .ensures) in
-    let next = c .next-line .ensures in
-    (next .1, omega (arith, i .1, next .2 (c .before .before .before .before .before .before .before .before .before .before .loop-test .taken)), took-slots (r .ensures) ∙ i .2, took-answers (r .ensures) ∙ i .3, rw (next .0, add-one (l .loop .n)) (left-next _ _ _ _ _ _ _ _ _ _ _ _ _ _ f t (c .before .if1 .left)))
+    let r = took .take-line in
+    let f = rw (lines-next text (l .loop .at) (cut .before .loop-test .taken)) at (i .4) in
+    let t = rw (i .2, i .3, cut .line-at .ensures) at (r .ensures) in
+    let next = c .next-line .ensures in (
+      next .1,
+      omega (arith, i .1, next .2 (cut .before .loop-test .taken)),
+      took-slots (r .ensures) ∙ i .2,
+      took-answers (r .ensures) ∙ i .3,
+      rw (next .0, add-one (l .loop .n)) (left-next _ _ _ _ _ _ _ _ _ _ _ _ _ _ f t (c .before .if1 .left)),
+    )
 
 same-length-3 : tie.Need-same-length-3 Inv-loop μ-loop
 same-length-3 c = c .before .loop .inv .2
