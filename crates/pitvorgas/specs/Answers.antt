@@ -21,7 +21,8 @@ use Rattle.check_manifest.specs.Sections.{placed}
 use Rattle.run_admission.specs.declared.answer.Answer.{Answer}
 use Rattle.run_admission.specs.declared.answer.Answer.the-variants as A
 use Rattle.run_admission.specs.declared.answer.Outcome.{Outcome}
-use Rattle.run_admission.specs.Answer.{inputOf, slotsAfter, traceAfter}
+use Rattle.run_admission.specs.Answer as Run
+use Rattle.run_admission.specs.Answer.{slotsAfter, traceAfter}
 use Rattle.pitvorgas.specs.declared.Device.{Device}
 use Rattle.pitvorgas.specs.declared.CheckAnswer.{CheckAnswer}
 use Rattle.pitvorgas.specs.declared.NewerAnswer.{NewerAnswer}
@@ -81,7 +82,7 @@ Translation g room r = (r ≡ translatedOf g) × (left room ≡ roomAfter (was r
 
 -- what a run is given
 abbrev pub given : Bool → Device → Lent → Lent → Lent → Input
-given verdict device slots answers trace = inputOf verdict (controllerOf device) (was slots) (was answers) (was trace)
+given verdict device slots answers trace = Run.given verdict (controllerOf device) slots answers trace
 
 -- the answer, the lent slots and the lent trace are those of the rule's answer g
 abbrev pub Answers : Got Ran → Device → Lent → Lent → RunAnswer → Type 0
