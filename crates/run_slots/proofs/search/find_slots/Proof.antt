@@ -15,16 +15,24 @@ Inv-loop s ids n slots numbers₀ count i₀ numbers i = (i ≤ n) × (length nu
 abbrev μ-loop : tie.MeasureT-loop
 μ-loop s ids n slots numbers₀ count i₀ numbers i = n - i
 
+-- back to the entry, from the head of the loop over the names
+abbrev to-entry : tie.At-loop Inv-loop μ-loop → tie.Start Inv-loop μ-loop
+to-entry c = c .before .before .before .before
+
 loop-holds : tie.Need-loop-holds Inv-loop μ-loop
 loop-holds c = (omega arith, search needs, sofar-start _ _ _ _ _)
 
 sub-slot-of : tie.Need-sub-slot-of Inv-loop μ-loop
-sub-slot-of c = c .before .before .before .before .before .before .before .pre .1 (c .before .before .before .loop .i) (omega arith) .0
+sub-slot-of c =
+    let turns = c .before .before .before in
+    to-entry turns .pre .1 (turns .loop .i) (omega arith) .0
 
 slot-of-requires : tie.Need-slot-of-requires Inv-loop μ-loop
 slot-of-requires c κs =
-    let (f, g) = c .before .before .before .before .before .before .before .pre .1 (c .before .before .before .loop .i) (omega arith) in
-    (omega arith, c .before .before .before .before .before .before .before .pre .2)
+    let turns = c .before .before .before in
+    let entry = to-entry turns in
+    let (f, g) = entry .pre .1 (turns .loop .i) (omega arith) in
+    (omega arith, entry .pre .2)
 
 returns : tie.Need-returns Inv-loop μ-loop
 returns c =
