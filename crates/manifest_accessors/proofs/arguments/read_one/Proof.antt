@@ -5,6 +5,10 @@ use Rattle.manifest_accessors.proofs.OneLaws.{one-of-two, one-sixteen, 
 use Rattle.manifest_accessors.proofs.arguments.read_one.Statement.{statement}
 use Rattle.manifest_accessors.proofs.arguments.read_one.Tie as tie
 
+-- back to the entry, from where it is neither vendor nor class
+abbrev to-entry : tie.Else1 → tie.Start
+to-entry c = c .before .before .before
+
 index-headed : tie.Need-open-requires
 index-headed c κs = one-index _ _ _ (c .before .before .pre) (c .match .keys1) .headed
 
@@ -13,15 +17,16 @@ sixteen-headed c κs = one-sixteen _ _ _ (c .before .before .before .before .pre
 
 sixteen-fits : tie.Need-add-bare
 sixteen-fits c =
-    let y = one-sixteen _ _ _ (c .before .before .before .before .before .before .pre) (one-of-two _ 1 (c .before .before .before .if1 .left) (c .before .before .if2 .taken)) in
+    let other = c .before .before .before in
+    let y = one-sixteen _ _ _ (to-entry other .pre) (one-of-two _ 1 (other .if1 .left) (c .before .before .if2 .taken)) in
     omega (arith, c .before .open2 .ensures (y .headed), y .to-is, y .fits)
 
 map-headed : tie.Need-open-requires-3
-map-headed c κs = one-map _ _ _ (c .before .before .before .before .before .before .pre) (one-of-two _ 19 (c .before .if3 .left) (c .if4 .taken)) .headed
+map-headed c κs = one-map _ _ _ (to-entry (c .before .before .before) .pre) (one-of-two _ 19 (c .before .if3 .left) (c .if4 .taken)) .headed
 
 entries-read : tie.Need-read-entries-requires
 entries-read c κs =
-    map-entries _ _ _ (c .before .before .before .before .before .before .before .pre) _ _ (c .open3 .ensures)
+    map-entries _ _ _ (to-entry (c .before .before .before .before) .pre) _ _ (c .open3 .ensures)
     (one-of-two _ 19 (c .before .before .if3 .left) (c .before .if4 .taken))
 
 rest-fits : tie.Need-add-bare-2
