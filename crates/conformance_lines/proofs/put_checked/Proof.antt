@@ -4,11 +4,15 @@ use borrow.Author.Needs.{needs}
 use Rattle.conformance_lines.proofs.put_checked.Statement.{statement}
 use Rattle.conformance_lines.proofs.put_checked.Tie as tie
 
+-- back to where the answer is no refusal, from before it is put
+abbrev to-accepted : tie.After-put-accepted-arg → tie.Then1
+to-accepted c = c .before .before .before
+
 returns : tie.Need-returns
 unfolding checkedText
 returns c =
     let put-accepted = c .before .before in
-    let if1 = put-accepted .before .before .before .before .before .before in
+    let if1 = to-accepted (put-accepted .before .before .before) in
     rw (eq-eqb _ _ (if1 .if1 .taken)) (put-accepted .put-accepted .ensures)
 
 returns-2 : tie.Need-returns-2

@@ -7,9 +7,13 @@ use borrow.Author.Needs.{needs}
 use Rattle.conformance_lines.proofs.put_events.Statement.{statement}
 use Rattle.conformance_lines.proofs.put_events.Tie as tie
 
+-- back to where the end of the events was found, from where the first byte was put
+abbrev to-end : tie.After-put-byte → tie.After-events-end
+to-end c = c .before .before
+
 slice-aggregate-put-bytes : tie.Need-slice-aggregate-put-bytes
 slice-aggregate-put-bytes c =
-    let events-end = c .before .before .before .before .before .before in
+    let events-end = to-end (c .before .before .before .before) in
     let start = events-end .before .before .before in
     sym (length-take-le (events-end .events-end .result) (start .args .trace .now) (omega arith))
 
