@@ -11,7 +11,9 @@ returns c =
     let p3 = p4 .before .before .before .before in
     let p2 = p3 .before .before .before .before in
     let p1 = p2 .before .before .before .before in
-    rw (← p1 .before .before .before .before .before .before .before .wide .ensures .0, ← p1 .before .before .before .before .before .wide2 .ensures .0, ← p1 .before .before .before .before .two .ensures .0, ← p1 .before .before .wide3 .ensures .0) (wrote-then (wrote-then (wrote-then (p1 .put-padded .ensures) (p2 .put-spaces .ensures)) (p3 .put-command-wide .ensures)) (p4 .put-fields .ensures))
+    let w2 = p1 .before .before .before .before .before in
+    rw (← w2 .before .before .wide .ensures .0, ← w2 .wide2 .ensures .0, ← p1 .before .before .before .before .two .ensures .0, ← p1 .before .before .wide3 .ensures .0)
+    (wrote-then (wrote-then (wrote-then (p1 .put-padded .ensures) (p2 .put-spaces .ensures)) (p3 .put-command-wide .ensures)) (p4 .put-fields .ensures))
 
 pub put-event-spec : {M : Type 1} → statement M
 put-event-spec =
