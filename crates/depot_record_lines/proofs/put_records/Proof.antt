@@ -20,10 +20,14 @@ abbrev μ-loop : tie.MeasureT-loop
 loop-holds : tie.Need-loop-holds Inv-loop μ-loop
 loop-holds c = going-start _ _ _ _ _ _ _
 
+-- back to the head of the loop, from where an item is missing
+abbrev to-turns : tie.Then1 Inv-loop μ-loop → tie.At-loop Inv-loop μ-loop
+to-turns c = c .before .before .before
+
 same-length : tie.Need-same-length Inv-loop μ-loop
 same-length c =
     let at-put = c .before .before in
-    let at-loop = at-put .before .before .before .before .before .before in
+    let at-loop = to-turns (at-put .before .before .before) in
     wrote-length (at-put .put .ensures) ∙ going-length (at-loop .loop .inv)
 
 returns : tie.Need-returns Inv-loop μ-loop
@@ -66,4 +70,5 @@ returns-2 c =
 
 pub put-records-spec : {M : Type 1} → statement M
 put-records-spec =
-    tie.close (tie.spec Inv-loop μ-loop loop-holds (λ c κs. search needs) (λ c. search needs) (λ c κs. search needs) same-length returns put-record-requires (λ c. search needs) (λ c. search needs) (λ c. search needs) (λ c. search needs) (λ c. search needs) loop-again same-length-2 returns-2)
+    tie.close (tie.spec Inv-loop μ-loop loop-holds (λ c κs. search needs) (λ c. search needs) (λ c κs. search needs) same-length returns put-record-requires
+    (λ c. search needs) (λ c. search needs) (λ c. search needs) (λ c. search needs) (λ c. search needs) loop-again same-length-2 returns-2)
