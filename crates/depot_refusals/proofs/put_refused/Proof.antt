@@ -11,12 +11,17 @@ returns : tie.Need-returns
 unfolding refusedText
 returns c = rw (lt-ltb _ (refusalNumber NotCbor) (c .if1 .taken)) (c .before .before .before .put-refused-line .ensures)
 
+-- back to where the line was put, from where test 1 failed
+abbrev to-line : tie.Else1 → tie.After-put-refused-line
+to-line c = c .before .before .before
+
 returns-2 : tie.Need-returns-2
 unfolding refusedText
 returns-2 c =
     let p2 = c .before .before in
-    let p1 = p2 .before .before .before .before .before .before in
-    rw (le-ltb _ (refusalNumber NotCbor) (p2 .before .before .before .if1 .left), lt-ltb _ (refusalNumber NotVerified) (p2 .before .before .if2 .taken)) (wrote-then (p1 .put-refused-line .ensures) (p2 .put-around .ensures))
+    let p1 = to-line (p2 .before .before .before) in
+    rw (le-ltb _ (refusalNumber NotCbor) (p2 .before .before .before .if1 .left), lt-ltb _ (refusalNumber NotVerified) (p2 .before .before .if2 .taken))
+    (wrote-then (p1 .put-refused-line .ensures) (p2 .put-around .ensures))
 
 returns-3 : tie.Need-returns-3
 unfolding refusedText
