@@ -8,7 +8,9 @@ use borrow.Author.Needs.{needs}
 use Rattle.text.proofs.TextLaws.{wrote-then}
 use Rattle.depot_show.specs.Shown.{sequenceShown, alternativesShown, commandsShown}
 use Rattle.depot_show.proofs.ShownLaws.{Rest, rest-start, rest-length, rest-done, behind-shows}
-use Rattle.depot_show.proofs.WalkLaws.{no-alternatives, alternatives-on, no-commands, commands-on, nested-shows, command-nested, command-alternatives, command-parameters, command-plain, sequence-none, sequence-stopped, sequence-commands}
+use Rattle.depot_show.proofs.WalkLaws.{no-alternatives, alternatives-on, no-commands, commands-on, nested-shows, command-nested}
+use Rattle.depot_show.proofs.WalkLaws.{command-alternatives, command-parameters, command-plain, sequence-none, sequence-stopped}
+use Rattle.depot_show.proofs.WalkLaws.{sequence-commands}
 use borrow.Fn.Kinds.{In}
 use borrow.Fn.PlainCycle.{Measures, is, falls, and}
 use Rattle.depot_show.proofs.walk.put_alternatives.Reads as put-alternatives
@@ -119,7 +121,26 @@ put-alternatives-callees t = (put-alternative-reads.Asked, put-alternative-reads
 
 -- what put-command knows of what it calls
 abbrev put-command-callees : ℕ → put-command-lts.Claims
-put-command-callees t = (want-reads.Asked, want-reads.Learnt, look-reads.Asked, look-reads.Learnt, put-title-reads.Asked, put-title-reads.Learnt, holds-sequence-reads.Asked, holds-sequence-reads.Learnt, put-byte-reads.Asked, put-byte-reads.Learnt, put-nested-below t, put-nested.Post, put-argument-reads.Asked, put-argument-reads.Learnt, put-alternatives-below t, put-alternatives.Post, put-parameters-reads.Asked, put-parameters-reads.Learnt)
+put-command-callees t = (
+  want-reads.Asked,
+  want-reads.Learnt,
+  look-reads.Asked,
+  look-reads.Learnt,
+  put-title-reads.Asked,
+  put-title-reads.Learnt,
+  holds-sequence-reads.Asked,
+  holds-sequence-reads.Learnt,
+  put-byte-reads.Asked,
+  put-byte-reads.Learnt,
+  put-nested-below t,
+  put-nested.Post,
+  put-argument-reads.Asked,
+  put-argument-reads.Learnt,
+  put-alternatives-below t,
+  put-alternatives.Post,
+  put-parameters-reads.Asked,
+  put-parameters-reads.Learnt,
+)
 
 -- what put-commands knows of what it calls
 abbrev put-commands-callees : ℕ → put-commands-lts.Claims
@@ -134,30 +155,43 @@ abbrev put-sequence-callees : ℕ → put-sequence-lts.Claims
 put-sequence-callees t = (put-stop-reads.Asked, put-stop-reads.Learnt, want-reads.Asked, want-reads.Learnt, put-commands-below t, put-commands.Post)
 
 abbrev put-alternatives-Inv-loop : put-alternatives-lts.InvT-loop
-put-alternatives-Inv-loop room₀ to s depth e at count next₀ end₀ left₀ room next end left = (left ≤ count) × Rest (alternativesShown s (sequenceShown s depth) depth count count e at) to room₀ (alternativesShown s (sequenceShown s depth) depth count left e next) end room
+put-alternatives-Inv-loop room₀ to s depth e at count next₀ end₀ left₀ room next end left =
+    (left ≤ count) × Rest (alternativesShown s (sequenceShown s depth) depth count count e at) to room₀ (alternativesShown s (sequenceShown s depth) depth count left e next) end room
 
 abbrev put-alternatives-μ-loop : put-alternatives-lts.MeasureT-loop
 put-alternatives-μ-loop room₀ to s depth e at count next₀ end₀ left₀ room next end left = left
 
-put-alternatives-loop-holds : (t : ℕ) → put-alternatives-lts.Need-loop-holds (put-alternatives-callees t) (put-alternatives-at t) put-alternatives.Post put-alternatives-Inv-loop put-alternatives-μ-loop
+-- back to the entry of the alternatives, from where an alternative is left
+abbrev alternatives-to-entry :
+    {t : ℕ} →
+    put-alternatives-lts.Else1 (put-alternatives-callees t) (put-alternatives-at t) put-alternatives.Post put-alternatives-Inv-loop put-alternatives-μ-loop →
+    put-alternatives-lts.Start (put-alternatives-callees t) (put-alternatives-at t) put-alternatives.Post put-alternatives-Inv-loop put-alternatives-μ-loop
+alternatives-to-entry c = c .before .before .before .before .before
+
+put-alternatives-loop-holds :
+    (t : ℕ) → put-alternatives-lts.Need-loop-holds (put-alternatives-callees t) (put-alternatives-at t) put-alternatives.Post put-alternatives-Inv-loop put-alternatives-μ-loop
 put-alternatives-loop-holds t c = (search needs, rest-start _ _ _)
 
-put-alternatives-same-length : (t : ℕ) → put-alternatives-lts.Need-same-length (put-alternatives-callees t) (put-alternatives-at t) put-alternatives.Post put-alternatives-Inv-loop put-alternatives-μ-loop
+put-alternatives-same-length :
+    (t : ℕ) → put-alternatives-lts.Need-same-length (put-alternatives-callees t) (put-alternatives-at t) put-alternatives.Post put-alternatives-Inv-loop put-alternatives-μ-loop
 put-alternatives-same-length t c =
     let p = c .before .before in
     rest-length (p .loop .inv .1)
 
-put-alternatives-returns : (t : ℕ) → put-alternatives-lts.Need-returns (put-alternatives-callees t) (put-alternatives-at t) put-alternatives.Post put-alternatives-Inv-loop put-alternatives-μ-loop
+put-alternatives-returns :
+    (t : ℕ) → put-alternatives-lts.Need-returns (put-alternatives-callees t) (put-alternatives-at t) put-alternatives.Post put-alternatives-Inv-loop put-alternatives-μ-loop
 put-alternatives-returns t c =
     let p = c .before .before in
     rest-done _ (p .loop .inv .1) (no-alternatives _ _ _ _ _ _ _ (inl (c .if1 .taken)))
 
-put-alternatives-put-nested-requires : (t : ℕ) → put-alternatives-lts.Need-put-nested-requires (put-alternatives-callees t) (put-alternatives-at t) put-alternatives.Post put-alternatives-Inv-loop put-alternatives-μ-loop
+put-alternatives-put-nested-requires :
+    (t : ℕ) → put-alternatives-lts.Need-put-nested-requires (put-alternatives-callees t) (put-alternatives-at t) put-alternatives.Post put-alternatives-Inv-loop put-alternatives-μ-loop
 put-alternatives-put-nested-requires t c κs =
-    let p = c .before .before .before .before .before .before .before .before .before .before in
+    let p = alternatives-to-entry (c .before .before .before .before .before) in
     (omega (arith, p .pre .0), tt)
 
-put-alternatives-loop-again : (t : ℕ) → put-alternatives-lts.Need-loop-again (put-alternatives-callees t) (put-alternatives-at t) put-alternatives.Post put-alternatives-Inv-loop put-alternatives-μ-loop
+put-alternatives-loop-again :
+    (t : ℕ) → put-alternatives-lts.Need-loop-again (put-alternatives-callees t) (put-alternatives-at t) put-alternatives.Post put-alternatives-Inv-loop put-alternatives-μ-loop
 put-alternatives-loop-again t c =
     let p = c .before .before in
     let q = p .before .before .before .before in
@@ -166,19 +200,56 @@ put-alternatives-loop-again t c =
     let u = s .before in
     (search needs, alternatives-on _ _ _ _ _ _ _ (s .loop-test .taken) (r .if1 .left) (u .loop .inv .1) (behind-shows (q .put-alternative .ensures) (p .put-nested .ensures)))
 
-put-alternatives-same-length-2 : (t : ℕ) → put-alternatives-lts.Need-same-length-2 (put-alternatives-callees t) (put-alternatives-at t) put-alternatives.Post put-alternatives-Inv-loop put-alternatives-μ-loop
+put-alternatives-same-length-2 :
+    (t : ℕ) → put-alternatives-lts.Need-same-length-2 (put-alternatives-callees t) (put-alternatives-at t) put-alternatives.Post put-alternatives-Inv-loop put-alternatives-μ-loop
 put-alternatives-same-length-2 t c =
     let p = c .before in
     rest-length (p .loop .inv .1)
 
-put-alternatives-returns-2 : (t : ℕ) → put-alternatives-lts.Need-returns-2 (put-alternatives-callees t) (put-alternatives-at t) put-alternatives.Post put-alternatives-Inv-loop put-alternatives-μ-loop
+put-alternatives-returns-2 :
+    (t : ℕ) → put-alternatives-lts.Need-returns-2 (put-alternatives-callees t) (put-alternatives-at t) put-alternatives.Post put-alternatives-Inv-loop put-alternatives-μ-loop
 put-alternatives-returns-2 t c =
     let p = c .before in
     rest-done _ (p .loop .inv .1) (no-alternatives _ _ _ _ _ _ _ (inr (c .loop-test .left)))
 
+-- back to the entry of a command, from where the command was looked up
+abbrev command-to-entry :
+    {t : ℕ} →
+    put-command-lts.After-look (put-command-callees t) (put-command-at t) put-command.Post →
+    put-command-lts.Start (put-command-callees t) (put-command-at t) put-command.Post
+command-to-entry c = c .before .before .before .before
+
+-- back to where the command was looked up, from where it was asked whether it holds a sequence
+abbrev command-to-looked :
+    {t : ℕ} →
+    put-command-lts.After-holds-sequence (put-command-callees t) (put-command-at t) put-command.Post →
+    put-command-lts.After-look (put-command-callees t) (put-command-at t) put-command.Post
+command-to-looked c = c .before .before .before .before .before
+
+-- back to where it was asked whether it holds a sequence, from before the call of `put_byte`
+abbrev command-nested-to-kinds :
+    {t : ℕ} →
+    put-command-lts.After-put-byte-arg (put-command-callees t) (put-command-at t) put-command.Post →
+    put-command-lts.After-holds-sequence (put-command-callees t) (put-command-at t) put-command.Post
+command-nested-to-kinds c = c .before .before
+
+-- back to where it was asked whether it holds a sequence, from before the call of `put_argument`
+abbrev command-argument-to-kinds :
+    {t : ℕ} →
+    put-command-lts.After-put-argument-arg (put-command-callees t) (put-command-at t) put-command.Post →
+    put-command-lts.After-holds-sequence (put-command-callees t) (put-command-at t) put-command.Post
+command-argument-to-kinds c = c .before .before
+
+-- back to before the call of `put_argument`, from before the second call of `put_byte`
+abbrev command-to-argument :
+    {t : ℕ} →
+    put-command-lts.After-put-byte-arg2 (put-command-callees t) (put-command-at t) put-command.Post →
+    put-command-lts.After-put-argument-arg (put-command-callees t) (put-command-at t) put-command.Post
+command-to-argument c = c .before .before .before .before
+
 put-command-put-nested-requires : (t : ℕ) → put-command-lts.Need-put-nested-requires (put-command-callees t) (put-command-at t) put-command.Post
 put-command-put-nested-requires t c κs =
-    let p = c .before .before .before .before .before .before .before .before .before .before .before .before .before .before .before in
+    let p = command-to-entry (command-to-looked (command-nested-to-kinds (c .before .before .before .before))) in
     (omega (arith, p .pre .0), tt)
 
 put-command-returns : (t : ℕ) → put-command-lts.Need-returns (put-command-callees t) (put-command-at t) put-command.Post
@@ -189,11 +260,12 @@ put-command-returns t c =
     let h = r .before in
     let s = h .before .before .before in
     let u = s .before .before .before in
-    rw (command-nested _ _ _ _ _ _ (u .want .ensures) (sym (h .holds-sequence .ensures) ∙ r .if1 .taken)) (behind-shows (wrote-then (s .put-title .ensures) (q .put-byte .ensures)) (p .put-nested .ensures))
+    rw (command-nested _ _ _ _ _ _ (u .want .ensures) (sym (h .holds-sequence .ensures) ∙ r .if1 .taken))
+    (behind-shows (wrote-then (s .put-title .ensures) (q .put-byte .ensures)) (p .put-nested .ensures))
 
 put-command-put-alternatives-requires : (t : ℕ) → put-command-lts.Need-put-alternatives-requires (put-command-callees t) (put-command-at t) put-command.Post
 put-command-put-alternatives-requires t c κs =
-    let p = c .before .before .before .before .before .before .before .before .before .before .before .before .before .before .before .before .before .before .before .before in
+    let p = command-to-entry (command-to-looked (command-argument-to-kinds (command-to-argument (c .before .before .before .before .before)))) in
     (omega (arith, p .pre .0), tt)
 
 put-command-returns-2 : (t : ℕ) → put-command-lts.Need-returns-2 (put-command-callees t) (put-command-at t) put-command.Post
@@ -207,7 +279,8 @@ put-command-returns-2 t c =
     let v = h .before .before .before in
     let w = v .before .before in
     let x = w .before in
-    rw (command-alternatives _ _ _ _ _ _ (x .want .ensures) _ (w .look .ensures) (sym (h .holds-sequence .ensures) ∙ u .if1 .left) (q .if2 .taken)) (behind-shows (wrote-then (wrote-then (v .put-title .ensures) (s .put-argument .ensures)) (r .put-byte2 .ensures)) (p .put-alternatives .ensures))
+    rw (command-alternatives _ _ _ _ _ _ (x .want .ensures) _ (w .look .ensures) (sym (h .holds-sequence .ensures) ∙ u .if1 .left) (q .if2 .taken))
+    (behind-shows (wrote-then (wrote-then (v .put-title .ensures) (s .put-argument .ensures)) (r .put-byte2 .ensures)) (p .put-alternatives .ensures))
 
 put-command-returns-3 : (t : ℕ) → put-command-lts.Need-returns-3 (put-command-callees t) (put-command-at t) put-command.Post
 put-command-returns-3 t c =
@@ -221,7 +294,8 @@ put-command-returns-3 t c =
     let w = h .before .before .before in
     let x = w .before .before in
     let y = x .before in
-    rw (command-parameters _ _ _ _ _ _ (y .want .ensures) _ (x .look .ensures) (sym (h .holds-sequence .ensures) ∙ v .if1 .left) (r .if2 .left) (q .if3 .taken)) (behind-shows (wrote-then (wrote-then (w .put-title .ensures) (u .put-argument .ensures)) (s .put-byte2 .ensures)) (p .put-parameters .ensures))
+    rw (command-parameters _ _ _ _ _ _ (y .want .ensures) _ (x .look .ensures) (sym (h .holds-sequence .ensures) ∙ v .if1 .left) (r .if2 .left) (q .if3 .taken))
+    (behind-shows (wrote-then (wrote-then (w .put-title .ensures) (u .put-argument .ensures)) (s .put-byte2 .ensures)) (p .put-parameters .ensures))
 
 put-command-returns-4 : (t : ℕ) → put-command-lts.Need-returns-4 (put-command-callees t) (put-command-at t) put-command.Post
 put-command-returns-4 t c =
@@ -233,13 +307,22 @@ put-command-returns-4 t c =
     let u = h .before .before .before in
     let v = u .before .before in
     let w = v .before in
-    rw (command-plain _ _ _ _ _ _ (w .want .ensures) _ (v .look .ensures) (sym (h .holds-sequence .ensures) ∙ s .if1 .left) (p .if2 .left) (c .if3 .left)) (record { next = refl; wrote = wrote-then (wrote-then (u .put-title .ensures) (r .put-argument .ensures)) (q .put-byte2 .ensures) })
+    rw (command-plain _ _ _ _ _ _ (w .want .ensures) _ (v .look .ensures) (sym (h .holds-sequence .ensures) ∙ s .if1 .left) (p .if2 .left) (c .if3 .left))
+    (record { next = refl; wrote = wrote-then (wrote-then (u .put-title .ensures) (r .put-argument .ensures)) (q .put-byte2 .ensures) })
 
 abbrev put-commands-Inv-loop : put-commands-lts.InvT-loop
-put-commands-Inv-loop room₀ to s depth e at count next₀ end₀ left₀ room next end left = Rest (commandsShown s (sequenceShown s depth) depth count e at) to room₀ (commandsShown s (sequenceShown s depth) depth left e next) end room
+put-commands-Inv-loop room₀ to s depth e at count next₀ end₀ left₀ room next end left =
+    Rest (commandsShown s (sequenceShown s depth) depth count e at) to room₀ (commandsShown s (sequenceShown s depth) depth left e next) end room
 
 abbrev put-commands-μ-loop : put-commands-lts.MeasureT-loop
 put-commands-μ-loop room₀ to s depth e at count next₀ end₀ left₀ room next end left = left
+
+-- back to the entry of the commands, from the head of the loop over the commands
+abbrev commands-to-entry :
+    {t : ℕ} →
+    put-commands-lts.At-loop (put-commands-callees t) (put-commands-at t) put-commands.Post put-commands-Inv-loop put-commands-μ-loop →
+    put-commands-lts.Start (put-commands-callees t) (put-commands-at t) put-commands.Post put-commands-Inv-loop put-commands-μ-loop
+commands-to-entry c = c .before .before .before
 
 put-commands-loop-holds : (t : ℕ) → put-commands-lts.Need-loop-holds (put-commands-callees t) (put-commands-at t) put-commands.Post put-commands-Inv-loop put-commands-μ-loop
 put-commands-loop-holds t c = rest-start _ _ _
@@ -254,9 +337,10 @@ put-commands-returns t c =
     let p = c .before .before in
     rest-done _ (p .loop .inv) (no-commands _ _ _ _ _ _ (inl (c .if1 .taken)))
 
-put-commands-put-command-requires : (t : ℕ) → put-commands-lts.Need-put-command-requires (put-commands-callees t) (put-commands-at t) put-commands.Post put-commands-Inv-loop put-commands-μ-loop
+put-commands-put-command-requires :
+    (t : ℕ) → put-commands-lts.Need-put-command-requires (put-commands-callees t) (put-commands-at t) put-commands.Post put-commands-Inv-loop put-commands-μ-loop
 put-commands-put-command-requires t c κs =
-    let p = c .before .before .before .before .before .before in
+    let p = commands-to-entry (c .before .before .before) in
     (omega (arith, p .pre .0), tt)
 
 put-commands-loop-again : (t : ℕ) → put-commands-lts.Need-loop-again (put-commands-callees t) (put-commands-at t) put-commands.Post put-commands-Inv-loop put-commands-μ-loop
@@ -288,6 +372,13 @@ put-nested-returns t c =
     let q = p .before .before in
     nested-shows _ _ _ _ _ (q .want .ensures) (p .put-sequence .ensures)
 
+-- back to the entry of a sequence, from where test 1 failed
+abbrev sequence-to-entry :
+    {t : ℕ} →
+    put-sequence-lts.Else1 (put-sequence-callees t) (put-sequence-at t) put-sequence.Post →
+    put-sequence-lts.Start (put-sequence-callees t) (put-sequence-at t) put-sequence.Post
+sequence-to-entry c = c .before .before .before
+
 put-sequence-returns : (t : ℕ) → put-sequence-lts.Need-returns (put-sequence-callees t) (put-sequence-at t) put-sequence.Post
 put-sequence-returns t c =
     let p = c .before .before in
@@ -304,7 +395,7 @@ put-sequence-returns-2 t c =
 
 put-sequence-put-commands-requires : (t : ℕ) → put-sequence-lts.Need-put-commands-requires (put-sequence-callees t) (put-sequence-at t) put-sequence.Post
 put-sequence-put-commands-requires t c κs =
-    let p = c .before .before .before .before .before .before .before in
+    let p = sequence-to-entry (c .before .before .before .before) in
     (omega (arith, p .pre .0), tt)
 
 put-sequence-returns-3 : (t : ℕ) → put-sequence-lts.Need-returns-3 (put-sequence-callees t) (put-sequence-at t) put-sequence.Post
