@@ -3,13 +3,22 @@ use borrow.Author.Needs.{needs}
 use Rattle.conformance_cases.proofs.jobs.run_with.Statement.{statement}
 use Rattle.conformance_cases.proofs.jobs.run_with.Tie as tie
 
+-- back to where the memory was known, from where the first text was put
+abbrev to-known : tie.After-put → tie.After-slice-known
+to-known c = c .before .before .before .before
+
+-- back to the entry, from there
+abbrev to-entry : tie.After-slice-known → tie.Start
+to-entry c = c .before .before .before .before .before
+
 returns : tie.Need-returns
 returns c =
     let put-run = c .before .before in
-    let run-by = put-run .before .before .before .before .before .before .before .before in
+    let known = put-run .before .before .before .before in
+    let run-by = known .before .before .before .before in
     let fill = run-by .before .before .before .before .before in
     let put = fill .before .before .before .before .before in
-    let start = put .before .before .before .before .before .before .before .before .before in
+    let start = to-entry (to-known put) in
     let s = wrote-whole (start .pre .1) (put .put .ensures) in
     let g = rw (s, fill .fill .ensures) at (run-by .run-by .ensures) in
     rw (g .0, g .1, g .2) at (put-run .put-run .ensures)
