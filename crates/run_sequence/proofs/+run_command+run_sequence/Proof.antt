@@ -7,10 +7,13 @@ use Rattle.rules.specs.Run.{runSeq, runCmd}
 use Rattle.manifest_accessors.specs.Arguments.{isTrue}
 use Rattle.manifest_accessors.proofs.PlaceLaws.{remaining}
 use Rattle.run_sequence.specs.Cycle.{stateOf, CommandJob}
-use Rattle.run_sequence.proofs.SequenceRuns.{CommandsJob, Loop, loop-starts, command-job, loop-rises, loop-goes-on, sequence-deep, sequence-head, commands-job, command-falls, sequence-done, sequence-stopped}
+use Rattle.run_sequence.proofs.SequenceRuns.{CommandsJob, Loop, loop-starts, command-job, loop-rises, loop-goes-on, sequence-deep, sequence-head}
+use Rattle.run_sequence.proofs.SequenceRuns.{commands-job, command-falls, sequence-done, sequence-stopped}
 use borrow.Fn.Kinds.{In}
 use borrow.Fn.PlainCycle.{Measures, is, falls, and}
-use Rattle.run_sequence.proofs.TryRuns.{AltsLoop, command-head, sequence-falls, sub-head, sub-fits, sub-job, sub-falls, sub-ran, leaf-job, leaf-ran, tries-head, tries-later, tries-start, tries-failed, choice-head, choice-fits, choice-later, choice-job, choice-rest, tries-end, tries-on}
+use Rattle.run_sequence.proofs.TryRuns.{AltsLoop, command-head, sequence-falls, sub-head, sub-fits, sub-job, sub-falls, sub-ran, leaf-job, leaf-ran}
+use Rattle.run_sequence.proofs.TryRuns.{tries-head, tries-later, tries-start, tries-failed, choice-head, choice-fits, choice-later}
+use Rattle.run_sequence.proofs.TryRuns.{choice-job, choice-rest, tries-end, tries-on}
 use Rattle.run_sequence.proofs.run_command.Reads as run-command
 use Rattle.run_sequence.proofs.run_command.Kinds as run-command-kinds
 use Rattle.run_sequence.proofs.+run_command+run_sequence.Lts-run_command as run-command-lts
@@ -54,7 +57,18 @@ run-sequence-below t =
 
 -- what run-command knows of what it calls
 abbrev run-command-callees : ℕ → run-command-lts.Claims
-run-command-callees t = (open-reads.Asked, open-reads.Learnt, run-at-reads.Asked, run-at-reads.Learnt, run-sequence-below t, run-sequence.Post, skip-reads.Asked, skip-reads.Learnt, leaf-reads.Asked, leaf-reads.Learnt)
+run-command-callees t = (
+  open-reads.Asked,
+  open-reads.Learnt,
+  run-at-reads.Asked,
+  run-at-reads.Learnt,
+  run-sequence-below t,
+  run-sequence.Post,
+  skip-reads.Asked,
+  skip-reads.Learnt,
+  leaf-reads.Asked,
+  leaf-reads.Learnt,
+)
 
 -- what run-sequence knows of what it calls
 abbrev run-sequence-callees : ℕ → run-sequence-lts.Claims
@@ -63,31 +77,108 @@ run-sequence-callees t = (open-reads.Asked, open-reads.Learnt, run-command-below
 abbrev run-command-Inv-loop : run-command-lts.InvT-loop
 run-command-Inv-loop s depth run vendor class answers slots₀ memory₀ trace₀ code p₀ left₀ now₀ slots memory trace p left now =
     (length slots ≡ length slots₀) × (length trace ≡ length trace₀) × ((j : CommandJob s depth run vendor class answers slots₀ memory₀ trace₀) →
-    AltsLoop s vendor class memory₀ answers depth (j .ready .env) (j .place .cmd) (j .place .to) run (runCmd (j .ready .env) (j .place .cmd) (run .index) (stateOf s (length (j .ready .env .ids)) memory₀ slots₀ trace₀ run)) slots memory trace p left now)
+    AltsLoop s vendor class memory₀ answers depth (j .ready .env) (j .place .cmd) (j .place .to) run
+    (runCmd (j .ready .env) (j .place .cmd) (run .index) (stateOf s (length (j .ready .env .ids)) memory₀ slots₀ trace₀ run)) slots memory trace p left now)
     × ((j : CommandJob s depth run vendor class answers slots₀ memory₀ trace₀) → p₀ ≤ p)
 
 abbrev run-command-μ-loop : run-command-lts.MeasureT-loop
 run-command-μ-loop s depth run vendor class answers slots₀ memory₀ trace₀ code p₀ left₀ now₀ slots memory trace p left now = left
 
+-- The way points. Where `rw .. at` follows, the steps are written out: `rw` with a fact refuses a way point that passes it.
+-- back to the entry of a command, from where its code was read
+abbrev to-entry :
+    {t : ℕ} →
+    run-command-lts.After-open (run-command-callees t) (run-command-at t) run-command.Post run-command-Inv-loop run-command-μ-loop →
+    run-command-lts.Start (run-command-callees t) (run-command-at t) run-command.Post run-command-Inv-loop run-command-μ-loop
+to-entry c = c .before .before .before .before .before
+
+-- back to where the command's code was read, from where the head of its sequence was read
+abbrev sub-to-code :
+    {t : ℕ} →
+    run-command-lts.After-open2 (run-command-callees t) (run-command-at t) run-command.Post run-command-Inv-loop run-command-μ-loop →
+    run-command-lts.After-open (run-command-callees t) (run-command-at t) run-command.Post run-command-Inv-loop run-command-μ-loop
+sub-to-code c = c .before .before
+
+-- back to where the head of its sequence was read, from before its sequence is run
+abbrev to-sub :
+    {t : ℕ} →
+    run-command-lts.After-run-sequence-arg3 (run-command-callees t) (run-command-at t) run-command.Post run-command-Inv-loop run-command-μ-loop →
+    run-command-lts.After-open2 (run-command-callees t) (run-command-at t) run-command.Post run-command-Inv-loop run-command-μ-loop
+to-sub c = c .before .before .before .before
+
+-- back to where its sequence was run, from what is known of the run after it
+abbrev to-ran :
+    {t : ℕ} →
+    run-command-lts.After-struct-known (run-command-callees t) (run-command-at t) run-command.Post run-command-Inv-loop run-command-μ-loop →
+    run-command-lts.After-run-sequence (run-command-callees t) (run-command-at t) run-command.Post run-command-Inv-loop run-command-μ-loop
+to-ran c = c .before .before .before .before .before
+
+-- back to where the command's code was read, from the head of the loop over the alternatives
+abbrev turns-to-code :
+    {t : ℕ} →
+    run-command-lts.At-loop (run-command-callees t) (run-command-at t) run-command.Post run-command-Inv-loop run-command-μ-loop →
+    run-command-lts.After-open (run-command-callees t) (run-command-at t) run-command.Post run-command-Inv-loop run-command-μ-loop
+turns-to-code c = c .before .before .before .before
+
+-- back to the head of the loop over the alternatives, from where the head of an alternative was read
+abbrev to-turns :
+    {t : ℕ} →
+    run-command-lts.After-open4 (run-command-callees t) (run-command-at t) run-command.Post run-command-Inv-loop run-command-μ-loop →
+    run-command-lts.At-loop (run-command-callees t) (run-command-at t) run-command.Post run-command-Inv-loop run-command-μ-loop
+to-turns c = c .before .before
+
+-- back to where the head of an alternative was read, from before the alternative is run
+abbrev to-choice :
+    {t : ℕ} →
+    run-command-lts.After-run-sequence-arg6 (run-command-callees t) (run-command-at t) run-command.Post run-command-Inv-loop run-command-μ-loop →
+    run-command-lts.After-open4 (run-command-callees t) (run-command-at t) run-command.Post run-command-Inv-loop run-command-μ-loop
+to-choice c = c .before .before .before .before
+
+-- back to where an alternative was run, from what is known of the run after it
+abbrev to-tried :
+    {t : ℕ} →
+    run-command-lts.After-struct-known2 (run-command-callees t) (run-command-at t) run-command.Post run-command-Inv-loop run-command-μ-loop →
+    run-command-lts.After-run-sequence2 (run-command-callees t) (run-command-at t) run-command.Post run-command-Inv-loop run-command-μ-loop
+to-tried c = c .before .before .before .before .before
+
+-- back to where the command's code was read, from before a command that holds no sequence is run
+abbrev leaf-to-code :
+    {t : ℕ} →
+    run-command-lts.After-leaf-arg3 (run-command-callees t) (run-command-at t) run-command.Post run-command-Inv-loop run-command-μ-loop →
+    run-command-lts.After-open (run-command-callees t) (run-command-at t) run-command.Post run-command-Inv-loop run-command-μ-loop
+leaf-to-code c = c .before .before .before .before .before
+
 run-command-open-requires : (t : ℕ) → run-command-lts.Need-open-requires (run-command-callees t) (run-command-at t) run-command.Post run-command-Inv-loop run-command-μ-loop
 run-command-open-requires t c κs = command-head _ _ _ _ _ _ _ _ _ (c .before .before .before .before .pre .1)
 
 run-command-open-requires-2 : (t : ℕ) → run-command-lts.Need-open-requires-2 (run-command-callees t) (run-command-at t) run-command.Post run-command-Inv-loop run-command-μ-loop
-run-command-open-requires-2 t c κs = sub-head _ _ _ _ _ _ _ _ _ (c .before .before .before .before .before .before .pre .1) _ _ (c .before .«open» .ensures (command-head _ _ _ _ _ _ _ _ _ (c .before .before .before .before .before .before .pre .1))) (c .if1 .taken)
+run-command-open-requires-2 t c κs =
+    let j = to-entry (c .before) .pre .1 in
+    sub-head _ _ _ _ _ _ _ _ _ j _ _ (c .before .«open» .ensures (command-head _ _ _ _ _ _ _ _ _ j)) (c .if1 .taken)
 
 run-command-run-at-requires : (t : ℕ) → run-command-lts.Need-run-at-requires (run-command-callees t) (run-command-at t) run-command.Post run-command-Inv-loop run-command-μ-loop
 run-command-run-at-requires t c κs = search needs
 
 run-command-run-sequence-requires : (t : ℕ) → run-command-lts.Need-run-sequence-requires (run-command-callees t) (run-command-at t) run-command.Post run-command-Inv-loop run-command-μ-loop
 run-command-run-sequence-requires t c κs =
-    let (is, j) = c .before .before .before .before .before .before .before .before .before .before .before .pre in
-    let code = c .before .before .before .before .before .before .«open» .ensures (command-head _ _ _ _ _ _ _ _ _ j) in
-    let taken = c .before .before .before .before .before .if1 .taken in
-    let o = c .before .before .before .before .open2 .ensures (sub-head _ _ _ _ _ _ _ _ _ j _ _ code taken) in
+    let sub = to-sub c in
+    let opened = sub-to-code sub in
+    let (is, j) = to-entry opened .pre in
+    let code = opened .«open» .ensures (command-head _ _ _ _ _ _ _ _ _ j) in
+    let taken = sub .before .if1 .taken in
+    let o = sub .open2 .ensures (sub-head _ _ _ _ _ _ _ _ _ j _ _ code taken) in
     rw (c .before .before .before .run-at .ensures) (omega (arith, is, sub-falls _ _ _ _ _ _ _ _ _ j _ _ code taken _ _ o), sub-job _ _ _ _ _ _ _ _ _ j _ _ code taken _ _ o)
 
 run-command-add-run-at : (t : ℕ) → run-command-lts.Need-add-run-at (run-command-callees t) (run-command-at t) run-command.Post run-command-Inv-loop run-command-μ-loop
-run-command-add-run-at t c = omega (arith, c .before .before .before .before .before .before .before .before .before .before .before .before .before .before .before .before .before .good .0, c .before .before .before .before .before .before .before .before .before .before .before .before .before .before .before .before .before .fits, sub-fits _ _ _ _ _ _ _ _ _ (c .before .before .before .before .before .before .before .before .before .before .before .before .before .before .before .before .before .pre .1) _ _ (c .before .before .before .before .before .before .before .before .before .before .before .before .«open» .ensures (command-head _ _ _ _ _ _ _ _ _ (c .before .before .before .before .before .before .before .before .before .before .before .before .before .before .before .before .before .pre .1))) (c .before .before .before .before .before .before .before .before .before .before .before .if1 .taken), (c .before .before .before .before .before .before .before .before .before .before .open2 .ensures (sub-head _ _ _ _ _ _ _ _ _ (c .before .before .before .before .before .before .before .before .before .before .before .before .before .before .before .before .before .pre .1) _ _ (c .before .before .before .before .before .before .before .before .before .before .before .before .«open» .ensures (command-head _ _ _ _ _ _ _ _ _ (c .before .before .before .before .before .before .before .before .before .before .before .before .before .before .before .before .before .pre .1))) (c .before .before .before .before .before .before .before .before .before .before .before .if1 .taken))) .0, (c .before .before .before .before .before .before .before .before .before .before .open2 .ensures (sub-head _ _ _ _ _ _ _ _ _ (c .before .before .before .before .before .before .before .before .before .before .before .before .before .before .before .before .before .pre .1) _ _ (c .before .before .before .before .before .before .before .before .before .before .before .before .«open» .ensures (command-head _ _ _ _ _ _ _ _ _ (c .before .before .before .before .before .before .before .before .before .before .before .before .before .before .before .before .before .pre .1))) (c .before .before .before .before .before .before .before .before .before .before .before .if1 .taken))) .1)
+run-command-add-run-at t c =
+    let sub = to-sub (to-ran c .before) in
+    let opened = sub-to-code sub in
+    let entry = to-entry opened in
+    let j = entry .pre .1 in
+    let code = opened .«open» .ensures (command-head _ _ _ _ _ _ _ _ _ j) in
+    let taken = sub .before .if1 .taken in
+    let o = sub .open2 .ensures (sub-head _ _ _ _ _ _ _ _ _ j _ _ code taken) in
+    omega (arith, entry .good .0, entry .fits, sub-fits _ _ _ _ _ _ _ _ _ j _ _ code taken, o .0, o .1)
 
 run-command-run-at-requires-2 : (t : ℕ) → run-command-lts.Need-run-at-requires-2 (run-command-callees t) (run-command-at t) run-command.Post run-command-Inv-loop run-command-μ-loop
 run-command-run-at-requires-2 t c κs = search needs
@@ -99,68 +190,124 @@ run-command-same-length-2 : (t : ℕ) → run-command-lts.Need-same-length-2 (ru
 run-command-same-length-2 t c = search needs
 
 run-command-returns : (t : ℕ) → run-command-lts.Need-returns (run-command-callees t) (run-command-at t) run-command.Post run-command-Inv-loop run-command-μ-loop
-run-command-returns t c = λ j. rw (c .run-at2 .ensures) (sub-ran _ _ _ _ _ _ _ _ _ j _ _ (c .before .before .before .before .before .before .before .before .before .before .before .before .before .«open» .ensures (command-head _ _ _ _ _ _ _ _ _ j)) (c .before .before .before .before .before .before .before .before .before .before .before .before .if1 .taken) _ _ (c .before .before .before .before .before .before .before .before .before .before .before .open2 .ensures (sub-head _ _ _ _ _ _ _ _ _ j _ _ (c .before .before .before .before .before .before .before .before .before .before .before .before .before .«open» .ensures (command-head _ _ _ _ _ _ _ _ _ j)) (c .before .before .before .before .before .before .before .before .before .before .before .before .if1 .taken))) _ _ _ _ ((rw (c .before .before .before .before .before .before .before .before .before .before .run-at .ensures) at (c .before .before .before .before .before .before .run-sequence .ensures)) (sub-job _ _ _ _ _ _ _ _ _ j _ _ (c .before .before .before .before .before .before .before .before .before .before .before .before .before .«open» .ensures (command-head _ _ _ _ _ _ _ _ _ j)) (c .before .before .before .before .before .before .before .before .before .before .before .before .if1 .taken) _ _ (c .before .before .before .before .before .before .before .before .before .before .before .open2 .ensures (sub-head _ _ _ _ _ _ _ _ _ j _ _ (c .before .before .before .before .before .before .before .before .before .before .before .before .before .«open» .ensures (command-head _ _ _ _ _ _ _ _ _ j)) (c .before .before .before .before .before .before .before .before .before .before .before .before .if1 .taken))))))
+run-command-returns t c =
+    let known = c .before in
+    let ran = known .before .before .before .before .before in
+    let sub = to-sub (ran .before) in
+    let does = rw (ran .before .before .before .before .run-at .ensures) at (ran .run-sequence .ensures) in
+    λ j.
+    let code = sub-to-code sub .«open» .ensures (command-head _ _ _ _ _ _ _ _ _ j) in
+    let taken = sub .before .if1 .taken in
+    let o = sub .open2 .ensures (sub-head _ _ _ _ _ _ _ _ _ j _ _ code taken) in
+    rw (c .run-at2 .ensures) (sub-ran _ _ _ _ _ _ _ _ _ j _ _ code taken _ _ o _ _ _ _ (does (sub-job _ _ _ _ _ _ _ _ _ j _ _ code taken _ _ o)))
 
 run-command-open-requires-3 : (t : ℕ) → run-command-lts.Need-open-requires-3 (run-command-callees t) (run-command-at t) run-command.Post run-command-Inv-loop run-command-μ-loop
-run-command-open-requires-3 t c κs = tries-head _ _ _ _ _ _ _ _ _ (c .before .before .before .before .before .before .before .pre .1) _ _ (c .before .before .«open» .ensures (command-head _ _ _ _ _ _ _ _ _ (c .before .before .before .before .before .before .before .pre .1))) (c .if2 .taken)
+run-command-open-requires-3 t c κs =
+    let opened = c .before .before in
+    let j = to-entry opened .pre .1 in
+    tries-head _ _ _ _ _ _ _ _ _ j _ _ (opened .«open» .ensures (command-head _ _ _ _ _ _ _ _ _ j)) (c .if2 .taken)
 
 run-command-loop-holds : (t : ℕ) → run-command-lts.Need-loop-holds (run-command-callees t) (run-command-at t) run-command.Post run-command-Inv-loop run-command-μ-loop
-run-command-loop-holds t c = (refl, refl, (λ j. tries-start _ _ _ _ _ _ _ _ _ j _ _ (c .before .before .before .«open» .ensures (command-head _ _ _ _ _ _ _ _ _ j)) (c .before .if2 .taken) _ _ (c .open3 .ensures (tries-head _ _ _ _ _ _ _ _ _ j _ _ (c .before .before .before .«open» .ensures (command-head _ _ _ _ _ _ _ _ _ j)) (c .before .if2 .taken)))), λ j. omega arith)
+run-command-loop-holds t c =
+    let opened = c .before .before .before in
+    let taken = c .before .if2 .taken in (
+      refl,
+      refl,
+      λ j.
+          let code = opened .«open» .ensures (command-head _ _ _ _ _ _ _ _ _ j) in
+          tries-start _ _ _ _ _ _ _ _ _ j _ _ code taken _ _ (c .open3 .ensures (tries-head _ _ _ _ _ _ _ _ _ j _ _ code taken)),
+      λ j. omega arith,
+    )
 
 run-command-open-requires-4 : (t : ℕ) → run-command-lts.Need-open-requires-4 (run-command-callees t) (run-command-at t) run-command.Post run-command-Inv-loop run-command-μ-loop
-run-command-open-requires-4 t c κs = choice-head _ _ _ _ _ _ _ _ _ _ _ _ _ _ _ _ _ _ (c .before .loop .inv .2 (c .before .before .before .before .before .before .before .before .before .before .pre .1)) (c .loop-test .taken)
+run-command-open-requires-4 t c κs =
+    let turns = c .before in
+    choice-head _ _ _ _ _ _ _ _ _ _ _ _ _ _ _ _ _ _ (turns .loop .inv .2 (to-entry (turns-to-code turns) .pre .1)) (c .loop-test .taken)
 
 run-command-run-at-requires-3 : (t : ℕ) → run-command-lts.Need-run-at-requires-3 (run-command-callees t) (run-command-at t) run-command.Post run-command-Inv-loop run-command-μ-loop
 run-command-run-at-requires-3 t c κs = search needs
 
 run-command-run-sequence-requires-2 : (t : ℕ) → run-command-lts.Need-run-sequence-requires-2 (run-command-callees t) (run-command-at t) run-command.Post run-command-Inv-loop run-command-μ-loop
 run-command-run-sequence-requires-2 t c κs =
-    let (is, j) = c .before .before .before .before .before .before .before .before .before .before .before .before .before .before .before .pre in
-    let code = c .before .before .before .before .before .before .before .before .before .before .«open» .ensures (command-head _ _ _ _ _ _ _ _ _ j) in
-    let taken = c .before .before .before .before .before .before .before .before .if2 .taken in
-    let later = tries-later _ _ _ _ _ _ _ _ _ j _ _ code taken _ _ (c .before .before .before .before .before .before .before .open3 .ensures (tries-head _ _ _ _ _ _ _ _ _ j _ _ code taken)) in
-    let (_, _, loop, rises) = c .before .before .before .before .before .before .loop .inv in
-    let more = c .before .before .before .before .before .loop-test .taken in
-    let o = c .before .before .before .before .open4 .ensures (choice-head _ _ _ _ _ _ _ _ _ _ _ _ _ _ _ _ _ _ (loop j) more) in
+    let choice = to-choice c in
+    let turns = to-turns choice in
+    let opened = turns-to-code turns in
+    let (is, j) = to-entry opened .pre in
+    let code = opened .«open» .ensures (command-head _ _ _ _ _ _ _ _ _ j) in
+    let taken = turns .before .before .if2 .taken in
+    let later = tries-later _ _ _ _ _ _ _ _ _ j _ _ code taken _ _ (turns .before .open3 .ensures (tries-head _ _ _ _ _ _ _ _ _ j _ _ code taken)) in
+    let (_, _, loop, rises) = turns .loop .inv in
+    let more = choice .before .loop-test .taken in
+    let o = choice .open4 .ensures (choice-head _ _ _ _ _ _ _ _ _ _ _ _ _ _ _ _ _ _ (loop j) more) in
     let falls = sequence-falls _ _ _ _ _ _ _ _ _ j _ _ _ later (rises j) (choice-later _ _ _ _ _ _ _ _ _ _ _ _ _ _ _ _ _ _ (loop j) more _ _ o) in
     rw (c .before .before .before .run-at3 .ensures) (omega (arith, is, falls), choice-job _ _ _ _ _ _ _ _ _ _ _ _ _ _ _ _ _ _ (loop j) more _ _ o)
 
 run-command-add-p : (t : ℕ) → run-command-lts.Need-add-p (run-command-callees t) (run-command-at t) run-command.Post run-command-Inv-loop run-command-μ-loop
-run-command-add-p t c = omega (arith, c .before .before .before .before .before .before .before .before .before .before .before .before .before .before .before .before .before .before .before .before .before .good .0, c .before .before .before .before .before .before .before .before .before .before .before .before .before .before .before .before .before .before .before .before .before .fits, choice-fits _ _ _ _ _ _ _ _ _ _ _ _ _ _ _ _ _ _ (c .before .before .before .before .before .before .before .before .before .before .before .before .loop .inv .2 (c .before .before .before .before .before .before .before .before .before .before .before .before .before .before .before .before .before .before .before .before .before .pre .1)) (c .before .before .before .before .before .before .before .before .before .before .before .loop-test .taken), (c .before .before .before .before .before .before .before .before .before .before .open4 .ensures (choice-head _ _ _ _ _ _ _ _ _ _ _ _ _ _ _ _ _ _ (c .before .before .before .before .before .before .before .before .before .before .before .before .loop .inv .2 (c .before .before .before .before .before .before .before .before .before .before .before .before .before .before .before .before .before .before .before .before .before .pre .1)) (c .before .before .before .before .before .before .before .before .before .before .before .loop-test .taken))) .0, (c .before .before .before .before .before .before .before .before .before .before .open4 .ensures (choice-head _ _ _ _ _ _ _ _ _ _ _ _ _ _ _ _ _ _ (c .before .before .before .before .before .before .before .before .before .before .before .before .loop .inv .2 (c .before .before .before .before .before .before .before .before .before .before .before .before .before .before .before .before .before .before .before .before .before .pre .1)) (c .before .before .before .before .before .before .before .before .before .before .before .loop-test .taken))) .1)
+run-command-add-p t c =
+    let choice = to-choice (to-tried c .before) in
+    let turns = to-turns choice in
+    let entry = to-entry (turns-to-code turns) in
+    let l = turns .loop .inv .2 (entry .pre .1) in
+    let more = choice .before .loop-test .taken in
+    let o = choice .open4 .ensures (choice-head _ _ _ _ _ _ _ _ _ _ _ _ _ _ _ _ _ _ l more) in
+    omega (arith, entry .good .0, entry .fits, choice-fits _ _ _ _ _ _ _ _ _ _ _ _ _ _ _ _ _ _ l more, o .0, o .1)
 
 run-command-sub-left : (t : ℕ) → run-command-lts.Need-sub-left (run-command-callees t) (run-command-at t) run-command.Post run-command-Inv-loop run-command-μ-loop
 run-command-sub-left t c = search needs
 
 run-command-skip-requires : (t : ℕ) → run-command-lts.Need-skip-requires (run-command-callees t) (run-command-at t) run-command.Post run-command-Inv-loop run-command-μ-loop
-run-command-skip-requires t c κs = choice-rest _ _ _ _ _ _ _ _ _ _ _ _ _ _ _ _ _ _ (c .before .before .before .before .before .before .before .before .before .before .before .before .before .loop .inv .2 (c .before .before .before .before .before .before .before .before .before .before .before .before .before .before .before .before .before .before .before .before .before .before .pre .1)) (c .before .before .before .before .before .before .before .before .before .before .before .before .loop-test .taken) _ _ (c .before .before .before .before .before .before .before .before .before .before .before .open4 .ensures (choice-head _ _ _ _ _ _ _ _ _ _ _ _ _ _ _ _ _ _ (c .before .before .before .before .before .before .before .before .before .before .before .before .before .loop .inv .2 (c .before .before .before .before .before .before .before .before .before .before .before .before .before .before .before .before .before .before .before .before .before .before .pre .1)) (c .before .before .before .before .before .before .before .before .before .before .before .before .loop-test .taken)))
+run-command-skip-requires t c κs =
+    let choice = to-choice (to-tried (c .before) .before) in
+    let turns = to-turns choice in
+    let l = turns .loop .inv .2 (to-entry (turns-to-code turns) .pre .1) in
+    let more = choice .before .loop-test .taken in
+    choice-rest _ _ _ _ _ _ _ _ _ _ _ _ _ _ _ _ _ _ l more _ _ (choice .open4 .ensures (choice-head _ _ _ _ _ _ _ _ _ _ _ _ _ _ _ _ _ _ l more))
 
 run-command-run-at-requires-4 : (t : ℕ) → run-command-lts.Need-run-at-requires-4 (run-command-callees t) (run-command-at t) run-command.Post run-command-Inv-loop run-command-μ-loop
 run-command-run-at-requires-4 t c κs = search needs
 
 run-command-same-length-3 : (t : ℕ) → run-command-lts.Need-same-length-3 (run-command-callees t) (run-command-at t) run-command.Post run-command-Inv-loop run-command-μ-loop
-run-command-same-length-3 t c = c .before .before .before .before .before .before .before .before .run-sequence2 .kept .1 .1 .1 .1 .1 .1 .0 ∙ c .before .before .before .before .before .before .before .before .before .before .before .before .before .before .before .loop .inv .0
+run-command-same-length-3 t c =
+    let tried = to-tried (c .before .before .before) in
+    tried .run-sequence2 .kept .1 .1 .1 .1 .1 .1 .0 ∙ to-turns (to-choice (tried .before)) .loop .inv .0
 
 run-command-same-length-4 : (t : ℕ) → run-command-lts.Need-same-length-4 (run-command-callees t) (run-command-at t) run-command.Post run-command-Inv-loop run-command-μ-loop
-run-command-same-length-4 t c = c .before .before .before .before .before .before .before .before .run-sequence2 .kept .1 .1 .1 .1 .1 .1 .1 .1 .0 ∙ c .before .before .before .before .before .before .before .before .before .before .before .before .before .before .before .loop .inv .1
+run-command-same-length-4 t c =
+    let tried = to-tried (c .before .before .before) in
+    tried .run-sequence2 .kept .1 .1 .1 .1 .1 .1 .1 .1 .0 ∙ to-turns (to-choice (tried .before)) .loop .inv .1
 
 run-command-returns-2 : (t : ℕ) → run-command-lts.Need-returns-2 (run-command-callees t) (run-command-at t) run-command.Post run-command-Inv-loop run-command-μ-loop
-run-command-returns-2 t c = λ j. rw (c .run-at4 .ensures) (tries-end _ _ _ _ _ _ _ _ _ _ _ _ _ _ _ _ _ _ (c .before .before .before .before .before .before .before .before .before .before .before .before .before .before .before .loop .inv .2 j) (c .before .before .before .before .before .before .before .before .before .before .before .before .before .before .loop-test .taken) _ _ (c .before .before .before .before .before .before .before .before .before .before .before .before .before .open4 .ensures (choice-head _ _ _ _ _ _ _ _ _ _ _ _ _ _ _ _ _ _ (c .before .before .before .before .before .before .before .before .before .before .before .before .before .before .before .loop .inv .2 j) (c .before .before .before .before .before .before .before .before .before .before .before .before .before .before .loop-test .taken))) _ _ _ _ ((rw (c .before .before .before .before .before .before .before .before .before .before .before .before .run-at3 .ensures) at (c .before .before .before .before .before .before .before .before .run-sequence2 .ensures)) (choice-job _ _ _ _ _ _ _ _ _ _ _ _ _ _ _ _ _ _ (c .before .before .before .before .before .before .before .before .before .before .before .before .before .before .before .loop .inv .2 j) (c .before .before .before .before .before .before .before .before .before .before .before .before .before .before .loop-test .taken) _ _ (c .before .before .before .before .before .before .before .before .before .before .before .before .before .open4 .ensures (choice-head _ _ _ _ _ _ _ _ _ _ _ _ _ _ _ _ _ _ (c .before .before .before .before .before .before .before .before .before .before .before .before .before .before .before .loop .inv .2 j) (c .before .before .before .before .before .before .before .before .before .before .before .before .before .before .loop-test .taken))))) (c .before .before .if3 .taken) _ (c .before .skip .ensures (choice-rest _ _ _ _ _ _ _ _ _ _ _ _ _ _ _ _ _ _ (c .before .before .before .before .before .before .before .before .before .before .before .before .before .before .before .loop .inv .2 j) (c .before .before .before .before .before .before .before .before .before .before .before .before .before .before .loop-test .taken) _ _ (c .before .before .before .before .before .before .before .before .before .before .before .before .before .open4 .ensures (choice-head _ _ _ _ _ _ _ _ _ _ _ _ _ _ _ _ _ _ (c .before .before .before .before .before .before .before .before .before .before .before .before .before .before .before .loop .inv .2 j) (c .before .before .before .before .before .before .before .before .before .before .before .before .before .before .loop-test .taken))))))
+run-command-returns-2 t c =
+    let known = c .before .before .before in
+    let tried = known .before .before .before .before .before in
+    let choice = to-choice (tried .before) in
+    let does = rw (tried .before .before .before .before .run-at3 .ensures) at (tried .run-sequence2 .ensures) in
+    let more = choice .before .loop-test .taken in
+    λ j.
+    let l = to-turns choice .loop .inv .2 j in
+    let o = choice .open4 .ensures (choice-head _ _ _ _ _ _ _ _ _ _ _ _ _ _ _ _ _ _ l more) in
+    let rest = c .before .skip .ensures (choice-rest _ _ _ _ _ _ _ _ _ _ _ _ _ _ _ _ _ _ l more _ _ o) in
+    rw (c .run-at4 .ensures)
+    (tries-end _ _ _ _ _ _ _ _ _ _ _ _ _ _ _ _ _ _ l more _ _ o _ _ _ _ (does (choice-job _ _ _ _ _ _ _ _ _ _ _ _ _ _ _ _ _ _ l more _ _ o)) (c .before .before .if3 .taken) _ rest)
 
 run-command-loop-less : (t : ℕ) → run-command-lts.Need-loop-less (run-command-callees t) (run-command-at t) run-command.Post run-command-Inv-loop run-command-μ-loop
 run-command-loop-less t c = search needs
 
 run-command-loop-again : (t : ℕ) → run-command-lts.Need-loop-again (run-command-callees t) (run-command-at t) run-command.Post run-command-Inv-loop run-command-μ-loop
 run-command-loop-again t c =
-    let (_, _, loop, rises) = c .before .before .before .before .before .before .before .before .before .before .before .before .before .loop .inv in
-    let more = c .before .before .before .before .before .before .before .before .before .before .before .before .loop-test .taken in
-    let ran = rw (c .before .before .before .before .before .before .before .before .before .before .run-at3 .ensures) at (c .before .before .before .before .before .before .run-sequence2 .ensures) in (
+    let known = c .before in
+    let tried = known .before .before .before .before .before in
+    let choice = to-choice (tried .before) in
+    let (_, _, loop, rises) = to-turns choice .loop .inv in
+    let more = choice .before .loop-test .taken in
+    let ran = rw (tried .before .before .before .before .run-at3 .ensures) at (tried .run-sequence2 .ensures) in (
       search needs,
       search needs,
       λ j.
-          let o = c .before .before .before .before .before .before .before .before .before .before .before .open4 .ensures (choice-head _ _ _ _ _ _ _ _ _ _ _ _ _ _ _ _ _ _ (loop j) more) in
+          let o = choice .open4 .ensures (choice-head _ _ _ _ _ _ _ _ _ _ _ _ _ _ _ _ _ _ (loop j) more) in
           tries-on _ _ _ _ _ _ _ _ _ _ _ _ _ _ _ _ _ _ (loop j) more _ _ o _ _ _ _ (ran (choice-job _ _ _ _ _ _ _ _ _ _ _ _ _ _ _ _ _ _ (loop j) more _ _ o)) (c .if3 .left),
       λ j.
-          let o = c .before .before .before .before .before .before .before .before .before .before .before .open4 .ensures (choice-head _ _ _ _ _ _ _ _ _ _ _ _ _ _ _ _ _ _ (loop j) more) in
+          let o = choice .open4 .ensures (choice-head _ _ _ _ _ _ _ _ _ _ _ _ _ _ _ _ _ _ (loop j) more) in
           omega (arith, rises j, choice-later _ _ _ _ _ _ _ _ _ _ _ _ _ _ _ _ _ _ (loop j) more _ _ o),
     )
 
@@ -177,7 +324,11 @@ run-command-returns-3 : (t : ℕ) → run-command-lts.Need-returns-3 (run-comman
 run-command-returns-3 t c = λ j. rw (c .run-at5 .ensures) (tries-failed _ _ _ _ _ _ _ _ _ _ _ _ _ _ _ _ _ _ (c .before .before .loop .inv .2 j) (omega (arith, c .before .loop-test .left)))
 
 run-command-leaf-requires : (t : ℕ) → run-command-lts.Need-leaf-requires (run-command-callees t) (run-command-at t) run-command.Post run-command-Inv-loop run-command-μ-loop
-run-command-leaf-requires t c κs = leaf-job _ _ _ _ _ _ _ _ _ (c .before .before .before .before .before .before .before .before .before .before .pre .1) _ _ (c .before .before .before .before .before .«open» .ensures (command-head _ _ _ _ _ _ _ _ _ (c .before .before .before .before .before .before .before .before .before .before .pre .1))) (c .before .before .before .before .if1 .left) (c .before .before .before .if2 .left)
+run-command-leaf-requires t c κs =
+    let opened = leaf-to-code c in
+    let j = to-entry opened .pre .1 in
+    let code = opened .«open» .ensures (command-head _ _ _ _ _ _ _ _ _ j) in
+    leaf-job _ _ _ _ _ _ _ _ _ j _ _ code (c .before .before .before .before .if1 .left) (c .before .before .before .if2 .left)
 
 run-command-same-length-7 : (t : ℕ) → run-command-lts.Need-same-length-7 (run-command-callees t) (run-command-at t) run-command.Post run-command-Inv-loop run-command-μ-loop
 run-command-same-length-7 t c = search needs
@@ -186,16 +337,53 @@ run-command-same-length-8 : (t : ℕ) → run-command-lts.Need-same-length-8 (ru
 run-command-same-length-8 t c = search needs
 
 run-command-returns-4 : (t : ℕ) → run-command-lts.Need-returns-4 (run-command-callees t) (run-command-at t) run-command.Post run-command-Inv-loop run-command-μ-loop
-run-command-returns-4 t c = λ j. leaf-ran _ _ _ _ _ _ _ _ _ j _ _ (c .before .before .before .before .before .before .before .before .before .before .«open» .ensures (command-head _ _ _ _ _ _ _ _ _ j)) (c .before .before .before .before .before .before .before .before .before .if1 .left) (c .before .before .before .before .before .before .before .before .if2 .left) _ _ _ _ (c .before .before .before .before .leaf .ensures (leaf-job _ _ _ _ _ _ _ _ _ j _ _ (c .before .before .before .before .before .before .before .before .before .before .«open» .ensures (command-head _ _ _ _ _ _ _ _ _ j)) (c .before .before .before .before .before .before .before .before .before .if1 .left) (c .before .before .before .before .before .before .before .before .if2 .left)))
+run-command-returns-4 t c =
+    let ran = c .before .before .before .before in
+    let other = ran .before .before .before .before in
+    λ j.
+    let code = leaf-to-code (ran .before) .«open» .ensures (command-head _ _ _ _ _ _ _ _ _ j) in
+    let runs-not = other .before .if1 .left in
+    let tries-not = other .if2 .left in
+    leaf-ran _ _ _ _ _ _ _ _ _ j _ _ code runs-not tries-not _ _ _ _ (ran .leaf .ensures (leaf-job _ _ _ _ _ _ _ _ _ j _ _ code runs-not tries-not))
 
 abbrev run-sequence-Inv-loop : run-sequence-lts.InvT-loop
 run-sequence-Inv-loop s level vendor class answers slots₀ memory₀ trace₀ left₀ now₀ slots memory trace left now =
     (length slots ≡ length slots₀) × (length trace ≡ length trace₀) × ((x : CommandsJob s (level .depth - 1) left₀ now₀ vendor class answers slots₀ memory₀ trace₀) →
-    Loop s vendor class memory₀ answers (level .depth - 1) (level .coercible) (x .ready .env) (runSeq (x .ready .env) (x .place .cmds) (level .coercible) (now₀ .index) (isTrue (now₀ .coerce)) (stateOf s (length (x .ready .env .ids)) memory₀ slots₀ trace₀ now₀)) slots memory trace left now)
+    Loop s vendor class memory₀ answers (level .depth - 1) (level .coercible) (x .ready .env)
+    (runSeq (x .ready .env) (x .place .cmds) (level .coercible) (now₀ .index) (isTrue (now₀ .coerce)) (stateOf s (length (x .ready .env .ids)) memory₀ slots₀ trace₀ now₀))
+    slots memory trace left now)
     × ((x : CommandsJob s (level .depth - 1) left₀ now₀ vendor class answers slots₀ memory₀ trace₀) → now₀ .next ≤ now .next)
 
 abbrev run-sequence-μ-loop : run-sequence-lts.MeasureT-loop
 run-sequence-μ-loop s level vendor class answers slots₀ memory₀ trace₀ left₀ now₀ slots memory trace left now = left
+
+-- back to the entry of a sequence, from where its head was read
+abbrev sequence-to-entry :
+    {t : ℕ} →
+    run-sequence-lts.After-open (run-sequence-callees t) (run-sequence-at t) run-sequence.Post run-sequence-Inv-loop run-sequence-μ-loop →
+    run-sequence-lts.Start (run-sequence-callees t) (run-sequence-at t) run-sequence.Post run-sequence-Inv-loop run-sequence-μ-loop
+sequence-to-entry c = c .before .before .before .before .before
+
+-- back to where the head of a sequence was read, from the head of the loop over its commands
+abbrev to-head :
+    {t : ℕ} →
+    run-sequence-lts.At-loop (run-sequence-callees t) (run-sequence-at t) run-sequence.Post run-sequence-Inv-loop run-sequence-μ-loop →
+    run-sequence-lts.After-open (run-sequence-callees t) (run-sequence-at t) run-sequence.Post run-sequence-Inv-loop run-sequence-μ-loop
+to-head c = c .before .before
+
+-- back to the head of the loop over its commands, from before a command is run
+abbrev to-commands :
+    {t : ℕ} →
+    run-sequence-lts.After-run-command-arg3 (run-sequence-callees t) (run-sequence-at t) run-sequence.Post run-sequence-Inv-loop run-sequence-μ-loop →
+    run-sequence-lts.At-loop (run-sequence-callees t) (run-sequence-at t) run-sequence.Post run-sequence-Inv-loop run-sequence-μ-loop
+to-commands c = c .before .before .before .before .before
+
+-- back to where a command was run, from what is known of the run after it
+abbrev to-command-ran :
+    {t : ℕ} →
+    run-sequence-lts.After-slice-known4 (run-sequence-callees t) (run-sequence-at t) run-sequence.Post run-sequence-Inv-loop run-sequence-μ-loop →
+    run-sequence-lts.After-run-command (run-sequence-callees t) (run-sequence-at t) run-sequence.Post run-sequence-Inv-loop run-sequence-μ-loop
+to-command-ran c = c .before .before .before .before
 
 run-sequence-open-requires : (t : ℕ) → run-sequence-lts.Need-open-requires (run-sequence-callees t) (run-sequence-at t) run-sequence.Post run-sequence-Inv-loop run-sequence-μ-loop
 run-sequence-open-requires t c κs = sequence-head _ _ _ _ _ _ _ _ _ (c .before .before .before .before .pre .1)
@@ -204,15 +392,20 @@ run-sequence-loop-holds : (t : ℕ) → run-sequence-lts.Need-loop-holds (run-se
 run-sequence-loop-holds t c = (refl, refl, loop-starts _ _ _ _ _ _ _ _ _ _ _ refl, λ x. omega arith)
 
 run-sequence-sub-run-command : (t : ℕ) → run-sequence-lts.Need-sub-run-command (run-sequence-callees t) (run-sequence-at t) run-sequence.Post run-sequence-Inv-loop run-sequence-μ-loop
-run-sequence-sub-run-command t c = omega (arith, sequence-deep _ _ _ _ _ _ _ _ _ (c .before .before .before .before .before .before .before .before .before .pre .1))
+run-sequence-sub-run-command t c =
+    let entry = sequence-to-entry (to-head (c .before .before)) in
+    omega (arith, sequence-deep _ _ _ _ _ _ _ _ _ (entry .pre .1))
 
 run-sequence-run-command-requires : (t : ℕ) → run-sequence-lts.Need-run-command-requires (run-sequence-callees t) (run-sequence-at t) run-sequence.Post run-sequence-Inv-loop run-sequence-μ-loop
 run-sequence-run-command-requires t c κs =
-    let (is, j) = c .before .before .before .before .before .before .before .before .before .before .before .before .pre in
-    let o = c .before .before .before .before .before .before .before .«open» .ensures (sequence-head _ _ _ _ _ _ _ _ _ j) in
-    let (_, _, loop, rises) = c .before .before .before .before .before .loop .inv in
+    let turns = to-commands c in
+    let head = to-head turns in
+    let (is, j) = sequence-to-entry head .pre in
+    let o = head .«open» .ensures (sequence-head _ _ _ _ _ _ _ _ _ j) in
+    let (_, _, loop, rises) = turns .loop .inv in
     let x = commands-job _ _ _ _ _ _ _ _ _ j _ _ o in
-    (omega (arith, is, command-falls _ _ _ _ _ _ _ _ _ j _ _ o _ (rises x)), command-job _ _ _ _ _ _ _ _ _ _ _ _ _ _ (loop x) (c .before .before .before .before .loop-test .taken))
+    let more = c .before .before .before .before .loop-test .taken in
+    (omega (arith, is, command-falls _ _ _ _ _ _ _ _ _ j _ _ o _ (rises x)), command-job _ _ _ _ _ _ _ _ _ _ _ _ _ _ (loop x) more)
 
 run-sequence-caught-requires : (t : ℕ) → run-sequence-lts.Need-caught-requires (run-sequence-callees t) (run-sequence-at t) run-sequence.Post run-sequence-Inv-loop run-sequence-μ-loop
 run-sequence-caught-requires t c κs = search needs
@@ -224,7 +417,14 @@ run-sequence-same-length-2 : (t : ℕ) → run-sequence-lts.Need-same-length-2 (
 run-sequence-same-length-2 t c = search needs
 
 run-sequence-returns : (t : ℕ) → run-sequence-lts.Need-returns (run-sequence-callees t) (run-sequence-at t) run-sequence.Post run-sequence-Inv-loop run-sequence-μ-loop
-run-sequence-returns t c = λ j. let x = commands-job _ _ _ _ _ _ _ _ _ j _ _ (c .before .before .before .before .before .before .before .before .before .before .before .before .before .before .«open» .ensures (sequence-head _ _ _ _ _ _ _ _ _ j)) in let l = c .before .before .before .before .before .before .before .before .before .before .before .before .loop .inv .2 x in rw (c .caught .ensures) (sequence-stopped _ _ _ _ _ _ _ _ _ _ _ _ _ _ _ _ _ l (c .before .before .before .before .before .before .before .before .before .before .before .loop-test .taken) _ _ _ _ (c .before .before .before .before .before .before .run-command .ensures (command-job _ _ _ _ _ _ _ _ _ _ _ _ _ _ l (c .before .before .before .before .before .before .before .before .before .before .before .loop-test .taken))) (c .before .if1 .taken))
+run-sequence-returns t c =
+    let ran = to-command-ran (c .before .before) in
+    let turns = to-commands (ran .before) in
+    let more = ran .before .before .before .before .before .loop-test .taken in
+    λ j.
+    let x = commands-job _ _ _ _ _ _ _ _ _ j _ _ (to-head turns .«open» .ensures (sequence-head _ _ _ _ _ _ _ _ _ j)) in
+    let l = turns .loop .inv .2 x in
+    rw (c .caught .ensures) (sequence-stopped _ _ _ _ _ _ _ _ _ _ _ _ _ _ _ _ _ l more _ _ _ _ (ran .run-command .ensures (command-job _ _ _ _ _ _ _ _ _ _ _ _ _ _ l more)) (c .before .if1 .taken))
 
 run-sequence-sub-left : (t : ℕ) → run-sequence-lts.Need-sub-left (run-sequence-callees t) (run-sequence-at t) run-sequence.Post run-sequence-Inv-loop run-sequence-μ-loop
 run-sequence-sub-left t c = search needs
@@ -234,9 +434,10 @@ run-sequence-loop-less t c = search needs
 
 run-sequence-loop-again : (t : ℕ) → run-sequence-lts.Need-loop-again (run-sequence-callees t) (run-sequence-at t) run-sequence.Post run-sequence-Inv-loop run-sequence-μ-loop
 run-sequence-loop-again t c =
-    let (_, _, loop, rises) = c .before .before .before .before .before .before .before .before .before .before .before .loop .inv in
-    let more = c .before .before .before .before .before .before .before .before .before .before .loop-test .taken in
-    let ran = c .before .before .before .before .before .run-command .ensures in (
+    let command = to-command-ran (c .before) in
+    let (_, _, loop, rises) = to-commands (command .before) .loop .inv in
+    let more = command .before .before .before .before .before .loop-test .taken in
+    let ran = command .run-command .ensures in (
       search needs,
       search needs,
       λ x. loop-goes-on _ _ _ _ _ _ _ _ _ _ _ _ _ _ (loop x) more _ _ _ _ (ran (command-job _ _ _ _ _ _ _ _ _ _ _ _ _ _ (loop x) more)) (c .if1 .left),
@@ -250,7 +451,9 @@ run-sequence-same-length-4 : (t : ℕ) → run-sequence-lts.Need-same-length-4 (
 run-sequence-same-length-4 t c = search needs
 
 run-sequence-returns-2 : (t : ℕ) → run-sequence-lts.Need-returns-2 (run-sequence-callees t) (run-sequence-at t) run-sequence.Post run-sequence-Inv-loop run-sequence-μ-loop
-run-sequence-returns-2 t c = λ j. sequence-done _ _ _ _ _ _ _ _ _ _ _ _ _ _ _ _ _ (c .before .loop .inv .2 (commands-job _ _ _ _ _ _ _ _ _ j _ _ (c .before .before .before .«open» .ensures (sequence-head _ _ _ _ _ _ _ _ _ j)))) (omega (arith, c .loop-test .left))
+run-sequence-returns-2 t c = λ j.
+    let x = commands-job _ _ _ _ _ _ _ _ _ j _ _ (to-head (c .before) .«open» .ensures (sequence-head _ _ _ _ _ _ _ _ _ j)) in
+    sequence-done _ _ _ _ _ _ _ _ _ _ _ _ _ _ _ _ _ (c .before .loop .inv .2 x) (omega (arith, c .loop-test .left))
 
 pub +run-command+run-sequence-spec : {M : Type 1} → statement M
 +run-command+run-sequence-spec = close μ-run-command μ-run-sequence (λ t. run-command-lts.spec (run-command-callees t) (run-command-at t) run-command.Post
