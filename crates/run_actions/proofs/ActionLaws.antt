@@ -51,7 +51,8 @@ module _ (s : Bytes) (p : Params) (env : Env) (i : ℕ) (st : State) (slots : By
   match-unset z = rw (a .params, eq-eqb _ _ z)
 
   pub match-set : (p .digest ≡ 0 → ⊥) → matches env i st ≡
-      passes (slotAt slots k .present && same (part slots (slotBytes * k + (imageFrom + digestFrom)) (limits .digest)) (part s (p .digest) (limits .digest)) && sizeIs (optional (p .size) (p .size - 1)) (slotAt slots k .size)) st
+      passes (slotAt slots k .present && same (part slots (slotBytes * k + (imageFrom + digestFrom)) (limits .digest)) (part s (p .digest) (limits .digest))
+      && sizeIs (optional (p .size) (p .size - 1)) (slotAt slots k .size)) st
   unfolding matches meaning given slotAt
   match-set z = rw (a .params, ne-eqb _ _ z, at-slot)
 

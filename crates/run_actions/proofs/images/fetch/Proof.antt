@@ -12,6 +12,18 @@ use Rattle.run_actions.proofs.ActionLaws.{fetch-unset, fetch-none, fetc
 use Rattle.run_actions.proofs.images.fetch.Statement.{statement}
 use Rattle.run_actions.proofs.images.fetch.Tie as tie
 
+-- back to the entry, from where the status of the answer is read
+abbrev to-entry : tie.After-shared-slice-known2 → tie.Start
+to-entry c = c .before .before .before .before .before
+
+-- back to there, from where the answer's size was read
+abbrev to-status : tie.After-four → tie.After-shared-slice-known2
+to-status c = c .before .before .before .before
+
+-- back to there, from where the image was put
+abbrev to-sized : tie.After-put-image → tie.After-four
+to-sized c = c .before .before .before .before
+
 returns : tie.Need-returns
 returns c =
     let d = c .before in
@@ -30,7 +42,7 @@ returns-3 : tie.Need-returns-3
 unfolding unless
 returns-3 c =
     let d = c .before in
-    let args = d .before .before .before .before .before .before .args in
+    let args = to-entry (d .before) .args in
     let l : answerBytes * args .used + answerBytes ≤ length (args .answers .now) = omega arith in
     rw (c .ended3 .ensures)
     (refl, refl, λ s env i st a x u. rw (fetch-taken s _ env i st _ _ a _ _ x u (d .before .before .before .if1 .left) l, ne-eqb _ _ (d .if3 .taken)))
@@ -39,19 +51,21 @@ returns-4 : tie.Need-returns-4
 unfolding unless
 returns-4 c =
     let d = c .before in
-    let args = d .before .before .before .before .before .before .before .before .before .before .args in
+    let sized = d .before in
+    let status = to-status sized in
+    let args = to-entry status .args in
     let at = answerBytes * args .used in
     let l : at + answerBytes ≤ length (args .answers .now) = omega arith in
-    let n : d .before .four .result ≡ num (part (args .answers .now) (at + sizeFrom) 4) =
-    rw (num-4 (args .answers .now) (at + sizeFrom) (omega arith)) (d .before .four .ensures .0) in rw (c .ended4 .ensures) (
+    let n : sized .four .result ≡ num (part (args .answers .now) (at + sizeFrom) 4) =
+    rw (num-4 (args .answers .now) (at + sizeFrom) (omega arith)) (sized .four .ensures .0) in rw (c .ended4 .ensures) (
       refl,
       refl,
       λ s env i st a x u.
           rw (
-            fetch-taken s _ env i st _ _ a _ _ x u (d .before .before .before .before .before .before .before .if1 .left) l,
-            eq-eqb _ _ (d .before .before .before .before .if3 .left),
+            fetch-taken s _ env i st _ _ a _ _ x u (status .before .before .if1 .left) l,
+            eq-eqb _ _ (sized .before .before .before .if3 .left),
             ← n,
-            ← d .before .before .capacity .ensures,
+            ← sized .before .capacity .ensures,
             lt-leb _ _ (d .if4 .taken),
           ),
     )
@@ -59,23 +73,26 @@ returns-4 c =
 returns-5 : tie.Need-returns-5
 unfolding unless
 returns-5 c =
-    let d = c .before in
-    let args = d .before .before .before .before .before .before .before .before .before .before .before .before .before .before .before .args in
+    let put = c .before .before .before in
+    let sized = to-sized put in
+    let status = to-status sized in
+    let entry = to-entry status in
+    let args = entry .args in
     let at = answerBytes * args .used in
-    let l : at + answerBytes ≤ length (args .answers .now) = omega (arith, d .before .before .before .before .before .before .before .before .before .before .before .if2 .left, d .before .before .before .before .before .before .before .before .before .before .before .before .before .before .before .pre .1) in
-    let n : d .before .before .before .before .before .before .four .result ≡ num (part (args .answers .now) (at + sizeFrom) 4) =
-    rw (num-4 (args .answers .now) (at + sizeFrom) (omega arith)) (d .before .before .before .before .before .before .four .ensures .0) in rw (c .ended5 .ensures) (
+    let l : at + answerBytes ≤ length (args .answers .now) = omega (arith, status .before .if2 .left, entry .pre .1) in
+    let n : sized .four .result ≡ num (part (args .answers .now) (at + sizeFrom) 4) =
+    rw (num-4 (args .answers .now) (at + sizeFrom) (omega arith)) (sized .four .ensures .0) in rw (c .ended5 .ensures) (
       refl,
       refl,
       λ s env i st a x u.
           rw (
-            fetch-taken s _ env i st _ _ a _ _ x u (d .before .before .before .before .before .before .before .before .before .before .before .before .if1 .left) l,
-            eq-eqb _ _ (d .before .before .before .before .before .before .before .before .before .if3 .left),
+            fetch-taken s _ env i st _ _ a _ _ x u (status .before .before .if1 .left) l,
+            eq-eqb _ _ (sized .before .before .before .if3 .left),
             ← n,
-            ← d .before .before .before .before .before .before .before .capacity .ensures,
-            le-leb _ _ (d .before .before .before .before .before .if4 .left),
-            d .before .before .put-image .ensures,
-            d .before .before .before .before .take .ensures,
+            ← sized .before .capacity .ensures,
+            le-leb _ _ (put .before .before .before .if4 .left),
+            put .put-image .ensures,
+            put .before .before .take .ensures,
           ),
     )
 
