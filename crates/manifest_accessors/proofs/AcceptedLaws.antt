@@ -9,7 +9,7 @@ use borrow.Author.Tests.{leb-true}
 use Rattle.rules.specs.declared.answers.Refusal.{Refusal}
 use Rattle.rules.specs.declared.answers.Refusal.the-variants.{EnvelopeTooLong}
 use Rattle.rules.specs.Limits.{limits, places}
-use Rattle.rules.specs.Bytes.{Bytes, Span, span, bytesAt, spanAt}
+use Rattle.rules.specs.Bytes.{Bytes, Span, span, bytesAt, spanAt, InBytes}
 use Rattle.rules.specs.Got.{Got, refused, got}
 use Rattle.rules.specs.Manifest.{Manifest, names}
 use Rattle.rules.specs.Check.{check}
@@ -46,7 +46,7 @@ module _ (s : Bytes) (number n : ℕ) (ids sections : List ℕ) (a : Accepted s 
   spans : (k : ℕ) → k < length (a .manifest .ids) → spanAt ids k ≡ getD (a .manifest .ids) k (span 0 0)
   spans k h = ap (λ (l : List ℕ). spanAt l k) (a .names) ∙ span-laid (a .manifest .ids) (replicate places 0) k h
 
-  pub inside : (k : ℕ) → k < n → (spanAt ids k .from ≤ spanAt ids k .to) × (spanAt ids k .to ≤ length s)
+  pub inside : InBytes ids n (length s)
   inside k h =
       let l : k < length (a .manifest .ids) = omega (arith, a .count) in
       subst (λ (p : Span). In s p) (sym (spans k l)) (ids-in s (a .manifest) (a .checks) k l)

@@ -9,7 +9,7 @@ use Rattle.rules.specs.declared.answers.Refusal.{Refusal}
 use Rattle.rules.specs.declared.answers.Refusal.the-variants.{BadProgram}
 use Rattle.rules.specs.Answers.{refusalOf, endOf}
 use Rattle.rules.specs.Limits.{limits, memoryNumbers}
-use Rattle.rules.specs.Bytes.{Bytes, spanAt}
+use Rattle.rules.specs.Bytes.{Bytes, InBytes}
 use Rattle.rules.specs.Got.{Got, refused, got}
 use Rattle.rules.specs.Program.{Program}
 use Rattle.rules.specs.ProgramTest.{programIn}
@@ -42,7 +42,7 @@ module _ (p : Bytes) (t : Tested) (a : Known p t) where
   pub few : t .components ≤ limits .components
   few = a .stands .some-ids .1
 
-  pub inside : (k : ℕ) → k < t .components → (spanAt (t .ids) k .from ≤ spanAt (t .ids) k .to) × (spanAt (t .ids) k .to ≤ length p)
+  pub inside : InBytes (t .ids) (t .components) (length p)
   inside = a .stands .places
 
   pub number-small : t .number ≤ limits .largest

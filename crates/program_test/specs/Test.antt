@@ -1,13 +1,12 @@
 -- What the program test answers, by the places of a program's bytes.
-use Prim.Native.Nat.{ℕ, zero, suc, _+_, _*_, _-_, _≤_, _<_}
+use Prim.Native.Nat.{ℕ, zero, suc, _+_, _*_, _-_, _≤_}
 use mathlib.Core.Path.{_≡_}
 use mathlib.Core.Bool.{Bool, true, false, _&&_}
 use mathlib.Core.List.{List, []}
 use lib.Dec.{leb}
 use lib.ListN.{length, getD, drop, replicate, set}
 use Rattle.rules.specs.declared.answers.Group.the-variants.{Install}
-use Rattle.rules.specs.Bytes.{Bytes, part, num, spanAt}
-use Rattle.rules.specs.Commands as Rules
+use Rattle.rules.specs.Bytes.{Bytes, part, num, InBytes}
 use Rattle.rules.specs.Got.{Got, refused, got}
 use Rattle.rules.specs.Limits.{limits, places}
 use Rattle.rules.specs.Program.{Program}
@@ -33,7 +32,7 @@ NamesAre p at n (refused r q) ids = Unit {0}
 NamesAre p at n (got a) ids =
     (ids ≡ placesFrom p n 0 at (replicate places 0))
     × (namesAt p ids n ≡ a .0)
-    × ((k : ℕ) → k < n → (spanAt ids k .from ≤ spanAt ids k .to) × (spanAt ids k .to ≤ length p))
+    × InBytes ids n (length p)
 
 -- the tests of a program's start
 unfoldable pub startFits : Bytes → Bool
@@ -64,7 +63,7 @@ pub record ProgramAt (p : Bytes) (x : Program) (t : Tested) : Type 0 where
   pub small : t .number ≤ limits .largest
   pub some-ids : (1 ≤ t .components) × (t .components ≤ limits .components)
   pub names : namesAt p (t .ids) (t .components) ≡ x .ids
-  pub places : (k : ℕ) → k < t .components → (spanAt (t .ids) k .from ≤ spanAt (t .ids) k .to) × (spanAt (t .ids) k .to ≤ length p)
+  pub places : InBytes (t .ids) (t .components) (length p)
   pub from : t .from ≤ length p
   pub size : t .records ≤ limits .records
   pub reads : recordsIn (x .group) (t .components) (t .records) (t .records) 0 (drop (t .from) p) ≡ got (x .records, [])

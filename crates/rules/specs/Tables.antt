@@ -2,7 +2,7 @@
 use Rattle.rules.specs.Base.{ℕ, zero, suc, _+_, _*_, List, [], _∷_, _++_, Bool, true, false, cond, Option, some, none, eqb, Argument, Sixteen, Nil, Index, Alternatives, Parameters, Sequence, Command, Listed, Parameter, Coerce, Uri, Source, Digest, Size, ParameterRow, Known}
 use Rattle.rules.specs.declared.tables.Listed.the-variants as L
 use Rattle.rules.specs.declared.tables.Known.the-variants as K
-use Rattle.rules.specs.Commands.{Form, sixteen, nil, below, alternatives, parameters, sequence, Allowed, anywhere, only, COMMON, PAYLOAD_FETCH, INSTALL, VALIDATE, LOAD, RUN, Row, commands, rowOf, ParamRow, params, paramOf}
+use Rattle.rules.specs.Commands.{Form, sixteen, nil, below, alternatives, parameters, sequence, Allowed, anywhere, only, COMMON, PAYLOAD_FETCH, INSTALL, VALIDATE, LOAD, RUN, swapCode, sizeKey, Row, commands, rowOf, ParamRow, params, paramOf}
 
 abbrev pub kindOf : Form → Argument
 kindOf (sixteen op) = Sixteen
@@ -88,12 +88,12 @@ abbrev pub values : {A : Type 0} → (ℕ → A) → ℕ → List A
 values f zero = []
 values f (suc n) = f 0 ∷ values (λ k. f (suc k)) n
 
--- at c the command of code c, and behind them at k the parameter of key k
+-- at c the command of code c, up to the largest, and behind them at k the parameter of key k
 abbrev pub codes : ℕ
-codes = 33
+codes = swapCode + 1
 
 abbrev pub keys : ℕ
-keys = 13
+keys = sizeKey + 1
 
 unfoldable pub tableOf : List Row → List ParamRow → List ℕ
 tableOf rows ps =
