@@ -70,10 +70,12 @@ module _ (w : List ℕ) (i : ℕ) (p : Params) where
         rw (rw (add-zero (limits .components + paramNumbers * i)) at (among 0 (omega arith)), among 1 (omega arith), among 2 (omega arith), among 3 (omega arith), among 4 (omega arith))
 
   module _ (j : ℕ) (d : j ≡ i → ⊥) where
-    beside : (k : ℕ) → k < paramNumbers → getD (sets w (limits .components + paramNumbers * i) five) (limits .components + paramNumbers * j + k) 0 ≡ getD w (limits .components + paramNumbers * j + k) 0
+    beside : (k : ℕ) → k < paramNumbers → getD (sets w (limits .components + paramNumbers * i) five) (limits .components + paramNumbers * j + k) 0 ≡
+        getD w (limits .components + paramNumbers * j + k) 0
     beside k l = getD-beside w (limits .components + paramNumbers * i) five (limits .components + paramNumbers * j + k) (go (ltb j i) refl)
       where
-        go : (t : Bool) → ltb j i ≡ t → (limits .components + paramNumbers * j + k < limits .components + paramNumbers * i) ⊎ (limits .components + paramNumbers * i + paramNumbers ≤ limits .components + paramNumbers * j + k)
+        go : (t : Bool) → ltb j i ≡ t → (limits .components + paramNumbers * j + k < limits .components + paramNumbers * i)
+            ⊎ (limits .components + paramNumbers * i + paramNumbers ≤ limits .components + paramNumbers * j + k)
         go true e = let m : j < i = ltb-true j i e in inl (omega arith)
         go false e = let m : i < j = omega (arith, ltb-false j i e, d) in inr (omega arith)
 
