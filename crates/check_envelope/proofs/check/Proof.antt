@@ -18,7 +18,8 @@ bad c =
     let b = c .before .before .before in
     let o = b .before .before .before .before in
     promised _ _
-    (check-bad _ (o .before .before .if1 .left) _ (o .before .read-outer .ensures) (o .if2 .left) _ (b .read-body .ensures) (c .before .before .if3 .taken) _ (c .before .of2 .ensures) _ (c .refused3 .ensures))
+    (check-bad _ (o .before .before .if1 .left) _ (o .before .read-outer .ensures) (o .if2 .left) _ (b .read-body .ensures) (c .before .before .if3 .taken)
+    _ (c .before .of2 .ensures) _ (c .refused3 .ensures))
 
 inside : tie.Need-returns-4
 inside c =
