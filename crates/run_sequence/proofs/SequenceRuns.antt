@@ -42,7 +42,8 @@ stops env c cs coercible i co st st′ n z e = rw (e, ne-eqb n 0 z) (go (eqb n 1
     other false d f = refl
 
     go : (b : Bool) → eqb n 1 ≡ b → (p q : Bool) →
-        on (cond b ConditionFailed (cond (eqb n 2) Started (Failed (failureOf n)))) st′ (λ st″. runSeq env cs coercible (indexAfter c i) (coerceAfter c co) st″) (λ st″. out (cond (p && q) Finished ConditionFailed) st″)
+        on (cond b ConditionFailed (cond (eqb n 2) Started (Failed (failureOf n)))) st′ (λ st″. runSeq env cs coercible (indexAfter c i) (coerceAfter c co) st″)
+        (λ st″. out (cond (p && q) Finished ConditionFailed) st″)
         ≡ out (endOf (cond (p && q && b) 0 n)) st′
     go true f true true = refl
     go true f true false = rw (ne-eqb n 0 z, f)
@@ -56,7 +57,8 @@ pub record CommandsJob (s : Bytes) (depth k : ℕ) (run : Run) (vendor class ans
   pub place : CommandsAt s (length (ready .env .ids)) depth (run .events) k (run .next)
 
 -- the loop over commands: the whole gives what the commands that are left give from here
-pub record Loop (s vendor class : Bytes) (memory₀ : List ℕ) (answers : Bytes) (depth : ℕ) (coercible : Bool) (env : Env) (whole : Out) (slots : Bytes) (memory : List ℕ) (trace : Bytes) (left : ℕ) (now : Run) : Type 0 where
+pub record Loop (s vendor class : Bytes) (memory₀ : List ℕ) (answers : Bytes) (depth : ℕ) (coercible : Bool) (env : Env) (whole : Out)
+    (slots : Bytes) (memory : List ℕ) (trace : Bytes) (left : ℕ) (now : Run) : Type 0 where
   pub kept : Kept env s vendor class answers slots memory trace (now .index)
   pub place : CommandsAt s (length (env .ids)) depth (now .events) left (now .next)
   pub goes : whole ≡ runSeq env (place .cmds) coercible (now .index) (isTrue (now .coerce)) (stateOf s (length (env .ids)) memory slots trace now)
@@ -88,7 +90,8 @@ module _ (s vendor class : Bytes) (memory₀ : List ℕ) (answers : Bytes) (dept
           (ran : CommandRan s env (its-turn .first .cmd) (its-turn .first .to) now slots memory trace r slots′ memory′ trace′) where
         pub loop-stops : (r .end ≡ 0 → ⊥) → outOf s (length (env .ids)) memory′ slots′ trace′ (caughtBy coercible (now .coerce) r) ≡ whole
         loop-stops z =
-            sym (l .goes ∙ rw (its-turn .cmds) (stops env (its-turn .first .cmd) (its-turn .rest .cmds) coercible (now .index) (isTrue (now .coerce)) (stateOf s (length (env .ids)) memory slots trace now) (stateOf s (length (env .ids)) memory′ slots′ trace′ r) (r .end) z (sym (ran .goes))))
+            sym (l .goes ∙ rw (its-turn .cmds) (stops env (its-turn .first .cmd) (its-turn .rest .cmds) coercible (now .index) (isTrue (now .coerce))
+            (stateOf s (length (env .ids)) memory slots trace now) (stateOf s (length (env .ids)) memory′ slots′ trace′ r) (r .end) z (sym (ran .goes))))
 
         pub loop-rises : r .end ≡ 0 → now .next < r .next
         loop-rises z = omega (arith, ran .next z, command-later s (length (env .ids)) depth (now .events) (now .next) (its-turn .first))
@@ -115,7 +118,8 @@ module _ (s vendor class : Bytes) (memory₀ : List ℕ) (answers : Bytes) (dept
                   };
               goes =
                   l .goes ∙ ap (λ (a : Seq). runSeq env a coercible (now .index) (isTrue (now .coerce)) st) (t .cmds)
-                  ∙ rw (ran .index z, ran .coerce) (goes-on env (t .first .cmd) (t .rest .cmds) coercible (now .index) (isTrue (now .coerce)) st (stateOf s (length (env .ids)) memory′ slots′ trace′ r) (r .end) z (sym (ran .goes)));
+                  ∙ rw (ran .index z, ran .coerce) (goes-on env (t .first .cmd) (t .rest .cmds) coercible (now .index) (isTrue (now .coerce)) st
+                  (stateOf s (length (env .ids)) memory′ slots′ trace′ r) (r .end) z (sym (ran .goes)));
               calm = z;
               same = λ i h. ran .same i h ∙ l .same i h;
             }
@@ -130,7 +134,9 @@ module _ (s : Bytes) (depth : ℕ) (run : Run) (vendor class answers slots : Byt
   sequence-head = start-head s (length (j .ready .env .ids)) depth (run .events) (run .next) (j .place)
 
   module _ (v p : ℕ) (q : (v ≡ sequence-head .head .num) × (p ≡ sequence-head .head .next)) where
-    abbrev pub commands-job : CommandsJob s (depth - 1) (v / 2) (record { next = p; index = run .index; coerce = coerceFalse; events = run .events; used = run .used; end = 0 }) vendor class answers slots memory trace
+    abbrev pub commands-job :
+        CommandsJob s (depth - 1) (v / 2) (record { next = p; index = run .index; coerce = coerceFalse; events = run .events; used = run .used; end = 0 })
+        vendor class answers slots memory trace
     commands-job = record { ready = j .ready; place = start-commands s (length (j .ready .env .ids)) depth (run .events) (run .next) (j .place) v p q }
 
     -- a command at that place or later is one less deep, and of fewer bytes
@@ -139,7 +145,8 @@ module _ (s : Bytes) (depth : ℕ) (run : Run) (vendor class answers slots : Byt
 
 module _ (s vendor class answers : Bytes) (depth : ℕ) (coercible : Bool) (slots : Bytes) (memory : List ℕ) (trace : Bytes) (left : ℕ) (now : Run)
     (env : Env) (seq : Seq) (run : Run) (slots₀ : Bytes) (memory₀ : List ℕ) (trace₀ : Bytes)
-    (l : Loop s vendor class memory₀ answers depth coercible env (runSeq env seq coercible (run .index) false (stateOf s (length (env .ids)) memory₀ slots₀ trace₀ run)) slots memory trace left now) where
+    (l : Loop s vendor class memory₀ answers depth coercible env (runSeq env seq coercible (run .index) false (stateOf s (length (env .ids)) memory₀ slots₀ trace₀ run))
+    slots memory trace left now) where
   pub sequence-done : left ≡ 0 → SequenceRan s env seq coercible run slots₀ memory₀ trace₀ now slots memory trace
   sequence-done z =
       record {
@@ -150,7 +157,8 @@ module _ (s vendor class answers : Bytes) (depth : ℕ) (coercible : Bool) (slot
       }
 
   module _ (h : 0 < left) (r : Run) (slots′ : Bytes) (memory′ : List ℕ) (trace′ : Bytes)
-      (ran : CommandRan s env (its-turn s vendor class memory₀ answers depth coercible slots memory trace left now env _ l h .first .cmd) (its-turn s vendor class memory₀ answers depth coercible slots memory trace left now env _ l h .first .to) now slots memory trace r slots′ memory′ trace′) where
+      (ran : CommandRan s env (its-turn s vendor class memory₀ answers depth coercible slots memory trace left now env _ l h .first .cmd)
+      (its-turn s vendor class memory₀ answers depth coercible slots memory trace left now env _ l h .first .to) now slots memory trace r slots′ memory′ trace′) where
     pub sequence-stopped : (r .end ≡ 0 → ⊥) → SequenceRan s env seq coercible run slots₀ memory₀ trace₀ (caughtBy coercible (now .coerce) r) slots′ memory′ trace′
     sequence-stopped z =
         record {

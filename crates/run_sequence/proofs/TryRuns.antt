@@ -77,7 +77,8 @@ try-off env a rest i st st′ n z e = rw (e, ne-eqb n 1 z) (go (eqb n 0) (eqb n 
     go false false = refl
 
 -- the loop over alternatives: the whole gives what the alternatives that are left give from here
-pub record AltsLoop (s vendor class : Bytes) (memory₀ : List ℕ) (answers : Bytes) (depth : ℕ) (env : Env) (cmd : Cmd) (to : ℕ) (run : Run) (whole : Out) (slots : Bytes) (memory : List ℕ) (trace : Bytes) (p k : ℕ) (now : Run) : Type 0 where
+pub record AltsLoop (s vendor class : Bytes) (memory₀ : List ℕ) (answers : Bytes) (depth : ℕ) (env : Env) (cmd : Cmd) (to : ℕ) (run : Run)
+    (whole : Out) (slots : Bytes) (memory : List ℕ) (trace : Bytes) (p k : ℕ) (now : Run) : Type 0 where
   pub alts : Alts
   pub is : cmd ≡ try alts
   pub kept : Kept env s vendor class answers slots memory trace (run .index)
@@ -150,7 +151,8 @@ module _ (s : Bytes) (depth : ℕ) (run : Run) (vendor class answers slots : Byt
         pub sub-falls : remaining s depth from < remaining s depth (run .next)
         sub-falls = sequence-falls p p from code-later (omega arith) (omega (arith, o .1, head-later s p sub-head))
 
-        pub sub-ran : (r : Run) (slots′ : Bytes) (memory′ : List ℕ) (trace′ : Bytes) → SequenceRan s (j .ready .env) (sub-at .seq) true (entered run from run) slots memory trace r slots′ memory′ trace′ →
+        pub sub-ran : (r : Run) (slots′ : Bytes) (memory′ : List ℕ) (trace′ : Bytes) →
+            SequenceRan s (j .ready .env) (sub-at .seq) true (entered run from run) slots memory trace r slots′ memory′ trace′ →
             CommandRan s (j .ready .env) (j .place .cmd) (j .place .to) run slots memory trace (left run (from + w) r) slots′ memory′ trace′
         unfolding runSeq
         sub-ran r slots′ memory′ trace′ ran =
@@ -167,7 +169,8 @@ module _ (s : Bytes) (depth : ℕ) (run : Run) (vendor class answers slots : Byt
 
       pub one-at : OneAt
       one-at =
-          command-one s (length (j .ready .env .ids)) (j .place .section) depth (j .place .m) (j .place .e) (run .next) (j .place .cmd) (j .place .to) (j .place .fits) (j .place .reads) v p (rw (q .0, q .1) (its-code .reads)) z z′
+          command-one s (length (j .ready .env .ids)) (j .place .section) depth (j .place .m) (j .place .e) (run .next) (j .place .cmd) (j .place .to)
+          (j .place .fits) (j .place .reads) v p (rw (q .0, q .1) (its-code .reads)) z z′
 
       abbrev pub leaf-job : LeafJob s (record { value = v; next = p }) run vendor class answers slots memory trace
       leaf-job = record { ready = j .ready; argument = one-at .0; among = one-at .1; few = omega (arith, j .place .few, one-at .4) }
@@ -189,7 +192,8 @@ module _ (s : Bytes) (depth : ℕ) (run : Run) (vendor class answers slots : Byt
       tries-later w from o = omega (arith, o .1, code-later, head-later s p tries-head)
 
       pub tries-start : (w from : ℕ) → (w ≡ tries-at .head .num) × (from ≡ tries-at .head .next) →
-          AltsLoop s vendor class memory answers depth (j .ready .env) (j .place .cmd) (j .place .to) run (runCmd (j .ready .env) (j .place .cmd) (run .index) (stateOf s (length (j .ready .env .ids)) memory slots trace run)) slots memory trace from w run
+          AltsLoop s vendor class memory answers depth (j .ready .env) (j .place .cmd) (j .place .to) run
+          (runCmd (j .ready .env) (j .place .cmd) (run .index) (stateOf s (length (j .ready .env .ids)) memory slots trace run)) slots memory trace from w run
       unfolding runSeq
       tries-start w from o =
           record {
@@ -197,12 +201,15 @@ module _ (s : Bytes) (depth : ℕ) (run : Run) (vendor class answers slots : Byt
             is = tries-at .is;
             kept = kept-of s vendor class answers slots memory trace (run .index) (j .ready);
             place = try-places s (length (j .ready .env .ids)) depth (run .events) (run .next) (j .place) p tries-at w from o;
-            goes = ap (λ (c : Cmd). runCmd (j .ready .env) c (run .index) (stateOf s (length (j .ready .env .ids)) memory slots trace run)) (tries-at .is) ∙ try-law (j .ready .env) (tries-at .alts) (run .index) (stateOf s (length (j .ready .env .ids)) memory slots trace run);
+            goes =
+                ap (λ (c : Cmd). runCmd (j .ready .env) c (run .index) (stateOf s (length (j .ready .env .ids)) memory slots trace run)) (tries-at .is)
+                ∙ try-law (j .ready .env) (tries-at .alts) (run .index) (stateOf s (length (j .ready .env .ids)) memory slots trace run);
             final = λ x. absurd (omega (arith, o .0, tries-at .some-of));
             same = λ i h. refl;
           }
 
-module _ (s vendor class answers : Bytes) (depth : ℕ) (env : Env) (cmd : Cmd) (to : ℕ) (run : Run) (slots₀ : Bytes) (memory₀ : List ℕ) (trace₀ : Bytes) (slots : Bytes) (memory : List ℕ) (trace : Bytes) (p k : ℕ) (now : Run)
+module _ (s vendor class answers : Bytes) (depth : ℕ) (env : Env) (cmd : Cmd) (to : ℕ) (run : Run) (slots₀ : Bytes) (memory₀ : List ℕ) (trace₀ : Bytes)
+    (slots : Bytes) (memory : List ℕ) (trace : Bytes) (p k : ℕ) (now : Run)
     (l : AltsLoop s vendor class memory₀ answers depth env cmd to run (runCmd env cmd (run .index) (stateOf s (length (env .ids)) memory₀ slots₀ trace₀ run)) slots memory trace p k now) where
   -- none succeeded
   pub tries-failed : k ≡ 0 → CommandRan s env cmd to run slots₀ memory₀ trace₀ (failed run p now) slots memory trace
@@ -252,11 +259,13 @@ module _ (s vendor class answers : Bytes) (depth : ℕ) (env : Env) (cmd : Cmd) 
         tries-end z at e =
             let st : State = stateOf s (length (env .ids)) memory slots trace now in
             holds-sequences s env cmd to run slots₀ memory₀ trace₀ at r slots′ memory′ trace′
-            (sym (l .goes ∙ ap (λ (a : List Seq). tryAll env a (run .index) st) (its-choice .seqs) ∙ try-off env (its-choice .first) (its-choice .rest .seqs) (run .index) st (stateOf s (length (env .ids)) memory′ slots′ trace′ r) (r .end) z (sym (ran .goes))))
+            (sym (l .goes ∙ ap (λ (a : List Seq). tryAll env a (run .index) st) (its-choice .seqs)
+            ∙ try-off env (its-choice .first) (its-choice .rest .seqs) (run .index) st (stateOf s (length (env .ids)) memory′ slots′ trace′ r) (r .end) z (sym (ran .goes))))
             (ran .fit) (λ i k. ran .same i k ∙ l .same i k) (ran .late) (λ x. e) (l .kept .inside) (λ i. rw (l .is)) (λ c. rw (l .is))
 
         pub tries-on : r .end ≡ 1 →
-            AltsLoop s vendor class memory₀ answers depth env cmd to run (runCmd env cmd (run .index) (stateOf s (length (env .ids)) memory₀ slots₀ trace₀ run)) slots′ memory′ trace′ (from + w) (k - 1) r
+            AltsLoop s vendor class memory₀ answers depth env cmd to run (runCmd env cmd (run .index) (stateOf s (length (env .ids)) memory₀ slots₀ trace₀ run))
+            slots′ memory′ trace′ (from + w) (k - 1) r
         tries-on z =
             let t = its-choice in
             let st : State = stateOf s (length (env .ids)) memory slots trace now in
@@ -266,7 +275,9 @@ module _ (s vendor class answers : Bytes) (depth : ℕ) (env : Env) (cmd : Cmd) 
             record {
               alts = l .alts;
               is = l .is;
-              kept = kept-after s vendor class answers env slots memory trace (run .index) (l .kept) (entered run from now) _ _ m r slots′ memory′ trace′ (ran .goes) (ran .fit) (ran .same) (run .index) (l .kept .inside);
+              kept =
+                  kept-after s vendor class answers env slots memory trace (run .index) (l .kept) (entered run from now) _ _ m r slots′ memory′ trace′
+                  (ran .goes) (ran .fit) (ran .same) (run .index) (l .kept .inside);
               place =
                   record {
                     section = t .rest .section;
