@@ -16,10 +16,35 @@ kept : (t t′ : Bytes) (at code component place : ℕ) →
     t′ ≡ pieces (put t at (0x53 ∷ [])) at 1 ((0x54 ∷ []) ∷ (code ∷ []) ∷ (component ∷ []) ∷ be2 place ∷ []) → length t′ ≡ length t
 kept t t′ at code component place e = rw e (row-length t at (0x53 ∷ []) ((0x54 ∷ []) ∷ (code ∷ []) ∷ (component ∷ []) ∷ be2 place ∷ []))
 
+-- back to where the place was put, from where the number of the result was found
+abbrev to-put : tie.After-result → tie.After-put-u16
+to-put c = c .before .before .before
+
+-- back to the entry, from there
+abbrev to-entry : tie.After-put-u16 → tie.Start
+to-entry c = c .before .before .before
+
+result-inside : tie.Need-slice-write-trace-5
+result-inside c =
+    let a = to-entry (to-put c) .args in
+    omega (arith, kept (a .trace .now) _ (eventBytes * a .events) (a .code) (a .component) (a .place) (to-put c .put-u16 .ensures))
+
+last-inside : tie.Need-slice-write-trace-6
+last-inside c =
+    let a = to-entry (to-put c) .args in
+    simp length-set (omega (arith, kept (a .trace .now) _ (eventBytes * a .events) (a .code) (a .component) (a .place) (to-put c .put-u16 .ensures)))
+
+as-long : tie.Need-same-length
+as-long c =
+    let a = to-entry (to-put c) .args in
+    simp length-set (omega (arith, kept (a .trace .now) _ (eventBytes * a .events) (a .code) (a .component) (a .place) (to-put c .put-u16 .ensures)))
+
+-- the steps are written out: `rw` with a fact refuses a way point that passes it
 returns : tie.Need-returns
 returns c =
-    let a = c .before .before .before .before .before .before .args in
-    rw (c .result .ensures, c .before .before .before .put-u16 .ensures)
+    let placed = c .before .before .before in
+    let a = placed .before .before .before .args in
+    rw (c .result .ensures, placed .put-u16 .ensures)
     (in-a-row (a .trace .now) (eventBytes * a .events) (0x53 ∷ [])
     ((0x54 ∷ []) ∷ (a .code ∷ []) ∷ (a .component ∷ []) ∷ be2 (a .place) ∷ (resultNumber (endOf (a .end)) ∷ []) ∷ (0 ∷ []) ∷ []))
 
@@ -41,8 +66,8 @@ put-event-spec =
     (λ c κs. simp length-set (omega arith))
     (λ c κs. search needs)
     (λ c. search needs)
-    (λ c. let a = c .before .before .before .before .before .before .args in omega (arith, kept (a .trace .now) _ (eventBytes * a .events) (a .code) (a .component) (a .place) (c .before .before .before .put-u16 .ensures)))
+    result-inside
     (λ c. search needs)
-    (λ c. let a = c .before .before .before .before .before .before .args in simp length-set (omega (arith, kept (a .trace .now) _ (eventBytes * a .events) (a .code) (a .component) (a .place) (c .before .before .before .put-u16 .ensures))))
-    (λ c. let a = c .before .before .before .before .before .before .args in simp length-set (omega (arith, kept (a .trace .now) _ (eventBytes * a .events) (a .code) (a .component) (a .place) (c .before .before .before .put-u16 .ensures))))
+    last-inside
+    as-long
     returns)
