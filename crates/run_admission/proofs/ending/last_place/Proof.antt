@@ -16,7 +16,8 @@ finished : tie.Need-returns
 finished c = rw (eq-eqb _ 0 (c .if1 .taken))
 
 last-law : (s : Bytes) (end events r : ℕ) → (end ≡ 0 → ⊥) → (0 < end → 0 < events) × (eventBytes * events ≤ length s) →
-    r ≡ getD s (eventBytes * events - (eventBytes - eventPlace)) 0 * 256 + getD s (eventBytes * events - (eventBytes - eventPlace) + 1) 0 → r ≡ cond (eqb end 0) 0 (num (part s (eventBytes * events - (eventBytes - eventPlace)) 2))
+    r ≡ getD s (eventBytes * events - (eventBytes - eventPlace)) 0 * 256 + getD s (eventBytes * events - (eventBytes - eventPlace) + 1) 0 →
+    r ≡ cond (eqb end 0) 0 (num (part s (eventBytes * events - (eventBytes - eventPlace)) 2))
 last-law s end events r d (l, f) e = let g : 0 < events = l (omega arith) in rw (ne-eqb end 0 d) (e ∙ sym (num-2 s (eventBytes * events - (eventBytes - eventPlace)) (omega arith)))
 
 last : tie.Need-returns-2
