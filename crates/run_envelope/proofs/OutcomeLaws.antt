@@ -54,7 +54,8 @@ module _ (s : Bytes) (number n : ℕ) (ids sections : List ℕ) (a : Accepted s 
             ready =
                 record {
                   env = envOf (names s (a .manifest)) x;
-                  lent = lent-start group (a .manifest .number) (names s (a .manifest)) x refusal stops z (known s number n ids sections a .some-ids .1) memory (rw (named s number n ids sections a) at f) s;
+                  lent = lent-start group (a .manifest .number) (names s (a .manifest)) x refusal stops z
+                      (known s number n ids sections a .some-ids .1) memory (rw (named s number n ids sections a) at f) s;
                   inside = known s number n ids sections a .some-ids .0;
                 };
             among = length-map (a .manifest .ids) (bytesAt s);
@@ -71,13 +72,16 @@ module _ (s : Bytes) (number n : ℕ) (ids sections : List ℕ) (a : Accepted s 
         ran = d whole
 
         goes : outOf s (length (names s (a .manifest))) memory′ slots′ trace′ r ≡ runAll (envOf (names s (a .manifest)) x) (planOf group (a .manifest)) (startState (names s (a .manifest)) x)
-        goes = ran .goes ∙ ap (runAll (envOf (names s (a .manifest)) x) (planOf group (a .manifest))) (state-start group (a .manifest .number) (names s (a .manifest)) x refusal stops z (known s number n ids sections a .some-ids .1) memory
+        goes =
+            ran .goes ∙ ap (runAll (envOf (names s (a .manifest)) x) (planOf group (a .manifest)))
+            (state-start group (a .manifest .number) (names s (a .manifest)) x refusal stops z (known s number n ids sections a .some-ids .1) memory
             (rw (named s number n ids sections a) at f) s)
 
         pub last-event : (endNumber Finished < r .end → 0 < r .events) × (eventBytes * r .events ≤ length trace′)
         unfolding report
         last-event =
-            let f = envelope-effects s group (a .manifest) x _ (a .checks) (Frame.run-as group (a .manifest .number) (names s (a .manifest)) x _ (runEnvelope s group x) is-run refusal stops z (r .end) (r .events) (r .used) _ slots′ trace′ goes) in
+            let f = envelope-effects s group (a .manifest) x _ (a .checks)
+            (Frame.run-as group (a .manifest .number) (names s (a .manifest)) x _ (runEnvelope s group x) is-run refusal stops z (r .end) (r .events) (r .used) _ slots′ trace′ goes) in
             (ran .late, omega (arith, f .fits, f .trace-length, trace-room group (a .manifest .number) (names s (a .manifest)) x refusal stops z))
 
         pub answered : (ending : Ending) (after : ℕ) → ending ≡ endingOf (r .end) (r .events) (r .used) trace′ → after ≡ numberAfter group (endOf (r .end)) number (x .device .number) →

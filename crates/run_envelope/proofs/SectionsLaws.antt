@@ -161,11 +161,14 @@ module _ (s vendor class answers : Bytes) (group : Group) (places : List ℕ) (e
           where
             go : (b : Bool) → w ≡ b → Left slots′ memory′ trace′ r (k + 1)
             go true t = let (x, a) = its-section t in went x a r slots′ memory′ trace′ (ran-it t (job x)) z
-            go false t = let (p, q, u, v) = skip-it t in rw (p, at-begin, q, u, v) (at-start (⊎-elim not-there not-wanted (skipped s (length (env .ids)) group places k (l .commands) (l .rest) h (l .stand) (sym t ∙ e))))
+            go false t =
+                let (p, q, u, v) = skip-it t in
+                rw (p, at-begin, q, u, v) (at-start (⊎-elim not-there not-wanted (skipped s (length (env .ids)) group places k (l .commands) (l .rest) h (l .stand) (sym t ∙ e))))
 
 pub left-start : (s vendor class answers : Bytes) (group : Group) (places : List ℕ) (slots : Bytes) (memory : List ℕ) (trace : Bytes) →
     (j : SectionsJob s places vendor class answers slots memory trace) →
-    Left s vendor class answers group places (j .ready .env) (planOf group (j .manifest)) slots memory trace slots memory trace (record { next = 0; index = 0; coerce = coerceFalse; events = 0; used = 0; end = endNumber Finished }) 0
+    Left s vendor class answers group places (j .ready .env) (planOf group (j .manifest)) slots memory trace slots memory trace
+    (record { next = 0; index = 0; coerce = coerceFalse; events = 0; used = 0; end = endNumber Finished }) 0
 left-start s vendor class answers group places slots memory trace j =
     record {
       kept = kept-of s vendor class answers slots memory trace 0 (j .ready);
