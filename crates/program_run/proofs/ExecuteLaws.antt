@@ -36,7 +36,8 @@ module _ (p : Bytes) (components : ℕ) (current : ProgramState) (vendor class a
   abbrev here : First p (j .group) components (j .total) (current .n) at (j .ready .place)
   here = first-of p (j .group) components (j .total) (current .n) at (j .ready .place) (j .before)
 
-  abbrev command : Commands (j .group) components (j .total) (current .n) (here .first) (getD p (at + codeFrom) 0) (getD p (at + componentFrom) 0) (numberAt p (at + placeFrom)) (numberAt p (at + targetFrom))
+  abbrev command : Commands (j .group) components (j .total) (current .n) (here .first) (getD p (at + codeFrom) 0) (getD p (at + componentFrom) 0)
+      (numberAt p (at + placeFrom)) (numberAt p (at + targetFrom))
       (part p (at + recordSize) (numberAt p (at + argumentFrom)))
   command = here .kind .does (j .stands)
 

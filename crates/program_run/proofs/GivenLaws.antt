@@ -4,7 +4,8 @@ use mathlib.Core.Path.{_≡_, sym, ap, _∙_}
 use native.Mathlib.Omega.{arith}
 use lib.ListN.{length}
 use Rattle.rules.specs.Bytes.{Bytes, part}
-use Rattle.rules.specs.Commands.{Op, vendor, class, imageMatch, setIndex, abort, setParams, overrideParams, fetch, copy, run, swap, Params, Form, sixteen, nil, alternatives, parameters, sequence, commands}
+use Rattle.rules.specs.Commands.{Op, vendor, class, imageMatch, setIndex, abort, setParams, overrideParams, fetch, copy, run, swap, Params}
+use Rattle.rules.specs.Commands.{Form, sixteen, nil, alternatives, parameters, sequence, commands}
 use Rattle.rules.specs.Got.{got}
 use Rattle.rules.specs.Limits.{limits}
 use Rattle.rules.specs.ProgramTest.{paramsIn}

@@ -100,12 +100,14 @@ module _ (p : Bytes) (t : Tested) (a : Known p t) where
         done =
             ran .goes
             ∙ ap (λ (n : ℕ). exec (envOf (a .program .ids) x) (a .program .records) 0 0 (stateAt p n memory (x .slots) (x .trace) 0 0)) (sym counted)
-            ∙ ap (exec (envOf (a .program .ids) x) (a .program .records) 0 0) (state-start (a .program .group) (a .program .number) (a .program .ids) x refusal stops z (omega (arith, few, counted)) memory (rw (a .stands .names) at f) p)
+            ∙ ap (exec (envOf (a .program .ids) x) (a .program .records) 0 0)
+            (state-start (a .program .group) (a .program .number) (a .program .ids) x refusal stops z (omega (arith, few, counted)) memory (rw (a .stands .names) at f) p)
 
         pub last-event : (0 < r .end → 0 < r .events) × (eventBytes * r .events ≤ length trace′)
         unfolding report
         last-event =
-            let f = program-effects p (a .program) x _ (a .tests) (Frame.run-as (a .program .group) (a .program .number) (a .program .ids) x _ (runProgram p x) is-run refusal stops z (r .end) (r .events) (r .used) _ slots′ trace′ done) in
+            let f = program-effects p (a .program) x _ (a .tests)
+            (Frame.run-as (a .program .group) (a .program .number) (a .program .ids) x _ (runProgram p x) is-run refusal stops z (r .end) (r .events) (r .used) _ slots′ trace′ done) in
             (ran .late, omega (arith, f .fits, f .trace-length, trace-room (a .program .group) (a .program .number) (a .program .ids) x refusal stops z))
 
         pub answered : (ending : Ending) (after : ℕ) → ending ≡ endingOf (r .end) (r .events) (r .used) trace′ → after ≡ numberAfter (t .group) (endOf (r .end)) (t .number) (x .device .number) →

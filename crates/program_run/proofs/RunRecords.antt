@@ -15,7 +15,8 @@ use Rattle.program_run.specs.declared.step.ProgramState.{ProgramState}
 use Rattle.program_run.specs.Step.{stateOf, Ready, rest, StepJob, Stepped, startAt, Ran}
 use Rattle.program_run.proofs.FirstRecord.{none-left}
 
-pub record Loop (p : Bytes) (components total : ℕ) (vendor class answers : Bytes) (env : Env) (group : Group) (whole : Out) (slots : Bytes) (memory : List ℕ) (trace : Bytes) (current : ProgramState) : Type 0 where
+pub record Loop (p : Bytes) (components total : ℕ) (vendor class answers : Bytes) (env : Env) (group : Group) (whole : Out)
+    (slots : Bytes) (memory : List ℕ) (trace : Bytes) (current : ProgramState) : Type 0 where
   pub ready : Ready env group p components total current vendor class answers slots memory trace
   pub goes : whole ≡ rest env group p components total current (ready .place) slots memory trace
   pub calm : current .end ≡ endNumber Finished

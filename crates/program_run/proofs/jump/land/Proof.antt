@@ -13,63 +13,77 @@ Inv-loop p at n total next₀ k₀ next k = (k ≤ total) × ((j : LandJob p at 
 abbrev μ-loop : tie.MeasureT-loop
 μ-loop p at n total next₀ k₀ next k = total - k
 
+-- back to the entry, from the head of the loop over the jumps
+abbrev to-entry : tie.At-loop Inv-loop μ-loop → tie.Start Inv-loop μ-loop
+to-entry c = c .before .before
+
+-- back to the head of the loop, from where the code of a record was read
+abbrev to-turn : tie.After-wide Inv-loop μ-loop → tie.At-loop Inv-loop μ-loop
+to-turn c = c .before .before .before
+
 holds : tie.Need-loop-holds Inv-loop μ-loop
 holds c = (c .before .pre .place .below, λ j. reach-start _ _ _ _ _ _ (j .place))
 
 add-wide : tie.Need-add-wide Inv-loop μ-loop
-add-wide c = omega (arith, reach-room _ _ _ _ _ _ _ _ _ (c .before .loop .inv .1 (c .before .before .before .pre)) (c .loop-test .taken))
+add-wide c = omega (arith, reach-room _ _ _ _ _ _ _ _ _ (c .before .loop .inv .1 (to-entry (c .before) .pre)) (c .loop-test .taken))
 
 read-wide : tie.Need-shared-slice-read-wide Inv-loop μ-loop
 read-wide c =
-    omega (arith, reach-room _ _ _ _ _ _ _ _ _ (c .before .before .loop .inv .1 (c .before .before .before .before .pre)) (c .before .loop-test .taken))
+    let turn = c .before .before in
+    omega (arith, reach-room _ _ _ _ _ _ _ _ _ (turn .loop .inv .1 (to-entry turn .pre)) (c .before .loop-test .taken))
 
 stands : tie.Need-returns Inv-loop μ-loop
 stands c = λ j.
     record {
-      reached = c .before .before .before .before .loop .inv .1 j;
+      reached = to-turn (c .before) .loop .inv .1 j;
       stands = λ l k. c .if1 .taken (c .before .wide .ensures .0 ∙ k);
     }
 
 add-two : tie.Need-add-two Inv-loop μ-loop
 add-two c =
-    omega
-    (arith, reach-room _ _ _ _ _ _ _ _ _ (c .before .before .before .before .loop .inv .1 (c .before .before .before .before .before .before .pre)) (c .before .before .before .loop-test .taken))
+    let turn = to-turn (c .before) in
+    omega (arith, reach-room _ _ _ _ _ _ _ _ _ (turn .loop .inv .1 (to-entry turn .pre)) (c .before .before .before .loop-test .taken))
 
 two-requires : tie.Need-two-requires Inv-loop μ-loop
 two-requires c κs =
-    omega
-    (arith, reach-room _ _ _ _ _ _ _ _ _ (c .before .before .before .before .loop .inv .1 (c .before .before .before .before .before .before .pre)) (c .before .before .before .loop-test .taken))
+    let turn = to-turn (c .before) in
+    omega (arith, reach-room _ _ _ _ _ _ _ _ _ (turn .loop .inv .1 (to-entry turn .pre)) (c .before .before .before .loop-test .taken))
 
 add-place : tie.Need-add-advance Inv-loop μ-loop
 add-place c =
-    omega
-    (arith, reach-room _ _ _ _ _ _ _ _ _ (c .before .before .before .before .before .loop .inv .1 (c .before .before .before .before .before .before .before .pre)) (c .before .before .before .before .loop-test .taken))
+    let turn = to-turn (c .before .before) in
+    omega (arith, reach-room _ _ _ _ _ _ _ _ _ (turn .loop .inv .1 (to-entry turn .pre)) (c .before .before .before .before .loop-test .taken))
 
 add-number : tie.Need-add-advance-2 Inv-loop μ-loop
 add-number c = search needs
 
 advances : tie.Need-advance-requires Inv-loop μ-loop
 advances c κs =
-    jump-job _ _ _ _ _ _ _ _ _ (c .before .before .before .before .before .loop .inv .1 (c .before .before .before .before .before .before .before .pre)) (c .before .before .before .before .loop-test .taken)
-    _ _ (c .before .before .wide .ensures .0) (c .before .if1 .left) (c .two .ensures .0)
+    let read = c .before .before in
+    let turn = to-turn read in
+    jump-job _ _ _ _ _ _ _ _ _ (turn .loop .inv .1 (to-entry turn .pre)) (read .before .before .loop-test .taken)
+    _ _ (read .wide .ensures .0) (c .before .if1 .left) (c .two .ensures .0)
 
 less : tie.Need-loop-less Inv-loop μ-loop
 less c =
-    let j = c .before .before .before .before .before .before .before .before .pre in
+    let read = c .before .before .before in
+    let turn = to-turn read in
     omega (
       arith,
-      reach-far _ _ _ _ _ _ _ _ _ (c .before .before .before .before .before .before .loop .inv .1 j) (c .before .before .before .before .before .loop-test .taken)
-          _ _ (c .before .before .before .wide .ensures .0) (c .before .before .if1 .left) (c .before .two .ensures .0),
+      reach-far _ _ _ _ _ _ _ _ _ (turn .loop .inv .1 (to-entry turn .pre)) (read .before .before .loop-test .taken)
+          _ _ (read .wide .ensures .0) (c .before .before .if1 .left) (c .before .two .ensures .0),
     )
 
 again : tie.Need-loop-again Inv-loop μ-loop
 again c =
-    let l = c .before .before .before .before .before .loop-test .taken in
-    let inv = c .before .before .before .before .before .before .loop .inv .1 in
-    let code = c .before .before .before .wide .ensures .0 in
+    let read = c .before .before .before in
+    let turn = to-turn read in
+    let l = read .before .before .loop-test .taken in
+    let inv = turn .loop .inv .1 in
+    let code = read .wide .ensures .0 in
     let is = c .before .before .if1 .left in
     let target = c .before .two .ensures .0 in (
-      reach-far _ _ _ _ _ _ _ _ _ (inv (c .before .before .before .before .before .before .before .before .pre)) l _ _ code is target .1,
+      reach-far _ _ _ _ _ _ _ _ _ (inv (to-entry turn .pre)) l _ _ code is target .1,
       λ j. reach-next _ _ _ _ _ _ _ _ _ (inv j) l _ _ code is target _ (c .advance .ensures (jump-job _ _ _ _ _ _ _ _ _ (inv j) l _ _ code is target)),
     )
 
