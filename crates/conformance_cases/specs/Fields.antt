@@ -6,7 +6,7 @@ use lib.Dec.{eqb, ltb}
 use lib.ListN.{length, getD}
 use Rattle.rules.specs.Bytes.{Bytes, part, twoAt, fourAt}
 use Rattle.rules.specs.Limits.{limits}
-use Rattle.pitvorgas.specs.declared.Device.{Device}
+use Rattle.pitvorgas_answers.specs.declared.Device.{Device}
 
 -- a byte as a truth value
 abbrev pub isSet : Bytes → ℕ → Bool

@@ -6,8 +6,8 @@ use lib.Dec.{eqb}
 use lib.ListN.{drop}
 use Rattle.text.specs.Text.{ascii}
 use Rattle.rules.specs.Bytes.{Bytes, same}
-use Rattle.pitvorgas.specs.declared.TranslateAnswer.{TranslateAnswer}
-use Rattle.pitvorgas.specs.declared.RunAnswer.{RunAnswer}
+use Rattle.pitvorgas_answers.specs.declared.TranslateAnswer.{TranslateAnswer}
+use Rattle.pitvorgas_answers.specs.declared.RunAnswer.{RunAnswer}
 use Rattle.conformance_lines.specs.Lines.{newline, programEnd, eventsEnd, translatedText, ranText}
 
 -- every byte is x

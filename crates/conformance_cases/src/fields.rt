@@ -8,7 +8,7 @@ ghost use Rattle.rules.specs.Limits.{limits};
 ghost use Rattle.conformance_cases.specs.Fields.{StringAt, runHead, deviceOf};
 use byte_buffer::four;
 use byte_buffer::two;
-use pitvorgas::Device;
+use pitvorgas_answers::Device;
 use rules::controller::Controller;
 use rules::controller::Sixteen;
 

@@ -20,12 +20,12 @@ use crate::lent::put_translation;
 use byte_buffer::two;
 use conformance_lines::put_checked;
 use conformance_lines::put_newer;
-use pitvorgas::RunAnswer;
 use pitvorgas::pitvorgas_check;
 use pitvorgas::pitvorgas_newer;
 use pitvorgas::pitvorgas_run;
 use pitvorgas::pitvorgas_run_program;
 use pitvorgas::pitvorgas_translate;
+use pitvorgas_answers::RunAnswer;
 use text::put;
 
 pub(crate) fn check_line(envelope: &[u8], room: &mut [u8]) -> usize

@@ -9,8 +9,8 @@ use byte_buffer::equal;
 use conformance_lines::events_end;
 use conformance_lines::put_ran;
 use conformance_lines::put_translated;
-use pitvorgas::RunAnswer;
-use pitvorgas::TranslateAnswer;
+use pitvorgas_answers::RunAnswer;
+use pitvorgas_answers::TranslateAnswer;
 use text::least;
 use text::put;
 

@@ -10,10 +10,10 @@ use Rattle.rules.specs.Bytes.{spanAt}
 use Rattle.rules.specs.Limits.{limits}
 use Rattle.rules.specs.Slots.{slotBytes, imageFrom, slotAt}
 use Rattle.rules.specs.Step.{eventBytes}
-use Rattle.pitvorgas.specs.declared.CheckAnswer.{CheckAnswer}
-use Rattle.pitvorgas.specs.declared.NewerAnswer.{NewerAnswer}
-use Rattle.pitvorgas.specs.declared.TranslateAnswer.{TranslateAnswer}
-use Rattle.pitvorgas.specs.declared.RunAnswer.{RunAnswer}
+use Rattle.pitvorgas_answers.specs.declared.CheckAnswer.{CheckAnswer}
+use Rattle.pitvorgas_answers.specs.declared.NewerAnswer.{NewerAnswer}
+use Rattle.pitvorgas_answers.specs.declared.TranslateAnswer.{TranslateAnswer}
+use Rattle.pitvorgas_answers.specs.declared.RunAnswer.{RunAnswer}
 use Rattle.conformance_lines.specs.Format.{format}
 
 abbrev pub newline : Bytes

@@ -13,10 +13,10 @@ ghost use Rattle.conformance_lines.specs.Lines.{refusedText, bytesText, 
 ghost use Rattle.conformance_lines.specs.Lines.{acceptedText, checkedText, newerText, programText, translatedText};
 ghost use Rattle.conformance_lines.specs.Lines.{nameText, imageText, slotsText, eventsText, endText, ranText, separator as Lines·separator};
 use byte_buffer::wide;
-use pitvorgas::CheckAnswer;
-use pitvorgas::NewerAnswer;
-use pitvorgas::RunAnswer;
-use pitvorgas::TranslateAnswer;
+use pitvorgas_answers::CheckAnswer;
+use pitvorgas_answers::NewerAnswer;
+use pitvorgas_answers::RunAnswer;
+use pitvorgas_answers::TranslateAnswer;
 use rules::controller::Controller;
 use rules::controller::SectionPlaces;
 use rules::event_format::EVENT_BYTES;

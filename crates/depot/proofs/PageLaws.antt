@@ -14,7 +14,7 @@ use Rattle.rules.specs.Got.{Got, refused, got, need, _>>=_}
 use Rattle.rules.specs.Manifest.{Manifest}
 use Rattle.rules.specs.Check.{check}
 use Rattle.rules.specs.Program.{translate, programBytes, programOf}
-use Rattle.pitvorgas.specs.declared.TranslateAnswer.{TranslateAnswer}
+use Rattle.pitvorgas_answers.specs.declared.TranslateAnswer.{TranslateAnswer}
 use Rattle.pitvorgas.specs.Answers.{translatedOf}
 use Rattle.device_description.specs.declared.Scenario.{Scenario}
 use Rattle.device_description.specs.Scenario.{described, Describes}

@@ -11,7 +11,7 @@ use Rattle.text_names.specs.Words.{endWords}
 use Rattle.text.specs.Pieces.{part, labelled, counted, lines}
 use Rattle.depot_refusals.specs.Refusals.{refusedText}
 use Rattle.depot_events.specs.Events.{eventsText}
-use Rattle.pitvorgas.specs.declared.RunAnswer.{RunAnswer}
+use Rattle.pitvorgas_answers.specs.declared.RunAnswer.{RunAnswer}
 
 unfoldable pub endText : ℕ → ℕ → Bytes
 endText end place = labelled (ascii "end ") end ++ ascii " (" ++ endWords end ++ labelled (ascii ") at ") place

@@ -9,7 +9,7 @@ ghost use Rattle.depot_outcome.specs.Outcome.{endText, countsText, ranTe
 use byte_buffer::wide;
 use depot_events::put_events;
 use depot_refusals::put_refused;
-use pitvorgas::RunAnswer;
+use pitvorgas_answers::RunAnswer;
 use rules::controller::Controller;
 use rules::slot_format::IDENTIFIER;
 use rules::slot_format::IMAGE;

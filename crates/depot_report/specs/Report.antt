@@ -9,8 +9,8 @@ use Rattle.text.specs.Text.{Bytes, ascii, hex, least}
 use Rattle.text_names.specs.Words.{sectionKey, sectionWords}
 use Rattle.text.specs.Pieces.{part, labelled, lines}
 use Rattle.depot_refusals.specs.Refusals.{refusedText}
-use Rattle.pitvorgas.specs.declared.CheckAnswer.{CheckAnswer}
-use Rattle.pitvorgas.specs.declared.NewerAnswer.{NewerAnswer}
+use Rattle.pitvorgas_answers.specs.declared.CheckAnswer.{CheckAnswer}
+use Rattle.pitvorgas_answers.specs.declared.NewerAnswer.{NewerAnswer}
 
 -- identifier k stands from ids at 2 k to before ids at 2 k + 1, and so for the sections
 unfoldable pub componentText : Bytes → List ℕ → ℕ → Bytes

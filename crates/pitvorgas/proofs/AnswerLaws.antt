@@ -23,10 +23,10 @@ use Rattle.translate.specs.declared.Translated.{Translated}
 use Rattle.translate.specs.declared.Translated.the-variants as T
 use Rattle.translate.specs.Translate.{Translates}
 use Rattle.translate.proofs.TranslatedLaws.{apart}
-use Rattle.pitvorgas.specs.declared.CheckAnswer.{CheckAnswer}
-use Rattle.pitvorgas.specs.declared.NewerAnswer.{NewerAnswer}
-use Rattle.pitvorgas.specs.declared.RunAnswer.{RunAnswer}
-use Rattle.pitvorgas.specs.declared.TranslateAnswer.{TranslateAnswer}
+use Rattle.pitvorgas_answers.specs.declared.CheckAnswer.{CheckAnswer}
+use Rattle.pitvorgas_answers.specs.declared.NewerAnswer.{NewerAnswer}
+use Rattle.pitvorgas_answers.specs.declared.RunAnswer.{RunAnswer}
+use Rattle.pitvorgas_answers.specs.declared.TranslateAnswer.{TranslateAnswer}
 use Rattle.pitvorgas.specs.Answers.{checkedOf, newerOf, translatedOf, roomAfter, ranOf, answerOf}
 
 -- a report that accepts, in numbers

@@ -23,11 +23,11 @@ use Rattle.run_admission.specs.declared.answer.Answer.the-variants as A
 use Rattle.run_admission.specs.declared.answer.Outcome.{Outcome}
 use Rattle.run_admission.specs.Answer as Run
 use Rattle.run_admission.specs.Answer.{slotsAfter, traceAfter}
-use Rattle.pitvorgas.specs.declared.Device.{Device}
-use Rattle.pitvorgas.specs.declared.CheckAnswer.{CheckAnswer}
-use Rattle.pitvorgas.specs.declared.NewerAnswer.{NewerAnswer}
-use Rattle.pitvorgas.specs.declared.TranslateAnswer.{TranslateAnswer}
-use Rattle.pitvorgas.specs.declared.RunAnswer.{RunAnswer}
+use Rattle.pitvorgas_answers.specs.declared.Device.{Device}
+use Rattle.pitvorgas_answers.specs.declared.CheckAnswer.{CheckAnswer}
+use Rattle.pitvorgas_answers.specs.declared.NewerAnswer.{NewerAnswer}
+use Rattle.pitvorgas_answers.specs.declared.TranslateAnswer.{TranslateAnswer}
+use Rattle.pitvorgas_answers.specs.declared.RunAnswer.{RunAnswer}
 
 abbrev pub controllerOf : Device → Controller
 controllerOf d = record { vendor = d .vendor; class = d .«class_id»; number = d .number; event = d .event }
