@@ -119,19 +119,16 @@ fn execute(
     let command = Command {
         code,
         value: value(code, i, from),
-        given: given(p, components, code, from, to),
         index: i,
         place: two(p, at + PLACE),
-    };
-    let before = Progress {
         events: current.events,
         used: current.used,
-        end: End::FINISHED,
     };
+    let parameters = given(p, components, code, from, to);
     let d = perform(
         p,
         command,
-        before,
+        parameters,
         vendor,
         class,
         answers,

@@ -28,36 +28,37 @@ use run_slots::params::load;
 use run_slots::params::over;
 use run_slots::params::store;
 
-// A command: its code, what it has beside its parameters, those that it gives, the component that it is done at, and the place of its code.
+// A command: its code, what it has beside its parameters, the component that it is done at, and the place of its code; the events written
+// and the answers used before it.
 pub struct Command {
     pub code: usize,
     pub value: usize,
-    pub given: Params,
     pub index: usize,
     pub place: usize,
+    pub events: usize,
+    pub used: usize,
 }
 
-// The command, its event aside.
+// The command, which gives those parameters, its event aside.
 fn act(
     s: &[u8],
     command: Command,
-    done: Progress,
+    given: Params,
     vendor: &Sixteen,
     class: &Sixteen,
     answers: &[u8],
     slots: &mut [u8],
     memory: &mut Memory,
 ) -> Progress
-    requires { ⌜ Commanded (now s) command (now answers) (now slots) (now memory) ⌝ }
-    ensures { λ r. ⌜ Acts s command done vendor class answers slots memory r ⌝ }
+    requires { ⌜ Commanded (now s) command given (now answers) (now slots) (now memory) ⌝ }
+    ensures { λ r. ⌜ Acts s command given vendor class answers slots memory r ⌝ }
 {
     let i = command.index;
     let p = load(memory, i);
     let k = memory[i];
     let value = command.value;
-    let given = command.given;
-    let events = done.events;
-    let used = done.used;
+    let events = command.events;
+    let used = command.used;
     let code = command.code;
     match code {
         VENDOR => ended(equal_sixteen(s, value, vendor), events, used),
@@ -80,11 +81,11 @@ fn act(
     }
 }
 
-// The command, after what was done before it, and its event.
+// The command, and its event.
 pub fn perform(
     s: &[u8],
     command: Command,
-    done: Progress,
+    given: Params,
     vendor: &Sixteen,
     class: &Sixteen,
     answers: &[u8],
@@ -92,14 +93,14 @@ pub fn perform(
     memory: &mut Memory,
     trace: &mut [u8],
 ) -> Progress
-    requires { ⌜ Commanded (now s) command (now answers) (now slots) (now memory) × RoomFor (done .events) (now trace) ⌝ }
-    ensures { λ r. ⌜ Performs s command done vendor class answers slots memory trace r ⌝ }
+    requires { ⌜ Commanded (now s) command given (now answers) (now slots) (now memory) × RoomFor (command .events) (now trace) ⌝ }
+    ensures { λ r. ⌜ Performs s command given vendor class answers slots memory trace r ⌝ }
 {
-    let events = done.events;
+    let events = command.events;
     let place = command.place;
     let index = command.index;
     let code = command.code;
-    let d = act(s, command, done, vendor, class, answers, slots, memory);
+    let d = act(s, command, given, vendor, class, answers, slots, memory);
     let end = d.end;
     put_event(trace, events, code, index, place, end);
     Progress {

@@ -13,7 +13,6 @@ use rules::codes::RUN_SEQUENCE;
 use rules::codes::TRY_EACH;
 use rules::controller::Memory;
 use rules::controller::Sixteen;
-use run_actions::Progress;
 use run_commands::perform::Command;
 use run_commands::perform::perform;
 use run_slots::params::either;
@@ -46,22 +45,18 @@ fn leaf(
 {
     let code = head.value;
     let a = read_one(s, code, head.next);
-    let given = a.params;
     let index = component(code, a.value, run.index);
     let d = perform(
         s,
         Command {
             code,
             value: a.value,
-            given,
             index,
             place: run.next,
-        },
-        Progress {
             events: run.events,
             used: run.used,
-            end: End::FINISHED,
         },
+        a.params,
         vendor,
         class,
         answers,

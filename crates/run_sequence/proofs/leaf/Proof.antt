@@ -6,7 +6,7 @@ use Rattle.run_sequence.proofs.leaf.Tie as tie
 
 -- the way back: from where the component was told to where the argument was read, and to the start; from the end to where it was performed
 abbrev argument : tie.After-component → tie.After-read-one
-argument c = c .before .before
+argument c = c .before
 
 abbrev start : tie.After-component → tie.Start
 start c = argument c .before .before .before .before .before

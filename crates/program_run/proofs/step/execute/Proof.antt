@@ -13,10 +13,10 @@ abbrev coded : tie.After-two2 → tie.After-wide
 coded c = c .before .before .before .before
 
 abbrev aimed : tie.After-given → tie.After-two2
-aimed c = c .before .before
+aimed c = c .before .before .before
 
 abbrev told : tie.After-perform-arg3 → tie.After-given
-told c = c .before .before .before .before
+told c = c .before .before .before
 
 abbrev performed : tie.After-struct-known → tie.After-perform
 performed c = c .before .before .before .before .before
@@ -34,13 +34,13 @@ size c κs = omega (arith, execute-room _ _ _ _ _ _ _ _ _ (start (c .before .bef
 target : tie.Need-two-requires-2
 target c κs = omega (arith, execute-room _ _ _ _ _ _ _ _ _ (start (c .before .before .before) .pre))
 
+place : tie.Need-two-requires-3
+place c κs = omega (arith, execute-room _ _ _ _ _ _ _ _ _ (start (coded (c .before)) .pre))
+
 gives : tie.Need-given-requires
 gives c κs =
-    let t = c .before in
+    let t = c .before .before in
     argument-here _ _ _ _ _ _ _ _ _ (start (coded t) .pre) _ _ _ (coded t .wide .ensures .0) (t .before .before .wide2 .ensures .0) (t .before .two .ensures .0)
-
-place : tie.Need-two-requires-3
-place c κs = omega (arith, execute-room _ _ _ _ _ _ _ _ _ (start (coded (aimed c)) .pre))
 
 performs : tie.Need-perform-requires
 performs c κs =
@@ -53,8 +53,8 @@ performs c κs =
     let given = g .given .ensures (argument-here _ _ _ _ _ _ _ _ _ j _ _ _ ec ei es) in (
       record {
         inside = omega (arith, execute-inside _ _ _ _ _ _ _ _ _ j _ _ _ ec ei es, j .ready .lent .host .few);
-        sixteen = execute-sixteen _ _ _ _ _ _ _ _ _ j _ _ _ ec ei es _ (g .before .value .ensures) _ given;
-        coded = execute-code _ _ _ _ _ _ _ _ _ j _ _ _ ec ei es _ (g .before .value .ensures) _ given;
+        sixteen = execute-sixteen _ _ _ _ _ _ _ _ _ j _ _ _ ec ei es _ (g .before .before .value .ensures) _ given;
+        coded = execute-code _ _ _ _ _ _ _ _ _ j _ _ _ ec ei es _ (g .before .before .value .ensures) _ given;
         hold = j .ready .lent .hold;
         fit = execute-fit _ _ _ _ _ _ _ _ _ j;
         answered = j .ready .lent .answered;
@@ -83,7 +83,7 @@ done c = λ j.
     let does = d .perform .ensures in
     let given = g .given .ensures (argument-here _ _ _ _ _ _ _ _ _ j _ _ _ ec ei es) in
     let n = j .ready .among in
-    executed _ _ _ _ _ _ _ _ _ j _ _ _ ec ei es _ (g .before .value .ensures) _ given _ (d .before .before .before .before .two3 .ensures .0) _ et
+    executed _ _ _ _ _ _ _ _ _ j _ _ _ ec ei es _ (g .before .before .value .ensures) _ given _ (g .before .two3 .ensures .0) _ et
     _ _ _ _ (does .events)
     (does .does (j .env) (j .ready .lent .host) (execute-inside _ _ _ _ _ _ _ _ _ j _ _ _ ec ei es) (j .ready .lent .fit))
     (does .fit _ (j .ready .lent .fit) (rw n (given .fit))) (does .kept)
@@ -106,9 +106,9 @@ execute-spec =
     (λ c. search needs)
     target
     (λ c κs. search needs)
-    gives
     (λ c. search needs)
     place
+    gives
     performs
     add-onward
     goes-on

@@ -13,10 +13,10 @@ use Rattle.run_commands.proofs.perform.act.Statement.{statement}
 use Rattle.run_commands.proofs.perform.act.Tie as tie
 
 -- from the match: where the component's parameters were loaded, and the start
-abbrev loaded : tie.After-given → tie.After-load
-loaded c = c .before .before
+abbrev loaded : tie.After-k → tie.After-load
+loaded c = c .before
 
-abbrev start : tie.After-given → tie.Start
+abbrev start : tie.After-k → tie.Start
 start c = loaded c .before .before .before .before .before
 
 inside : tie.Need-load-requires
@@ -124,7 +124,7 @@ set-parameters c =
           λ env trace h l f.
           rw (
             arm .match .keys6,
-            set-params _ env _ _ _ _ _ trace _ (a .done .events) (a .done .used) h l (load .result) (load .ensures) w (a .command .given) _ (over .over .ensures),
+            set-params _ env _ _ _ _ _ trace _ (a .command .events) (a .command .used) h l (load .result) (load .ensures) w (a .given) _ (over .over .ensures),
           );
       fit =
           λ n f g.
@@ -150,7 +150,7 @@ override-parameters c =
           λ env trace h l f.
           rw (
             arm .match .keys7,
-            override-params _ env _ _ _ _ _ trace _ (a .done .events) (a .done .used) h l (load .result) (load .ensures) w (a .command .given) _ (over .over2 .ensures),
+            override-params _ env _ _ _ _ _ trace _ (a .command .events) (a .command .used) h l (load .result) (load .ensures) w (a .given) _ (over .over2 .ensures),
           );
       fit =
           λ n f g.
@@ -217,7 +217,7 @@ swap c =
     let e = loaded (arm .before) .load .ensures in
     let r = arm .match .rest in
     let a = start (arm .before) .args in
-    let is-swap : commandOf (a .s .now) (a .command) ≡ Rules.swap =
+    let is-swap : commandOf (a .s .now) (a .command) (a .given) ≡ Rules.swap =
     swap-left _ _ _ _ (r .0 .0 .0 .0 .0 .0 .0 .0 .0 .1) (r .0 .0 .0 .0 .0 .0 .0 .0 .1) (r .0 .0 .0 .0 .0 .0 .0 .1) (r .0 .0 .0 .0 .0 .0 .1) (r .0 .0 .0 .0 .0 .1)
     (r .0 .0 .0 .0 .1) (r .0 .0 .0 .1) (r .0 .0 .1) (r .0 .1) (r .1) in
     rw (c .ended10 .ensures)

@@ -23,7 +23,7 @@ act-requires c κs = start c .pre .0
 put-event-requires : tie.Need-put-event-requires
 put-event-requires c κs =
     let a = start (acted c .before) in
-    (a .pre .1, omega (arith, a .pre .0 .coded, code-small (commandOf (a .args .s .now) (a .args .command))), omega (arith, a .pre .0 .inside), acted c .act .ensures .ends)
+    (a .pre .1, omega (arith, a .pre .0 .coded, code-small (commandOf (a .args .s .now) (a .args .command) (a .args .given))), omega (arith, a .pre .0 .inside), acted c .act .ensures .ends)
 
 next-event : tie.Need-add-t22
 next-event c = let a = start (acted (put c .before) .before) in omega (arith, a .pre .1, a .good .1 .1 .1 .1 .1 .1 .1 .1 .0 .0)
@@ -38,7 +38,7 @@ returns c =
       ends = d .ends;
       does =
           λ env h l f.
-          with-event (a .args .s .now) env _ _ _ _ _ (commandOf (a .args .s .now) (a .args .command)) _ _ (a .args .command .place) (a .args .done .events) _
+          with-event (a .args .s .now) env _ _ _ _ _ (commandOf (a .args .s .now) (a .args .command) (a .args .given)) _ _ (a .args .command .place) (a .args .command .events) _
           (at-act .act .result) (d .does env (a .args .trace .now) h l f) (d .events) (a .pre .0 .coded) (put c .put-event .ensures);
       fit = d .fit;
       kept = d .kept;
