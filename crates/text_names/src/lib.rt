@@ -175,7 +175,21 @@ pub fn put_command_wide(room: &mut [u8], at: usize, code: usize, width: usize) -
         room,
         at,
         &COMMANDS,
-        b"vendor|class|image match|set component index|abort|try each|set parameters|override parameters|fetch|copy|run|run sequence|swap|jump|unknown",
+        b"vendor|\
+          class|\
+          image match|\
+          set component index|\
+          abort|\
+          try each|\
+          set parameters|\
+          override parameters|\
+          fetch|\
+          copy|\
+          run|\
+          run sequence|\
+          swap|\
+          jump|\
+          unknown",
         code,
         width,
     )
@@ -231,7 +245,27 @@ pub fn put_refusal(room: &mut [u8], at: usize, number: usize) -> usize
         room,
         at,
         &REFUSALS,
-        b"envelope over 4,096 bytes|CBOR rule broken, item past its container's end, or bytes left over|wrong type, key, order, count or length|version not 1|identifier twice|code not listed|parameter not listed|command not allowed there|index or source not below the count|depth over 4|257th command|signature verdict is no|install while an event is open|install: number not above the device's; boot: not equal|a component has no slot|trace under 2,048 bytes|slot count not 1 to 8, identifier not 1 to 32 bytes or twice, present size over capacity|answers not a multiple of 37 bytes|program longer than the room|program not well formed|unknown",
+        b"envelope over 4,096 bytes|\
+          CBOR rule broken, item past its container's end, or bytes left over|\
+          wrong type, key, order, count or length|\
+          version not 1|\
+          identifier twice|\
+          code not listed|\
+          parameter not listed|\
+          command not allowed there|\
+          index or source not below the count|\
+          depth over 4|\
+          257th command|\
+          signature verdict is no|\
+          install while an event is open|\
+          install: number not above the device's; boot: not equal|\
+          a component has no slot|\
+          trace under 2,048 bytes|\
+          slot count not 1 to 8, identifier not 1 to 32 bytes or twice, present size over capacity|\
+          answers not a multiple of 37 bytes|\
+          program longer than the room|\
+          program not well formed|\
+          unknown",
         number,
         0,
     )
@@ -244,7 +278,17 @@ pub fn put_end(room: &mut [u8], at: usize, number: usize) -> usize
         room,
         at,
         &ENDS,
-        b"finished|condition failed|started|parameter unset|aborted|no answer left|bad status|larger than the capacity|nothing to copy: slot absent|nothing to run: slot absent|unknown",
+        b"finished|\
+          condition failed|\
+          started|\
+          parameter unset|\
+          aborted|\
+          no answer left|\
+          bad status|\
+          larger than the capacity|\
+          nothing to copy: slot absent|\
+          nothing to run: slot absent|\
+          unknown",
         number,
         0,
     )
