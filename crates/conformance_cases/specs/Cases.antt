@@ -20,7 +20,8 @@ use Rattle.rules.specs.Run.{Ran, runEnvelope}
 use Rattle.rules.specs.Program as Program
 use Rattle.rules.specs.ProgramRun.{runProgram}
 use Rattle.run_admission.specs.Answer.{inputOf, slotsAfter, traceAfter}
-use Rattle.pitvorgas.specs.Answers.{controllerOf, groupOf, checkedOf, newerOf, translatedOf, roomAfter, ranOf}
+use Rattle.pitvorgas_answers.specs.Inputs.{controllerOf, groupOf}
+use Rattle.pitvorgas.specs.Answers.{checkedOf, newerOf, translatedOf, roomAfter, ranOf}
 use Rattle.conformance_cases.specs.Fields.{groupFrom, verdictFrom, traceFrom, fillFrom, runHead, isSet, stringEnd, deviceOf}
 use Rattle.conformance_lines.specs.Lines.{newline, checkedText, newerText}
 use Rattle.conformance_cases.specs.Lent.{roomFill, translationLine, ranLine}

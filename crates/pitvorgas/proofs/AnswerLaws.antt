@@ -42,10 +42,12 @@ module _ (g : Got Manifest) (r : Report) (e : r ≡ reportOf g) where
       go (refused k p) u = absurd (differ k p (ap (λ (x : Report). x .answer) (sym u) ∙ h))
       go (got m) u = ap reported u
 
-  pub refused-answer : (k : Refusal) (p n : ℕ) → r .answer ≡ C.Refused k p → n ≡ refusalNumber k → _≡_ {A = CheckAnswer} (record { refusal = n; place = p; number = 0; components = 0; ids = r .ids; sections = r .sections; from = 0; to = 0 }) (checkedOf g)
+  pub refused-answer : (k : Refusal) (p n : ℕ) → r .answer ≡ C.Refused k p → n ≡ refusalNumber k →
+      _≡_ {A = CheckAnswer} (record { refusal = n; place = p; number = 0; components = 0; ids = r .ids; sections = r .sections; from = 0; to = 0 }) (checkedOf g)
   refused-answer k p n h q = go g e
     where
-      go : (g : Got Manifest) → r ≡ reportOf g → _≡_ {A = CheckAnswer} (record { refusal = n; place = p; number = 0; components = 0; ids = r .ids; sections = r .sections; from = 0; to = 0 }) (checkedOf g)
+      go : (g : Got Manifest) → r ≡ reportOf g → _≡_ {A = CheckAnswer}
+          (record { refusal = n; place = p; number = 0; components = 0; ids = r .ids; sections = r .sections; from = 0; to = 0 }) (checkedOf g)
       go (refused k′ p′) u =
           let f : _≡_ {A = Checked} (C.Refused k′ p′) (C.Refused k p) = ap (λ (x : Report). x .answer) (sym u) ∙ h in
           let a : k ≡ k′ = cc in

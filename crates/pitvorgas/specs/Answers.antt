@@ -2,11 +2,9 @@
 -- `endNumber` give each case (01: 'a definition gives this paper's number .. The promises use that definition').
 use Prim.Native.Nat.{ℕ}
 use mathlib.Core.Path.{_≡_}
-use mathlib.Core.Bool.{Bool, true, false}
+use mathlib.Core.Bool.{Bool}
 use mathlib.Core.List.{_++_}
 use lib.ListN.{length, drop, replicate}
-use Rattle.rules.specs.declared.answers.Group.{Group}
-use Rattle.rules.specs.declared.answers.Group.the-variants.{Install, Boot}
 use Rattle.rules.specs.declared.controller.Controller.{Controller}
 use Rattle.rules.specs.Limits.{places, sectionPlaces}
 use Rattle.rules.specs.Answers.{refusalNumber, endNumber}
@@ -23,18 +21,12 @@ use Rattle.run_admission.specs.declared.answer.Answer.the-variants as A
 use Rattle.run_admission.specs.declared.answer.Outcome.{Outcome}
 use Rattle.run_admission.specs.Answer as Run
 use Rattle.run_admission.specs.Answer.{slotsAfter, traceAfter}
+use Rattle.pitvorgas_answers.specs.Inputs.{controllerOf}
 use Rattle.pitvorgas_answers.specs.declared.Device.{Device}
 use Rattle.pitvorgas_answers.specs.declared.CheckAnswer.{CheckAnswer}
 use Rattle.pitvorgas_answers.specs.declared.NewerAnswer.{NewerAnswer}
 use Rattle.pitvorgas_answers.specs.declared.TranslateAnswer.{TranslateAnswer}
 use Rattle.pitvorgas_answers.specs.declared.RunAnswer.{RunAnswer}
-
-abbrev pub controllerOf : Device → Controller
-controllerOf d = record { vendor = d .vendor; class = d .«class_id»; number = d .number; event = d .event }
-
-abbrev pub groupOf : Bool → Group
-groupOf true = Boot
-groupOf false = Install
 
 abbrev pub checkedOf : Got Manifest → CheckAnswer
 checkedOf (refused k p) =

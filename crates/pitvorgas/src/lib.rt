@@ -8,7 +8,8 @@ ghost use Rattle.rules.specs.Newer as Newer;
 ghost use Rattle.rules.specs.Run.{runEnvelope};
 ghost use Rattle.rules.specs.Program as Program;
 ghost use Rattle.rules.specs.ProgramRun.{runProgram};
-ghost use Rattle.pitvorgas.specs.Answers.{controllerOf, groupOf, checkedOf, newerOf, answerOf, Translation, given, Answers};
+ghost use Rattle.pitvorgas_answers.specs.Inputs.{groupOf};
+ghost use Rattle.pitvorgas.specs.Answers.{checkedOf, newerOf, answerOf, Translation, given, Answers};
 use check_envelope::check;
 use check_envelope::newest::choose;
 use check_envelope::report::Checked;
@@ -17,36 +18,14 @@ use pitvorgas_answers::Device;
 use pitvorgas_answers::NewerAnswer;
 use pitvorgas_answers::RunAnswer;
 use pitvorgas_answers::TranslateAnswer;
+use pitvorgas_answers::controller_of;
+use pitvorgas_answers::group_of;
 use program_run::run_program;
-use rules::answers::Group;
-use rules::controller::Controller;
 use run_admission::answer::Answer;
 use run_admission::answer::Outcome;
 use run_envelope::run;
 use translate::Translated;
 use translate::translate;
-
-fn controller_of(d: Device) -> Controller
-    ensures { λ r. ⌜ r ≡ controllerOf d ⌝ }
-{
-    let vendor = d.vendor;
-    let class = d.class_id;
-    Controller {
-        vendor,
-        class,
-        number: d.number,
-        event: d.event,
-    }
-}
-
-fn group_of(boot: bool) -> Group
-    ensures { λ r. ⌜ r ≡ groupOf boot ⌝ }
-{
-    if boot {
-        return Group::Boot;
-    }
-    Group::Install
-}
 
 // The outcome of a run in numbers.
 fn answer_of(o: Outcome) -> RunAnswer

@@ -1,5 +1,9 @@
-// The device and the answers as C has them. include/pitvorgas.h declares them by the same names, with `pitvorgas_` before them:
-// `CheckAnswer` is `struct pitvorgas_check_answer`.
+// The device and the answers as C has them, and what C's device and group are to the jobs. include/pitvorgas.h declares the structs by
+// the same names, with `pitvorgas_` before them: `CheckAnswer` is `struct pitvorgas_check_answer`.
+ghost use mathlib.Core.Path.{_≡_};
+ghost use Rattle.pitvorgas_answers.specs.Inputs.{controllerOf, groupOf};
+use rules::answers::Group;
+use rules::controller::Controller;
 use rules::controller::Places;
 use rules::controller::SectionPlaces;
 use rules::controller::Sixteen;
@@ -54,4 +58,26 @@ pub struct RunAnswer {
     pub events: usize,
     pub used: usize,
     pub number: usize,
+}
+
+pub fn controller_of(d: Device) -> Controller
+    ensures { λ r. ⌜ r ≡ controllerOf d ⌝ }
+{
+    let vendor = d.vendor;
+    let class = d.class_id;
+    Controller {
+        vendor,
+        class,
+        number: d.number,
+        event: d.event,
+    }
+}
+
+pub fn group_of(boot: bool) -> Group
+    ensures { λ r. ⌜ r ≡ groupOf boot ⌝ }
+{
+    if boot {
+        return Group::Boot;
+    }
+    Group::Install
 }

@@ -1,6 +1,6 @@
 use lib.ListN.{length}
 use Rattle.rules.specs.Program.{translate}
-use Rattle.pitvorgas.specs.Answers.{groupOf}
+use Rattle.pitvorgas_answers.specs.Inputs.{groupOf}
 use Rattle.pitvorgas.proofs.AnswerLaws.{refused-translation, program-translation}
 use borrow.Author.Needs.{needs}
 use Rattle.pitvorgas.proofs.pitvorgas_translate.Statement.{statement}

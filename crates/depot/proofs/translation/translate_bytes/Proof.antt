@@ -1,5 +1,5 @@
 use borrow.Author.Needs.{needs}
-use Rattle.pitvorgas.specs.Answers.{groupOf}
+use Rattle.pitvorgas_answers.specs.Inputs.{groupOf}
 use Rattle.io.specs.Counts.{Counts}
 use Rattle.depot.proofs.PageLaws.{translated-counts}
 use Rattle.depot.proofs.PageLaws.{wrote-counts}
@@ -31,7 +31,8 @@ slice-aggregate-print c = search needs
 abbrev told : (c : tie.After-pitvorgas-translate) → Counts (c .pitvorgas-translate .result .length) (c .pitvorgas-translate .last .1 .1 .0)
 told c =
     let a = c .before .before .before .before .args in
-    translated-counts (a .envelope .now) (groupOf (a .boot)) (c .before .before .large-buffer .result) (c .pitvorgas-translate .result) _ (c .pitvorgas-translate .ensures .0) (c .pitvorgas-translate .kept .1 .1 .0)
+    translated-counts (a .envelope .now) (groupOf (a .boot)) (c .before .before .large-buffer .result) (c .pitvorgas-translate .result) _
+    (c .pitvorgas-translate .ensures .0) (c .pitvorgas-translate .kept .1 .1 .0)
 
 print-requires : tie.Need-print-requires
 print-requires c κs = wrote-counts (c .before .before .put-refused .ensures)
