@@ -5,8 +5,9 @@
  *
  * Every function is proved: whatever its slices hold and however long they are, and whatever its numbers and bools are, it ends, reads and
  * writes only what it is lent, and gives what its comment says. "The rule" is the definition of that name in crates/rules/specs, which is
- * document 01, "Manifest rules for gate controllers", as definitions. The contracts stand over the functions and structs of the same names
- * in crates/pitvorgas/src/lib.rt; the numbers in the answers are those that crates/rules/specs/Answers.antt gives each refusal and end.
+ * document 01, "Manifest rules for gate controllers", as definitions. The contracts stand over the functions of the same names in
+ * crates/pitvorgas/src/lib.rt, the structs in crates/pitvorgas_answers/src/lib.rt (`CheckAnswer` is `pitvorgas_check_answer`); the numbers
+ * in the answers are those that crates/rules/specs/Answers.antt gives each refusal and end.
  *
  * The proofs do not cover, and a caller must not make, a call with
  *   - a null pointer, even with length 0, or a pointer to fewer bytes than the length says;

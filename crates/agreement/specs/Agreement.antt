@@ -26,7 +26,8 @@ abbrev pub programFor : Bytes → Group → Manifest → Bytes
 programFor s group m = programBytes (programOf s group m)
 
 -- 'A manifest is accepted when check refuses nothing in its envelope': check s ≡ got m
-pub record Agreed (s : Bytes) (group : Group) (verdict : Bool) (device : Controller) (answers room room′ pslots pslots′ ptrace ptrace′ eslots eslots′ etrace etrace′ : Bytes) (r : Agreement) : Type 0 where
+pub record Agreed (s : Bytes) (group : Group) (verdict : Bool) (device : Controller) (answers room room′ pslots pslots′ ptrace ptrace′ eslots eslots′ etrace etrace′ : Bytes)
+    (r : Agreement) : Type 0 where
   -- the translation, and the run of the envelope on `eslots` and `etrace`
   pub translated : Translates (translate s group (length room)) (r .translated) room room′
   pub envelope : Settles device (runEnvelope s group (inputOf verdict device eslots answers etrace)) (r .envelope) eslots eslots′ etrace etrace′

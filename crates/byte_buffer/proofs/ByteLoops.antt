@@ -37,7 +37,14 @@ module _ (s : Bytes) (at : ℕ) (d : Bytes) where
   unfolding copied
   copy-next k h l =
       let m : k < length (drop at s) = simp length-drop (omega arith) in
-      rw (← getD-drop at s k 0, add-one, drop-cons d k 0 h, set-at (part s at k) (getD d k 0) (drop (suc k) d) (getD (drop at s) k 0) k (length-take-le k (drop at s) (omega arith)), take-suc (drop at s) k 0 m)
+      rw (
+        ← getD-drop at s k 0,
+        add-one,
+        drop-cons d k 0 h,
+        set-at (part s at k) (getD d k 0) (drop (suc k) d) (getD (drop at s) k 0) k
+            (length-take-le k (drop at s) (omega arith)),
+        take-suc (drop at s) k 0 m,
+      )
       (sym (append-snoc (part s at k) (getD (drop at s) k 0) (drop (suc k) d)))
 
   pub copy-end : (k : ℕ) → length d ≤ k → copied k ≡ part s at k

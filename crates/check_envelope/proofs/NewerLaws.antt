@@ -57,10 +57,6 @@ lies s m q =
     let x : m .part ≡ span (h .from) (h .to) = manifest-part s (h .to) (h .from) m (h .to) (h .reads) in
     rw x (h .up, h .fits)
 
-within : (s : Bytes) (x : Got Manifest) → check s ≡ x → (partIn x .from ≤ partIn x .to) × (partIn x .to ≤ length s)
-within s (refused k p) q = (omega arith, omega arith)
-within s (got m) q = lies s m q
-
 -- by the ranks
 second-newer : (x y : Got Manifest) → partIn x .rank < partIn y .rank → _≡_ {A = Newest} (record { second = 1; from = partIn y .from; to = partIn y .to }) (newestOf (newerOf x y))
 second-newer (refused n p) (refused m q) l = absurd (omega arith)

@@ -1,5 +1,5 @@
--- The manifest by its parts: a reading goes on or stops, and the rules of check as the chain in which the code reads.
-use Prim.Native.Nat.{ℕ, _-_}
+-- A reading that went on or stopped, by what was read; keys among them.
+use Prim.Native.Nat.{ℕ}
 use mathlib.Core.Path.{_≡_, refl, sym, ap, _∙_}
 use native.Mathlib.Omega.{arith}
 use Rattle.rules.specs.declared.answers.Refusal.{Refusal}
@@ -7,7 +7,6 @@ use Rattle.rules.specs.Answers.{refusalNumber}
 use Rattle.rules.specs.Bytes.{Bytes}
 use Rattle.rules.specs.Got.{Got, refused, got, _>>=_}
 use Rattle.rules.specs.Cbor.{NUMBER, Head, item}
-use Rattle.rules.specs.Commands.{PAYLOAD_FETCH}
 use Rattle.rules.specs.Check.{key}
 use Rattle.rules.proofs.CheckLaws.{item-law}
 use Rattle.cbor.specs.declared.reading.Reading.{Reading}

@@ -72,7 +72,8 @@ module _ (s : Bytes) where
       test next false ih = ih
 
       go : (x : Got ℕ) → ((next : ℕ) → identifiers s n (before ++ (span at next ∷ [])) e next ≡ verdict (before ++ (span at next ∷ [])) (listing s n e next .ids) (listing s n e next .end)) →
-          ((x >>= λ next. need (not (member (bytesAt s (span at next)) (map (bytesAt s) before))) RepeatedIdentifier at >>= λ _. got (span at next)) >>= λ id. identifiers s n (before ++ (id ∷ [])) e (id .to))
+          ((x >>= λ next. need (not (member (bytesAt s (span at next)) (map (bytesAt s) before))) RepeatedIdentifier at >>= λ _. got (span at next))
+          >>= λ id. identifiers s n (before ++ (id ∷ [])) e (id .to))
           ≡ verdict before (onward at x (λ next. listing s n e next) .ids) (onward at x (λ next. listing s n e next) .end)
       go (refused r p) ih = refl
       go (got next) ih = test next (member (bytesAt s (span at next)) (map (bytesAt s) before)) (ih next)

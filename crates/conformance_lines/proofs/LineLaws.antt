@@ -48,7 +48,8 @@ module _ (b : Bytes) (k : ℕ) where
       let d : slotBytes * k + idFrom + n - (slotBytes * k + idFrom) ≡ n = omega arith in
       rw (d, e, q) (sym (take-least (getD b (slotBytes * k) 0) (limits .identifier) (drop (slotBytes * k + idFrom) b)))
 
-  pub digest-part : take (slotBytes * k + (imageFrom + digestFrom) + limits .digest - (slotBytes * k + (imageFrom + digestFrom))) (drop (slotBytes * k + (imageFrom + digestFrom)) b) ≡ slotAt b k .digest
+  pub digest-part : take (slotBytes * k + (imageFrom + digestFrom) + limits .digest - (slotBytes * k + (imageFrom + digestFrom)))
+      (drop (slotBytes * k + (imageFrom + digestFrom)) b) ≡ slotAt b k .digest
   unfolding slotAt
   digest-part =
       let d : slotBytes * k + (imageFrom + digestFrom) + limits .digest - (slotBytes * k + (imageFrom + digestFrom)) ≡ limits .digest = omega arith in

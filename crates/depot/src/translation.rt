@@ -1,5 +1,4 @@
 // Translation of a file into a new file.
-ghost use Rattle.io.specs.Counts.{Counts};
 use crate::files::load;
 use crate::files::store;
 use crate::pages::group_word;

@@ -54,9 +54,6 @@ leads-length {left = left} {to = to} {room = room} l =
     sym (length-sets room to left)
     ∙ wrote-length (l .by (to + least (length left) (length room - to)) (sets room to left) (record { filled = refl; next = refl }))
 
-pub leads-start : (whole : Bytes) (at : ℕ) (room : Bytes) → Leads whole at room whole at room
-leads-start whole at room = record { by = λ r room′ w. w }
-
 pub leads-more : {whole : Bytes} {at : ℕ} {room₀ left : Bytes} {to : ℕ} {room t left′ : Bytes} {to′ : ℕ} {room′ : Bytes} → Leads whole at room₀ left to room →
     left ≡ t ++ left′ → Wrote t to room to′ room′ → Leads whole at room₀ left′ to′ room′
 leads-more l e w = record { by = λ r room″ h. l .by r room″ (rw e (wrote-then w h)) }
@@ -93,7 +90,8 @@ going-start size text missing count s at room =
     let e : count - 0 ≡ count = omega arith in
     record { within = omega arith; leads = record { by = λ r room′ w. rw e at w } }
 
-module _ {size : Bytes → ℕ} {text : ℕ → Bytes → Bytes} {missing : Bytes → Bytes} {count : ℕ} {s : Bytes} {at : ℕ} {room₀ : Bytes} {n : ℕ} {rest : Bytes} {to : ℕ} {room : Bytes} (g : Going size text missing count s at room₀ n rest to room) where
+module _ {size : Bytes → ℕ} {text : ℕ → Bytes → Bytes} {missing : Bytes → Bytes} {count : ℕ} {s : Bytes} {at : ℕ} {room₀ : Bytes} {n : ℕ} {rest : Bytes}
+    {to : ℕ} {room : Bytes} (g : Going size text missing count s at room₀ n rest to room) where
   pub going-length : length room ≡ length room₀
   going-length = leads-length (g .leads)
 

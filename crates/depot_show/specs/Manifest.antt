@@ -7,7 +7,6 @@ use lib.ListN.{getD}
 use Rattle.rules.specs.Bytes.{Bytes}
 use Rattle.rules.specs.Cbor.{BYTES}
 use Rattle.rules.specs.Limits.{limits, sectionCount}
-use Rattle.check_envelope.specs.declared.report.Report.{Report}
 use Rattle.text.specs.Text.{ascii, least}
 use Rattle.text.specs.Pieces.{labelled, coded, lines}
 use Rattle.text_names.specs.Words.{sectionKey, sectionWords}
@@ -39,6 +38,3 @@ sectionsText s places = lines (sectionAt s places) sectionCount
 unfoldable pub partsText : Bytes → ℕ → ℕ → List ℕ → List ℕ → Bytes
 partsText s number components ids sections =
     labelled (ascii "number ") number ++ newline ++ componentsText s ids (least components (limits .components)) ++ sectionsText s sections
-
-unfoldable pub manifestText : Bytes → Report → Bytes
-manifestText s r = partsText s (r .number) (r .components) (r .ids) (r .sections)

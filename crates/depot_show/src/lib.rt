@@ -3,8 +3,7 @@ ghost use Prim.Native.Nat.{_≤_};
 ghost use Rattle.rules.specs.Lent.{was};
 ghost use Rattle.rules.specs.Limits.{limits};
 ghost use Rattle.text.specs.Text.{Writes};
-ghost use Rattle.depot_show.specs.Manifest.{componentText, componentsText, sectionText, sectionsText, partsText, manifestText};
-use check_envelope::report::Report;
+ghost use Rattle.depot_show.specs.Manifest.{componentText, componentsText, sectionText, sectionsText, partsText};
 use depot_items::line::NEWLINE;
 use depot_items::line::put_string;
 use rules::controller::Controller;
@@ -95,21 +94,4 @@ pub fn put_parts(
     let b = put_byte(room, a, NEWLINE);
     let c = put_components(room, b, s, least(components, Controller::COMPONENTS), ids);
     put_sections(room, c, s, sections)
-}
-
-// The manifest of an envelope that check has accepted, by check's report.
-pub(crate) fn put_manifest(room: &mut [u8], at: usize, s: &[u8], report: Report) -> usize
-    ensures { λ r. ⌜ Writes (manifestText (was s) report) at room r ⌝ }
-{
-    let ids = report.ids;
-    let sections = report.sections;
-    put_parts(
-        room,
-        at,
-        s,
-        report.number,
-        report.components,
-        &ids,
-        &sections,
-    )
 }

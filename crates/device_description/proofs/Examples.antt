@@ -17,7 +17,8 @@ text (l ∷ ls) = ascii l ++ (10 ∷ []) ++ text ls
 
 -- rooms for 2 slots and 1 answer
 unfoldable pub says : List String → Said
-unfolding until lines trim word rest oneMore numberFrom number digit allDigits unhex bytes isBytes upToBytes isImage image isState isSlot identifier slot status isAnswer answer start verdictLine vendorLine classLine numberLine eventLine setting slotLine answerLine line linesFrom described
+unfolding until lines trim word rest oneMore numberFrom number digit allDigits unhex bytes isBytes upToBytes isImage image isState isSlot identifier
+    slot status isAnswer answer start verdictLine vendorLine classLine numberLine eventLine setting slotLine answerLine line linesFrom described
 says ls = described 148 37 (text ls)
 
 abbrev pub digest : Bytes

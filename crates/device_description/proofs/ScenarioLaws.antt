@@ -17,7 +17,8 @@ use Rattle.text.proofs.TextLaws.{sets-append}
 use Rattle.device_text.specs.Words.{lines, trim, word, rest, isNumber, bytes, isBytes}
 use Rattle.device_text.specs.SlotText.{isSlot, slot, isAnswer, answer}
 use Rattle.device_text.proofs.LengthLaws.{slot-length, answer-length}
-use Rattle.device_description.specs.Scenario.{passed, says, withSlots, withAnswers, refusedAt, understood, verdictLine, vendorLine, classLine, numberLine, eventLine, setting, Said, slotLine, answerLine, line, _then_, start, linesFrom, described, Describes, Took}
+use Rattle.device_description.specs.Scenario.{passed, says, withSlots, withAnswers, refusedAt, understood, verdictLine, vendorLine, classLine, numberLine, eventLine}
+use Rattle.device_description.specs.Scenario.{setting, Said, slotLine, answerLine, line, _then_, start, linesFrom, described, Describes, Took}
 use Rattle.device_description.specs.declared.Scenario.{Scenario}
 use Rattle.device_description.specs.declared.Flag.{Flag}
 use Rattle.device_description.specs.declared.Name.{Name}

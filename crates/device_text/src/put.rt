@@ -2,7 +2,7 @@
 ghost use mathlib.Core.Path.{_≡_};
 ghost use Prim.Native.Nat.{_%_};
 ghost use lib.ListN.{replicate};
-ghost use Rattle.rules.specs.Lent.{was, left};
+ghost use Rattle.rules.specs.Lent.{was};
 ghost use Rattle.rules.specs.Bytes.{be4};
 ghost use Rattle.rules.specs.Bytes.{put as Bytes·put};
 ghost use Rattle.rules.specs.Limits.{limits};

@@ -179,15 +179,36 @@ coerce-is false = refl
 module _ (s : Bytes) (key at : ℕ) (x : EntryAt s key at) (a : Args) where
   pub put-coerce : key ≡ coerceKey → (b : ℕ) → b ≡ flagOf (getD s at 0) → (next : ℕ) → next ≡ at + 1 →
       EntryPut s key at x a
-      (record { value = a .value; params = record { uri = a .params .uri; length = a .params .length; source = a .params .source; digest = a .params .digest; size = a .params .size }; coerce = b; next = next })
+      (record {
+        value = a .value;
+        params = record {
+          uri = a .params .uri;
+          length = a .params .length;
+          source = a .params .source;
+          digest = a .params .digest;
+          size = a .params .size;
+        };
+        coerce = b;
+        next = next;
+      })
   put-coerce k b e next n =
       let (l, to, given) = entry-coerce s key at x k in
-      record { given = rw (given, e, coerce-is (eqb (getD s at 0) trueByte)); next = omega arith; fit = λ f. record { source = f .source; digest = f .digest }; within = λ w. record { inside = w .inside; short = w .short } }
+      record {
+        given = rw (given, e, coerce-is (eqb (getD s at 0) trueByte));
+        next = omega arith;
+        fit = λ f. record { source = f .source; digest = f .digest };
+        within = λ w. record { inside = w .inside; short = w .short };
+      }
 
   module _ (value next : ℕ) (o : Opens s at value next) where
     pub put-uri : key ≡ uriKey →
         EntryPut s key at x a
-        (record { value = a .value; params = record { uri = next; length = value; source = a .params .source; digest = a .params .digest; size = a .params .size }; coerce = a .coerce; next = next + value })
+        (record {
+          value = a .value;
+          params = record { uri = next; length = value; source = a .params .source; digest = a .params .digest; size = a .params .size };
+          coerce = a .coerce;
+          next = next + value;
+        })
     unfolding meaning
     put-uri k =
         let y = entry-uri s key at x k in
@@ -201,7 +222,12 @@ module _ (s : Bytes) (key at : ℕ) (x : EntryAt s key at) (a : Args) where
 
     pub put-source : key ≡ sourceKey →
         EntryPut s key at x a
-        (record { value = a .value; params = record { uri = a .params .uri; length = a .params .length; source = value + 1; digest = a .params .digest; size = a .params .size }; coerce = a .coerce; next = next })
+        (record {
+          value = a .value;
+          params = record { uri = a .params .uri; length = a .params .length; source = value + 1; digest = a .params .digest; size = a .params .size };
+          coerce = a .coerce;
+          next = next;
+        })
     unfolding meaning
     put-source k =
         let y = entry-source s key at x k in
@@ -216,7 +242,12 @@ module _ (s : Bytes) (key at : ℕ) (x : EntryAt s key at) (a : Args) where
 
     pub put-digest : key ≡ digestKey →
         EntryPut s key at x a
-        (record { value = a .value; params = record { uri = a .params .uri; length = a .params .length; source = a .params .source; digest = next; size = a .params .size }; coerce = a .coerce; next = next + limits .digest })
+        (record {
+          value = a .value;
+          params = record { uri = a .params .uri; length = a .params .length; source = a .params .source; digest = next; size = a .params .size };
+          coerce = a .coerce;
+          next = next + limits .digest;
+        })
     unfolding meaning
     put-digest k =
         let y = entry-digest s key at x k in
@@ -230,7 +261,12 @@ module _ (s : Bytes) (key at : ℕ) (x : EntryAt s key at) (a : Args) where
 
     pub put-size : (key ≡ coerceKey → ⊥) → (key ≡ uriKey → ⊥) → (key ≡ sourceKey → ⊥) → (key ≡ digestKey → ⊥) →
         EntryPut s key at x a
-        (record { value = a .value; params = record { uri = a .params .uri; length = a .params .length; source = a .params .source; digest = a .params .digest; size = value + 1 }; coerce = a .coerce; next = next })
+        (record {
+          value = a .value;
+          params = record { uri = a .params .uri; length = a .params .length; source = a .params .source; digest = a .params .digest; size = value + 1 };
+          coerce = a .coerce;
+          next = next;
+        })
     unfolding meaning
     put-size n₂ n₆ n₁₀ n₁₁ =
         let y = entry-size s key at x n₂ n₆ n₁₀ n₁₁ in

@@ -75,7 +75,8 @@ flag-at s e at h q l = let a = head-at s e at h (whole-head s e at h q) in
     let g = go (getD s at 0) (ltb (getD s at 0) 0xe0) refl (a .stands, a .kind, a .next) in
     (a .first, g .0, g .1)
   where
-    go : (b : ℕ) (t : Bool) → ltb b 0xe0 ≡ t → (known b ≡ true) × (h .kind ≡ cond t (b / 32) (b % 32)) × (h .next ≡ at + 1 + cond (t && leb 24 (b % 32)) (cond (eqb (b % 32) 24) 1 (cond (eqb (b % 32) 25) 2 4)) 0) → (h .next ≡ at + 1) × (b ≡ 0xe0 + h .kind)
+    go : (b : ℕ) (t : Bool) → ltb b 0xe0 ≡ t → (known b ≡ true) × (h .kind ≡ cond t (b / 32) (b % 32)) ×
+        (h .next ≡ at + 1 + cond (t && leb 24 (b % 32)) (cond (eqb (b % 32) 24) 1 (cond (eqb (b % 32) 25) 2 4)) 0) → (h .next ≡ at + 1) × (b ≡ 0xe0 + h .kind)
     go b true e (k, i, n) = absurd (omega (arith, ltb-true b 0xe0 e))
     go b false e (k, i, n) = let f = flagged b k (ltb-false _ _ e) in (omega arith, omega arith)
 

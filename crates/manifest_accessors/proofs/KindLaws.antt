@@ -5,7 +5,8 @@ use mathlib.Core.List.{[], _∷_}
 use mathlib.Core.Bool.{false}
 use mathlib.Core.Logic.{_⊎_, inl, inr}
 use mathlib.Core.Option.{some}
-use Rattle.rules.specs.Commands.{Form, sixteen, nil, below, alternatives, parameters, sequence, Row, commands, rowOf, among, vendorCode, classCode, setIndexCode, tryEachCode, setParametersCode, overrideCode, runSequenceCode}
+use Rattle.rules.specs.Commands.{Form, sixteen, nil, below, alternatives, parameters, sequence, Row, commands, rowOf, among, vendorCode}
+use Rattle.rules.specs.Commands.{classCode, setIndexCode, tryEachCode, setParametersCode, overrideCode, runSequenceCode}
 use Rattle.rules.proofs.TableLaws.{each-row, _&_}
 
 abbrev pub CodesOf : Form → ℕ → Type 0

@@ -13,7 +13,8 @@ use Rattle.rules.specs.Limits.{limits}
 use Rattle.rules.specs.Bytes.{Bytes, part}
 use Rattle.rules.specs.Got.{got}
 use Rattle.rules.specs.Cbor.{BYTES, ARRAY, MAP, NIL, item}
-use Rattle.rules.specs.Commands.{Op, vendor, class, imageMatch, setIndex, abort, setParams, overrideParams, fetch, copy, run, swap, Params, Form, sixteen, nil, below, alternatives, parameters, sequence, Row, commands, rowOf, code, component, vendorCode, classCode, setIndexCode, setParametersCode, overrideCode}
+use Rattle.rules.specs.Commands.{Op, vendor, class, imageMatch, setIndex, abort, setParams, overrideParams, fetch, copy, run, swap, Params, Form, sixteen, nil, below, alternatives}
+use Rattle.rules.specs.Commands.{parameters, sequence, Row, commands, rowOf, code, component, vendorCode, classCode, setIndexCode, setParametersCode, overrideCode}
 use Rattle.rules.specs.Manifest.{Seq, one}
 use Rattle.rules.specs.Check.{Read, Given, nothing, number, inBytes, entries, alternativesAt, argument}
 use Rattle.rules.proofs.GotLaws.{passed, both, split, split₂}

@@ -106,8 +106,5 @@ module _ (s : Bytes) (n depth events at : ℕ) (x : CommandAt s n depth events a
   pub command-later : at < x .to
   command-later = command-within .0
 
-  pub command-inside : x .to ≤ x .e
-  command-inside = command-within .1
-
   pub command-starts : at < length s
   command-starts = omega (arith, command-within, x .fits)

@@ -196,7 +196,8 @@ module _ (s : Bytes) (n : ℕ) where
       where
         other : (k ≡ sectionNo (x .key)) ⊎ (k < sectionNo (x .key)) → k + 1 ≤ sectionNo (x .key)
         other (inl q) =
-            let f : getD places (2 * sectionNo (x .key) + 1) 0 ≡ x .place .to = ap (λ (l : List ℕ). getD l (2 * sectionNo (x .key) + 1) 0) (r .stands) ∙ first-to x xs m k (r .array) (r .size) (r .read) in
+            let f : getD places (2 * sectionNo (x .key) + 1) 0 ≡ x .place .to = ap (λ (l : List ℕ). getD l (2 * sectionNo (x .key) + 1) 0) (r .stands)
+            ∙ first-to x xs m k (r .array) (r .size) (r .read) in
             let g : getD places (2 * sectionNo (x .key) + 1) 0 ≡ 0 = rw q at e in
             absurd (omega (arith, r .read .0 .some-bytes))
         other (inr l) = omega arith

@@ -1,6 +1,5 @@
 // Heads of an envelope that check has accepted: nothing is tested again.
 ghost use mathlib.Core.Path.{_≡_};
-ghost use Prim.Native.Nat.{_+_};
 ghost use Rattle.rules.specs.Lent.{was};
 ghost use Rattle.manifest_accessors.specs.Heads.{HeadAt, Strings};
 use byte_buffer::four;

@@ -79,7 +79,8 @@ module _ (p : Bytes) (at r : ℕ) where
   uri-is : Words.optional (placeIn at r) (part p (placeIn at r) (lengthIn at r)) ≡ valueIn p at r
   uri-is = go (eqb at r)
     where
-      go : (b : Bool) → Words.optional (cond b 0 (at + entrySize)) (part p (cond b 0 (at + entrySize)) (cond b 0 (r - at - entrySize))) ≡ cond b none (some (part p (at + entrySize) (r - at - entrySize)))
+      go : (b : Bool) → Words.optional (cond b 0 (at + entrySize)) (part p (cond b 0 (at + entrySize)) (cond b 0 (r - at - entrySize))) ≡ cond b none
+          (some (part p (at + entrySize) (r - at - entrySize)))
       go true = refl
       go false = rw (ne-eqb (at + entrySize) 0 (λ e. omega arith))
 
@@ -90,7 +91,8 @@ module _ (p : Bytes) (at r : ℕ) where
     number-is : Words.optional (cond (eqb at r) 0 (num (part p (at + entrySize) w) + 1)) (cond (eqb at r) 0 (num (part p (at + entrySize) w) + 1) - 1) ≡ Option·map num (valueIn p at r)
     number-is = go (eqb at r) refl
       where
-        go : (b : Bool) → eqb at r ≡ b → Words.optional (cond b 0 (num (part p (at + entrySize) w) + 1)) (cond b 0 (num (part p (at + entrySize) w) + 1) - 1) ≡ Option·map num (cond b none (some (part p (at + entrySize) (r - at - entrySize))))
+        go : (b : Bool) → eqb at r ≡ b → Words.optional (cond b 0 (num (part p (at + entrySize) w) + 1)) (cond b 0 (num (part p (at + entrySize) w) + 1) - 1) ≡ Option·map
+            num (cond b none (some (part p (at + entrySize) (r - at - entrySize))))
         go true e = refl
         go false e =
             let s : num (part p (at + entrySize) w) + 1 - 1 ≡ num (part p (at + entrySize) w) = omega arith in

@@ -92,11 +92,45 @@ module _ (g : Group) (comps total n : ℕ) (p : Bytes) (at : ℕ) where
       whole h false b c d ea eb ec ed = rw (long p at h, marked p at h, le-leb _ _ h, ea)
       whole h true false c d ea eb ec ed = rw (long p at h, marked p at h, le-leb _ _ h, ea, eb)
       whole h true true false d ea eb ec ed = rw (long p at h, marked p at h, le-leb _ _ h, ea, eb, number p at argumentFrom, room p at h, ec)
-      whole h true true true true ea eb ec ed = rw (long p at h, marked p at h, le-leb _ _ h, ea, eb, number p at argumentFrom, room p at h, ec, byte p at codeFrom, ed, byte p at componentFrom, number p at placeFrom, number p at targetFrom, rest p at, number p at argumentFrom)
+      whole h true true true true ea eb ec ed = rw (
+        long p at h,
+        marked p at h,
+        le-leb _ _ h,
+        ea,
+        eb,
+        number p at argumentFrom,
+        room p at h,
+        ec,
+        byte p at codeFrom,
+        ed,
+        byte p at componentFrom,
+        number p at placeFrom,
+        number p at targetFrom,
+        rest p at,
+        number p at argumentFrom,
+      )
       whole h true true true false ea eb ec ed =
           let target : ℕ = num (part p (at + targetFrom) 2) in
           let next : ℕ = at + recordSize + num (part p (at + argumentFrom) 2) in
-          rw (long p at h, marked p at h, le-leb _ _ h, ea, eb, number p at argumentFrom, room p at h, ec, byte p at codeFrom, ed, byte p at componentFrom, number p at placeFrom, number p at targetFrom, argument p at, rest p at, byte p at codeFrom, number p at argumentFrom)
+          rw (
+            long p at h,
+            marked p at h,
+            le-leb _ _ h,
+            ea,
+            eb,
+            number p at argumentFrom,
+            room p at h,
+            ec,
+            byte p at codeFrom,
+            ed,
+            byte p at componentFrom,
+            number p at placeFrom,
+            number p at targetFrom,
+            argument p at,
+            rest p at,
+            byte p at codeFrom,
+            number p at argumentFrom,
+          )
           (handed (rowOf (getD p (at + codeFrom) 0) commands) (λ row. groupAllows g (row .allowed)) (ltb (getD p (at + componentFrom) 0) comps)
           (λ row. opIn comps (getD p (at + componentFrom) 0) (row .form) (part p (at + recordSize) (next - (at + recordSize))))
           (λ op. eqb target NONE || eqb (targetOf op target) target && (ltb n target && leb target total))
@@ -104,7 +138,8 @@ module _ (g : Group) (comps total n : ℕ) (p : Bytes) (at : ℕ) where
 
       fits : (b : Bool) → leb (at + recordSize) (length p) ≡ b → recordIn g comps total n (drop at p) ≡ recordAt g comps total n p at
       fits true e =
-          whole (leb-true _ _ e) (eqb (getD p at 0) mark₁) (eqb (getD p (at + 1) 0) mark₂) (leb (at + recordSize + num (part p (at + argumentFrom) 2)) (length p)) (eqb (getD p (at + codeFrom) 0) JUMP) refl refl refl refl
+          whole (leb-true _ _ e) (eqb (getD p at 0) mark₁) (eqb (getD p (at + 1) 0) mark₂) (leb (at + recordSize + num (part p (at + argumentFrom) 2)) (length p))
+          (eqb (getD p (at + codeFrom) 0) JUMP) refl refl refl refl
       fits false e = rw (short p at (leb-false _ _ e), e)
 
 -- two bytes, as the code reads them
@@ -167,7 +202,8 @@ module _ (g : Group) (comps total n : ℕ) (p : Bytes) (at to : ℕ) where
           unfolding commandAt
           no-component h = rw (← ec, is-row, ← allowed, not-false a ha, le-ltb _ _ h)
 
-          module _ (hc : getD p (at + componentFrom) 0 < comps) (b : Bool) (eb : (f : Form) (i : ℕ) → kindOf f ≡ x .argument → b ≡ accepted (opIn comps i f (part p (at + recordSize) (to - (at + recordSize))))) where
+          module _ (hc : getD p (at + componentFrom) 0 < comps) (b : Bool) (eb : (f : Form) (i : ℕ) → kindOf f ≡ x .argument →
+              b ≡ accepted (opIn comps i f (part p (at + recordSize) (to - (at + recordSize))))) where
             abbrev made : Got Op
             made = opIn comps (getD p (at + componentFrom) 0) (row .form) (part p (at + recordSize) (to - (at + recordSize)))
 

@@ -1,5 +1,4 @@
 // The way through a program's records, which only goes forward.
-ghost use mathlib.Core.Path.{_≡_};
 ghost use Rattle.rules.specs.Lent.{was};
 ghost use Rattle.program_run.specs.Jump.{AdvanceJob, Advanced, LandJob, Landed};
 use byte_buffer::two;

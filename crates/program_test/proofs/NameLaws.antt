@@ -67,7 +67,8 @@ module _ (p : Bytes) (at : ℕ) where
 
   module _ (h : nameSize ≤ length p - at) where
     tests-are : tests
-        ≡ ((eqb (getD p at 0) mark₁ && (eqb (getD p (at + 1) 0) mark₂ && (eqb (getD p (at + codeFrom) 0) NAME && true))) && leb 1 size && leb size (limits .identifier) && leb (nameSize + size) (length p - at))
+        ≡ ((eqb (getD p at 0) mark₁ && (eqb (getD p (at + 1) 0) mark₂ && (eqb (getD p (at + codeFrom) 0) NAME && true))) && leb 1 size && leb size
+        (limits .identifier) && leb (nameSize + size) (length p - at))
     tests-are = rw (le-leb _ _ h, marked-at p at NAME (omega arith))
 
     pub name-first : (getD p at 0 ≡ mark₁ → ⊥) → 0 ≡ nextIn (length p) one
@@ -214,7 +215,8 @@ module _ (p : Bytes) (at n : ℕ) (places : List ℕ) where
           λ i h. getD-set-other inner (2 * k + 1) i r 0 (λ e. omega arith) ∙ getD-set-other places (2 * k) i (next + nameSize) 0 (λ e. omega arith) in
           let kept : (j : ℕ) → j < k → spanAt new j ≡ spanAt places j = λ j h. rw (other (2 * j) (omega arith), other (2 * j + 1) (omega arith)) in
           let here : spanAt new k ≡ span (next + nameSize) r = rw (from, to) in
-          let names : namesAt p new (k + 1) ≡ namesAt p places k ++ (part p (next + nameSize) (r - (next + nameSize)) ∷ []) = names-more p places new k kept ∙ ap (λ (x : Span). namesAt p places k ++ (bytesAt p x ∷ [])) here in
+          let names : namesAt p new (k + 1) ≡ namesAt p places k ++ (part p (next + nameSize) (r - (next + nameSize)) ∷ []) = names-more p places new k kept
+          ∙ ap (λ (x : Span). namesAt p places k ++ (bytesAt p x ∷ [])) here in
           record {
             all = f .all ∙ rw (left, g, names) (after-more (namesAt p places k) (part p (next + nameSize) (r - (next + nameSize))) (idsIn (n - (k + 1)) (drop r p)));
             left = places-turn p (n - (k + 1)) k next r places to-is ∙ ap (λ (x : ℕ). placesFrom p x k next places) (sym left) ∙ f .left;

@@ -27,7 +27,7 @@ use Rattle.program_records.specs.declared.records.Records.{Records}
 use Rattle.program_test.specs.declared.test.Tested.{Tested}
 use Rattle.program_records.specs.Entries.{nextIn}
 use Rattle.program_records.specs.Records.{mark₁, mark₂, recordsAre}
-use Rattle.program_test.specs.Test.{NamesAre, startFits, noProgram, testedOf, TestedAs}
+use Rattle.program_test.specs.Test.{NamesAre, startFits, noProgram, TestedAs}
 use Rattle.program_test.proofs.NameLaws.{Named, none-named, all-named}
 use Rattle.program_records.proofs.PartLaws.{same-3}
 use Rattle.program_test.proofs.RepeatLaws.{again, repeated-law}
@@ -127,7 +127,8 @@ module _ (p : Bytes) where
   start-good e =
       let (ab, c) = and-true (first && leb (getD p groupFrom 0) 1) counts e in
       let (a, b) = and-true first (leb (getD p groupFrom 0) 1) ab in
-      let room : startSize ≤ length p = leb-true startSize (length p) (and-true (leb (length p) (limits .program)) (leb startSize (length p)) (and-true (leb (length p) (limits .program) && leb startSize (length p)) (marked START p) a .0) .1) in
+      let room : startSize ≤ length p = leb-true startSize (length p) (and-true (leb (length p) (limits .program)) (leb startSize (length p))
+      (and-true (leb (length p) (limits .program) && leb startSize (length p)) (marked START p) a .0) .1) in
       let (c₁₂, c₃) = and-true (leb 1 (getD p componentsFrom 0) && leb (getD p componentsFrom 0) (limits .components)) (leb (num (part p recordsFrom 2)) (limits .records)) c in
       let (c₁, c₂) = and-true (leb 1 (getD p componentsFrom 0)) (leb (getD p componentsFrom 0) (limits .components)) c₁₂ in
       record {
@@ -224,7 +225,8 @@ module _ (p : Bytes) (g : Group) (n m : ℕ) (h : Front p g n m) where
             Answer x = TestedAs p (programIn p) x
 
             -- with records that are refused, and with others
-            either : (x : Tested) → x ≡ noProgram → ((y : List Rec × Bytes) → records ≡ got y → r ≡ record { next = length p - length (y .1); commands = nonJumps (y .0) } → finish p g ids y ≡ bad) → Answer x
+            either : (x : Tested) → x ≡ noProgram → ((y : List Rec × Bytes) → records ≡ got y → r ≡ record { next = length p - length (y .1); commands = nonJumps (y .0) } →
+                finish p g ids y ≡ bad) → Answer x
             either x b k = go records refl
               where
                 go : (z : Got (List Rec × Bytes)) → records ≡ z → Answer x
@@ -248,7 +250,8 @@ module _ (p : Bytes) (g : Group) (n m : ℕ) (h : Front p g n m) where
                 lt-leb (nonJumps (y .0)) (limits .commands) (omega (arith, ap (λ (y : Records). y .commands) i)) in
                 rw f₁
 
-            pub program-good : (k : ℕ) → (k ≡ ((getD p numberFrom 0 * 256 + getD p (numberFrom + 1) 0) * 256 + getD p (numberFrom + 2) 0) * 256 + getD p (numberFrom + 3) 0) × (k < 4294967296) → r .next ≡ length p → r .commands ≤ limits .commands →
+            pub program-good : (k : ℕ) → (k ≡ ((getD p numberFrom 0 * 256 + getD p (numberFrom + 1) 0) * 256 + getD p (numberFrom + 2) 0) * 256 + getD p (numberFrom + 3) 0)
+                × (k < 4294967296) → r .next ≡ length p → r .commands ≤ limits .commands →
                 Answer (record { good = true; group = g; number = k; components = n; records = m; from = from; ids = a })
             program-good k b c few = go records refl
               where

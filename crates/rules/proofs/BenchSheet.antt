@@ -9,7 +9,8 @@ use Rattle.rules.specs.Limits.{limits}
 use Rattle.rules.specs.Bytes.{Bytes, span}
 use Rattle.rules.specs.Cbor.{head, whole, item, oneOf}
 use Rattle.rules.specs.Manifest.{count}
-use Rattle.rules.specs.Check.{check, number, key, inBytes, strings, identifier, identifiers, components, parameter, entries, alternativesAt, argument, command, commandsAt, sequenceAt, sectionAt, commonSeq, commonAt, sectionsAt, commonIn, versionAt, numberedAt, frontAt, manifestAt, unread, outerAt}
+use Rattle.rules.specs.Check.{check, number, key, inBytes, strings, identifier, identifiers, components, parameter, entries, alternativesAt, argument, command, commandsAt}
+use Rattle.rules.specs.Check.{sequenceAt, sectionAt, commonSeq, commonAt, sectionsAt, commonIn, versionAt, numberedAt, frontAt, manifestAt, unread, outerAt}
 use Rattle.rules.specs.Newer.{inFirst, newer}
 use Rattle.rules.specs.Slots.{slotAt, imageAt, putImage, slotsIn, slotOf, goodSlots}
 use Rattle.rules.specs.Step.{unless, given, passes, slotNo, slot, image, filled, matches, fetches, copies, swaps, acts, step}
@@ -114,5 +115,8 @@ cases b =
 
 -- for every byte b: check does not look at it
 pub bench-sheet : (b : ℕ) → Cases.given (cases b) ≡ wanted (cases b)
-unfolding check number key inBytes strings identifier identifiers components parameter entries alternativesAt argument command commandsAt sequenceAt sectionAt commonSeq commonAt sectionsAt commonIn versionAt numberedAt frontAt manifestAt unread outerAt head whole item oneOf count slotAt imageAt putImage slotsIn slotOf goodSlots on unless given passes slotNo slot image filled matches fetches copies swaps acts step runSeq runAll admit report runOf runEnvelope size flatSeq flatAll programOf recBytes programBytes translate optional paramsIn opIn recordIn recordsIn idsIn programIn exec runProgram newer
+unfolding check number key inBytes strings identifier identifiers components parameter entries alternativesAt argument command commandsAt sequenceAt
+    sectionAt commonSeq commonAt sectionsAt commonIn versionAt numberedAt frontAt manifestAt unread outerAt head whole item oneOf count slotAt imageAt
+    putImage slotsIn slotOf goodSlots on unless given passes slotNo slot image filled matches fetches copies swaps acts step runSeq runAll admit report
+    runOf runEnvelope size flatSeq flatAll programOf recBytes programBytes translate optional paramsIn opIn recordIn recordsIn idsIn programIn exec runProgram newer
 bench-sheet b = refl

@@ -9,7 +9,7 @@ use lib.ListN.{length, getD}
 use borrow.Author.Tests.{lt-ltb, le-ltb, le-leb, lt-leb, eq-eqb, ne-eqb, ltb-false, leb-true, leb-false}
 use Rattle.rules.specs.Base.{Refusal, NotCbor, Malformed}
 use Rattle.rules.specs.Bytes.{Bytes, num, part}
-use Rattle.rules.specs.Got.{Got, refused, got, _>>=_, need}
+use Rattle.rules.specs.Got.{Got, refused, got}
 use Rattle.rules.specs.Cbor.{BYTES, TEXT, Head, head, known, more, least, value, kindOf, after, whole, item, oneOf}
 use Rattle.rules.proofs.BytesLaws.{num-1, num-2, num-4}
 

@@ -10,7 +10,8 @@ use Rattle.rules.specs.Bytes.{Bytes}
 use Rattle.rules.specs.Got.{Got, refused, got}
 use Rattle.rules.specs.Cbor.{head, whole, item, oneOf}
 use Rattle.rules.specs.Manifest.{count}
-use Rattle.rules.specs.Check.{check, number, key, inBytes, strings, identifier, identifiers, components, parameter, entries, alternativesAt, argument, command, commandsAt, sequenceAt, sectionAt, commonSeq, commonAt, sectionsAt, commonIn, versionAt, numberedAt, frontAt, manifestAt, unread, outerAt}
+use Rattle.rules.specs.Check.{check, number, key, inBytes, strings, identifier, identifiers, components, parameter, entries, alternativesAt, argument, command, commandsAt}
+use Rattle.rules.specs.Check.{sequenceAt, sectionAt, commonSeq, commonAt, sectionsAt, commonIn, versionAt, numberedAt, frontAt, manifestAt, unread, outerAt}
 use Rattle.rules.specs.Slots.{slotAt, imageAt, putImage, slotsIn, slotOf, goodSlots}
 use Rattle.rules.specs.Step.{unless, given, passes, slotNo, slot, image, filled, matches, fetches, copies, swaps, acts, step}
 use Rattle.rules.specs.Run.{on, runSeq, runAll, admit, report, runOf, runEnvelope}
@@ -135,5 +136,8 @@ cases =
     ++ bothGive lastUnderCoerce Boot 1 slotA (ended 0 0 3 0 1 slotA (traced lastUnderCoerceTrace))
 
 pub easy-mistakes : Cases.given cases ≡ wanted cases
-unfolding check number key inBytes strings identifier identifiers components parameter entries alternativesAt argument command commandsAt sequenceAt sectionAt commonSeq commonAt sectionsAt commonIn versionAt numberedAt frontAt manifestAt unread outerAt head whole item oneOf count slotAt imageAt putImage slotsIn slotOf goodSlots on unless given passes slotNo slot image filled matches fetches copies swaps acts step runSeq runAll admit report runOf runEnvelope size flatSeq flatAll programOf recBytes programBytes translate optional paramsIn opIn recordIn recordsIn idsIn programIn exec runProgram
+unfolding check number key inBytes strings identifier identifiers components parameter entries alternativesAt argument command commandsAt sequenceAt
+    sectionAt commonSeq commonAt sectionsAt commonIn versionAt numberedAt frontAt manifestAt unread outerAt head whole item oneOf count slotAt imageAt
+    putImage slotsIn slotOf goodSlots on unless given passes slotNo slot image filled matches fetches copies swaps acts step runSeq runAll admit report
+    runOf runEnvelope size flatSeq flatAll programOf recBytes programBytes translate optional paramsIn opIn recordIn recordsIn idsIn programIn exec runProgram
 easy-mistakes = refl

@@ -1,5 +1,7 @@
 -- The types that answers are made of, which the code declares, and the number that document 01 gives each of their cases.
-use Rattle.rules.specs.Base.{ℕ, cond, eqb, Group, Install, Boot, Refusal, EnvelopeTooLong, NotCbor, Malformed, WrongVersion, RepeatedIdentifier, UnknownCommand, UnknownParameter, NotAllowed, NoSuchComponent, TooDeep, TooManyCommands, NotVerified, EventOpen, WrongNumber, BadSlots, NoSlot, BadAnswers, ShortTrace, ShortRoom, BadProgram, Failure, ParameterUnset, Aborted, NoAnswer, BadStatus, TooLarge, NothingToCopy, NothingToRun, End, Finished, ConditionFailed, Started, Failed}
+use Rattle.rules.specs.Base.{ℕ, cond, eqb, Group, Install, Boot, Refusal, EnvelopeTooLong, NotCbor, Malformed, WrongVersion, RepeatedIdentifier, UnknownCommand, UnknownParameter, NotAllowed}
+use Rattle.rules.specs.Base.{NoSuchComponent, TooDeep, TooManyCommands, NotVerified, EventOpen, WrongNumber, BadSlots, NoSlot, BadAnswers, ShortTrace, ShortRoom, BadProgram, Failure}
+use Rattle.rules.specs.Base.{ParameterUnset, Aborted, NoAnswer, BadStatus, TooLarge, NothingToCopy, NothingToRun, End, Finished, ConditionFailed, Started, Failed}
 
 -- 01, The flat program: the group in the start record
 abbrev pub groupNumber : Group → ℕ
@@ -31,7 +33,26 @@ refusalNumber BadProgram = 97
 
 -- the refusal of a number that some refusal has
 abbrev pub refusalOf : ℕ → Refusal
-refusalOf n = cond (eqb n 64) EnvelopeTooLong (cond (eqb n 65) NotCbor (cond (eqb n 66) Malformed (cond (eqb n 67) WrongVersion (cond (eqb n 68) RepeatedIdentifier (cond (eqb n 69) UnknownCommand (cond (eqb n 70) UnknownParameter (cond (eqb n 71) NotAllowed (cond (eqb n 72) NoSuchComponent (cond (eqb n 73) TooDeep (cond (eqb n 74) TooManyCommands (cond (eqb n 80) NotVerified (cond (eqb n 81) EventOpen (cond (eqb n 82) WrongNumber (cond (eqb n 83) NoSlot (cond (eqb n 84) ShortTrace (cond (eqb n 85) BadSlots (cond (eqb n 86) BadAnswers (cond (eqb n 96) ShortRoom BadProgram))))))))))))))))))
+refusalOf n =
+    cond (eqb n 64) EnvelopeTooLong
+    (cond (eqb n 65) NotCbor
+    (cond (eqb n 66) Malformed
+    (cond (eqb n 67) WrongVersion
+    (cond (eqb n 68) RepeatedIdentifier
+    (cond (eqb n 69) UnknownCommand
+    (cond (eqb n 70) UnknownParameter
+    (cond (eqb n 71) NotAllowed
+    (cond (eqb n 72) NoSuchComponent
+    (cond (eqb n 73) TooDeep
+    (cond (eqb n 74) TooManyCommands
+    (cond (eqb n 80) NotVerified
+    (cond (eqb n 81) EventOpen
+    (cond (eqb n 82) WrongNumber
+    (cond (eqb n 83) NoSlot
+    (cond (eqb n 84) ShortTrace
+    (cond (eqb n 85) BadSlots
+    (cond (eqb n 86) BadAnswers
+    (cond (eqb n 96) ShortRoom BadProgram))))))))))))))))))
 
 -- 01, How a run goes: the failures
 abbrev pub failureNumber : Failure → ℕ

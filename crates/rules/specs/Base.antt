@@ -13,7 +13,9 @@ pub use Rattle.rules.specs.declared.answers.Failure.the-variants.{Parame
 pub use Rattle.rules.specs.declared.answers.Group.{Group}
 pub use Rattle.rules.specs.declared.answers.Group.the-variants.{Install, Boot}
 pub use Rattle.rules.specs.declared.answers.Refusal.{Refusal}
-pub use Rattle.rules.specs.declared.answers.Refusal.the-variants.{EnvelopeTooLong, NotCbor, Malformed, WrongVersion, RepeatedIdentifier, UnknownCommand, UnknownParameter, NotAllowed, NoSuchComponent, TooDeep, TooManyCommands, NotVerified, EventOpen, WrongNumber, BadSlots, NoSlot, BadAnswers, ShortTrace, ShortRoom, BadProgram}
+pub use Rattle.rules.specs.declared.answers.Refusal.the-variants.{EnvelopeTooLong, NotCbor, Malformed, WrongVersion, RepeatedIdentifier, UnknownCommand}
+pub use Rattle.rules.specs.declared.answers.Refusal.the-variants.{UnknownParameter, NotAllowed, NoSuchComponent, TooDeep}
+pub use Rattle.rules.specs.declared.answers.Refusal.the-variants.{TooManyCommands, NotVerified, EventOpen, WrongNumber, BadSlots, NoSlot, BadAnswers, ShortTrace, ShortRoom, BadProgram}
 pub use Rattle.rules.specs.declared.controller.Controller.{Controller}
 pub use Rattle.rules.specs.declared.controller.Limits.{Limits}
 pub use Rattle.rules.specs.declared.tables.Argument.{Argument}

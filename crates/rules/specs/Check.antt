@@ -1,6 +1,8 @@
 -- Check: the manifest that an envelope holds, or the first fault (01, What a manifest may hold; Refusal numbers). It reads depth first,
 -- left to right, and a fault stands at its item's first byte.
-use Rattle.rules.specs.Base.{ℕ, zero, suc, _+_, _-_, _/_, _%_, List, [], _∷_, _++_, map, Bool, not, Option, some, none, ltb, leb, eqb, length, EnvelopeTooLong, NotCbor, Malformed, WrongVersion, RepeatedIdentifier, UnknownCommand, UnknownParameter, NotAllowed, NoSuchComponent, TooDeep, TooManyCommands, Parameter, Coerce, Uri, Source, Digest, Size}
+use Rattle.rules.specs.Base.{ℕ, zero, suc, _+_, _-_, _/_, _%_, List, [], _∷_, _++_, map, Bool, not, Option, some, none, ltb, leb, eqb, length}
+use Rattle.rules.specs.Base.{EnvelopeTooLong, NotCbor, Malformed, WrongVersion, RepeatedIdentifier, UnknownCommand, UnknownParameter, NotAllowed}
+use Rattle.rules.specs.Base.{NoSuchComponent, TooDeep, TooManyCommands, Parameter, Coerce, Uri, Source, Digest, Size}
 use Rattle.rules.specs.Limits.{limits}
 use Rattle.rules.specs.Bytes.{Bytes, part, Span, span, bytesAt, member}
 use Rattle.rules.specs.Got.{Got, refused, got, need, found, _>>=_}

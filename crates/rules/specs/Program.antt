@@ -3,7 +3,8 @@ use Rattle.rules.specs.Base.{ℕ, _+_, List, [], _∷_, _++_, map, Bool,
 use Rattle.rules.specs.Answers.{groupNumber}
 use Rattle.rules.specs.Bytes.{Bytes, be2, be4, flat}
 use Rattle.rules.specs.Got.{Got, got, need, _>>=_}
-use Rattle.rules.specs.Commands.{Op, vendor, class, imageMatch, setIndex, abort, setParams, overrideParams, fetch, copy, run, swap, Params, code, component, isCondition, uriKey, sourceKey, digestKey, sizeKey}
+use Rattle.rules.specs.Commands.{Op, vendor, class, imageMatch, setIndex, abort, setParams, overrideParams, fetch, copy, run, swap}
+use Rattle.rules.specs.Commands.{Params, code, component, isCondition, uriKey, sourceKey, digestKey, sizeKey}
 use Rattle.rules.specs.Manifest.{Seq, end, then, Cmd, one, sub, try, Alts, last, or, Manifest, names}
 use Rattle.rules.specs.Check.{check}
 use Rattle.rules.specs.ProgramFormat.{mark, START, NAME, JUMP, NONE}

@@ -1,5 +1,5 @@
 -- The layout of a program's records (01, The flat program): 'Every record has its mark first, here `53 50`'. Each number stands here once.
-use Rattle.rules.specs.Base.{ℕ, List, [], _∷_}
+use Rattle.rules.specs.Base.{ℕ, [], _∷_}
 use Rattle.rules.specs.Bytes.{Bytes}
 
 abbrev pub mark : Bytes

@@ -1,12 +1,15 @@
 -- The program test: the program that bytes are, or refusal 97 at place 0 (01, The flat program: 'Well formed').
-use Rattle.rules.specs.Base.{ℕ, zero, suc, _+_, List, [], _∷_, _++_, Bool, true, false, _&&_, _||_, cond, not, Option, some, none, ltb, leb, eqb, length, getD, take, drop, Group, Install, Boot, BadProgram}
+use Rattle.rules.specs.Base.{ℕ, zero, suc, _+_, List, [], _∷_, _++_, Bool, true, false, _&&_, _||_, cond, not, Option, some}
+use Rattle.rules.specs.Base.{none, ltb, leb, eqb, length, getD, take, drop, Group, Install, Boot, BadProgram}
 use Rattle.rules.specs.Limits.{limits}
 use Rattle.rules.specs.Bytes.{Bytes, part, num, same, repeats}
 use Rattle.rules.specs.Got.{Got, refused, got, found, _>>=_}
 use Rattle.rules.specs.Got as G
-use Rattle.rules.specs.Commands.{Op, Params, Form, sixteen, nil, below, alternatives, parameters, sequence, Allowed, anywhere, only, commands, rowOf, among, uriKey, sourceKey, digestKey, sizeKey}
+use Rattle.rules.specs.Commands.{Op, Params, Form, sixteen, nil, below, alternatives, parameters, sequence, Allowed, anywhere}
+use Rattle.rules.specs.Commands.{only, commands, rowOf, among, uriKey, sourceKey, digestKey, sizeKey}
 use Rattle.rules.specs.Run.{sectionsOf}
-use Rattle.rules.specs.ProgramFormat.{mark, START, NAME, JUMP, NONE, codeFrom, groupFrom, numberFrom, componentsFrom, recordsFrom, startSize, lengthFrom, nameSize, componentFrom, placeFrom, targetFrom, argumentFrom, recordSize, sourceBytes, sizeBytes}
+use Rattle.rules.specs.ProgramFormat.{mark, START, NAME, JUMP, NONE, codeFrom, groupFrom, numberFrom, componentsFrom, recordsFrom, startSize, lengthFrom}
+use Rattle.rules.specs.ProgramFormat.{nameSize, componentFrom, placeFrom, targetFrom, argumentFrom, recordSize, sourceBytes, sizeBytes}
 use Rattle.rules.specs.Program.{Rec, does, jump, Program, targetOf}
 
 abbrev pub need : Bool → Got (Unit {0})

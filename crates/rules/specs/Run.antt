@@ -1,5 +1,6 @@
 -- The run of a checked manifest, what every run tests first, and what it gives back (01, How a run goes; Refusal numbers).
-use Rattle.rules.specs.Base.{ℕ, _-_, _*_, _%_, List, [], _∷_, Bool, true, false, _&&_, cond, not, Option·getD, ltb, leb, eqb, length, replicate, Controller, Group, Install, Boot, NotVerified, EventOpen, BadSlots, NoSlot, BadAnswers, ShortTrace, End, Finished, ConditionFailed, Started, Failed, WrongNumber}
+use Rattle.rules.specs.Base.{ℕ, _-_, _*_, _%_, List, [], _∷_, Bool, true, false, _&&_, cond, not, Option·getD, ltb, leb, eqb, length, replicate, Controller, Group, Install, Boot}
+use Rattle.rules.specs.Base.{NotVerified, EventOpen, BadSlots, NoSlot, BadAnswers, ShortTrace, End, Finished, ConditionFailed, Started, Failed, WrongNumber}
 use Rattle.rules.specs.Answers.{endNumber}
 use Rattle.rules.specs.Limits.{limits}
 use Rattle.rules.specs.Bytes.{Bytes, num, part, allIn}

@@ -1,8 +1,10 @@
 -- The tables of commands and parameters as the code keeps them: constant arrays, and one table by number that is lent to each look-up.
-use Rattle.rules.specs.Base.{ℕ, zero, suc, _+_, _*_, List, [], _∷_, _++_, Bool, true, false, cond, Option, some, none, eqb, Argument, Sixteen, Nil, Index, Alternatives, Parameters, Sequence, Command, Listed, Parameter, Coerce, Uri, Source, Digest, Size, ParameterRow, Known}
+use Rattle.rules.specs.Base.{ℕ, zero, suc, _+_, _*_, List, [], _∷_, _++_, Bool, true, false, cond, Option, some, none, eqb, Argument, Sixteen, Nil, Index}
+use Rattle.rules.specs.Base.{Alternatives, Parameters, Sequence, Command, Listed, Parameter, Coerce, Uri, Source, Digest, Size, ParameterRow, Known}
 use Rattle.rules.specs.declared.tables.Listed.the-variants as L
 use Rattle.rules.specs.declared.tables.Known.the-variants as K
-use Rattle.rules.specs.Commands.{Form, sixteen, nil, below, alternatives, parameters, sequence, Allowed, anywhere, only, COMMON, PAYLOAD_FETCH, INSTALL, VALIDATE, LOAD, RUN, swapCode, sizeKey, Row, commands, rowOf, ParamRow, params, paramOf}
+use Rattle.rules.specs.Commands.{Form, sixteen, nil, below, alternatives, parameters, sequence, Allowed, anywhere, only, PAYLOAD_FETCH}
+use Rattle.rules.specs.Commands.{INSTALL, VALIDATE, LOAD, RUN, swapCode, sizeKey, Row, commands, rowOf, ParamRow, params, paramOf}
 
 abbrev pub kindOf : Form → Argument
 kindOf (sixteen op) = Sixteen

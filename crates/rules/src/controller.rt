@@ -63,9 +63,10 @@ pub const SECTION_PLACES: usize = 2 * SECTIONS;
 
 pub type SectionPlaces = [usize; SECTION_PLACES];
 
-// What a run keeps of its components, as numbers: that of each one's slot, then the parameters of each.
+// The numbers that hold a component's parameters.
 pub const PARAMETER_NUMBERS: usize = 5;
 
+// What a run keeps of its components, as numbers: that of each one's slot, then the parameters of each.
 pub const MEMORY_NUMBERS: usize = Controller::COMPONENTS
     + PARAMETER_NUMBERS * Controller::COMPONENTS;
 

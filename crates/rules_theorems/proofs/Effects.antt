@@ -17,7 +17,7 @@ use Rattle.rules.specs.declared.answers.Group.{Group}
 use Rattle.rules.specs.declared.answers.Refusal.the-variants.{BadProgram}
 use Rattle.rules.specs.Answers.{resultNumber}
 use Rattle.rules.specs.Limits.{limits}
-use Rattle.rules.specs.Bytes.{Bytes, part, num, be2, same, repeats}
+use Rattle.rules.specs.Bytes.{Bytes, part, num, same, repeats}
 use Rattle.rules.specs.Got.{got, found}
 use Rattle.rules.specs.Commands.{Op, vendor, class, imageMatch, setIndex, abort, setParams, overrideParams, fetch, copy, run, swap, among, component, code}
 use Rattle.rules.specs.Manifest.{Seq, end, then, Cmd, one, sub, try, Alts, last, or, count, countCmd, countAlts, Manifest, names}

@@ -9,7 +9,8 @@ use lib.Dec.{eqb}
 use lib.ListN.{length, length-append}
 use Rattle.rules.specs.Limits.{limits}
 use Rattle.rules.specs.Bytes.{Bytes, be4}
-use Rattle.rules.specs.Commands.{Params, unset, orElse, over, Op, vendor, class, imageMatch, setIndex, abort, setParams, overrideParams, fetch, copy, run, swap, code, component, Form, sixteen, nil, below, alternatives, parameters, sequence, Allowed, anywhere, only, Row, commands, rowOf, uriKey, sourceKey, digestKey, sizeKey}
+use Rattle.rules.specs.Commands.{Params, unset, orElse, over, Op, vendor, class, imageMatch, setIndex, abort, setParams, overrideParams, fetch, copy, run, swap, code, component, Form}
+use Rattle.rules.specs.Commands.{sixteen, nil, below, alternatives, parameters, sequence, Allowed, anywhere, Row, commands, rowOf, uriKey, sourceKey, digestKey, sizeKey}
 use Rattle.rules.specs.Program.{entry, paramBytes, argBytes}
 use Rattle.rules.specs.ProgramFormat.{JUMP, entrySize, sizeBytes}
 use Rattle.rules.proofs.TableLaws.{_&_}

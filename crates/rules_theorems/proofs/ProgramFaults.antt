@@ -22,7 +22,8 @@ use Rattle.rules.specs.ProgramRun.{exec, runProgram}
 use Rattle.rules.specs.Slots.{answerBytes, slotNames, goodSlots}
 use Rattle.rules.specs.Step.{Env, State, Out}
 use Rattle.rules.specs.Run.{Input, Ran, mayStart, numberFits, admit, runOf}
-use Rattle.rules.specs.ProgramFormat.{NONE, mark, START, NAME, JUMP, codeFrom, groupFrom, componentsFrom, recordsFrom, startSize, lengthFrom, nameSize, componentFrom, placeFrom, targetFrom, argumentFrom, recordSize, sourceBytes, sizeBytes}
+use Rattle.rules.specs.ProgramFormat.{NONE, mark, START, NAME, JUMP, codeFrom, groupFrom, componentsFrom, recordsFrom, startSize, lengthFrom}
+use Rattle.rules.specs.ProgramFormat.{nameSize, componentFrom, placeFrom, targetFrom, argumentFrom, recordSize, sourceBytes, sizeBytes}
 
 abbrev pub Only97 : {A : Type 0} → Got A → Type 0
 Only97 (refused r p) = (r ≡ BadProgram) × (p ≡ 0)

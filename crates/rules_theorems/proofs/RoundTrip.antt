@@ -51,7 +51,22 @@ module _ (g : Group) (comps total n : ℕ) (rest : Bytes) where
       let j : length (argBytes op ++ rest) ≡ length (argBytes op) + length rest = length-append (argBytes op) rest in
       let a : recordSize ≤ length (recBytes (does op i p t) ++ rest) = omega arith in
       let b : recordSize + length (argBytes op) ≤ length (recBytes (does op i p t) ++ rest) = omega arith in
-      rw (le-leb _ _ a, num-be2 (length (argBytes op)) hl, le-leb _ _ b, row-law op .1, row-law op .0, ha, lt-ltb i comps hi, num-be2 (length (argBytes op)) hl, take-append-seam (argBytes op) rest, hop, num-be2 t ht, htarget, num-be2 p hp, drop-append-seam (argBytes op) rest)
+      rw (
+        le-leb _ _ a,
+        num-be2 (length (argBytes op)) hl,
+        le-leb _ _ b,
+        row-law op .1,
+        row-law op .0,
+        ha,
+        lt-ltb i comps hi,
+        num-be2 (length (argBytes op)) hl,
+        take-append-seam (argBytes op) rest,
+        hop,
+        num-be2 t ht,
+        htarget,
+        num-be2 p hp,
+        drop-append-seam (argBytes op) rest,
+      )
 
 -- nothing with a key up to k stands first
 abbrev Later : ℕ → Bytes → Type 0

@@ -67,7 +67,8 @@ caughtBy coercible coerce r =
     }
 
 -- what was left in memory is what the rule gives; where the command went well, the next one's place, index and coerce are known
-pub record CommandRan (s : Bytes) (env : Env) (cmd : Cmd) (to : ℕ) (run : Run) (slots : Bytes) (memory : List ℕ) (trace : Bytes) (r : Run) (slots′ : Bytes) (memory′ : List ℕ) (trace′ : Bytes) : Type 0 where
+pub record CommandRan (s : Bytes) (env : Env) (cmd : Cmd) (to : ℕ) (run : Run) (slots : Bytes) (memory : List ℕ) (trace : Bytes) (r : Run) (slots′ : Bytes)
+    (memory′ : List ℕ) (trace′ : Bytes) : Type 0 where
   pub goes : outOf s (length (env .ids)) memory′ slots′ trace′ r ≡ runCmd env cmd (run .index) (stateOf s (length (env .ids)) memory slots trace run)
   pub fit : FitAll s (length (env .ids)) memory′
   pub same : SlotsKept memory memory′
@@ -77,7 +78,8 @@ pub record CommandRan (s : Bytes) (env : Env) (cmd : Cmd) (to : ℕ) (run : Run)
   pub inside : r .end ≡ endNumber Finished → r .index < length (env .ids)
   pub coerce : isTrue (r .coerce) ≡ coerceAfter cmd (isTrue (run .coerce))
 
-pub record SequenceRan (s : Bytes) (env : Env) (seq : Seq) (coercible : Bool) (run : Run) (slots : Bytes) (memory : List ℕ) (trace : Bytes) (r : Run) (slots′ : Bytes) (memory′ : List ℕ) (trace′ : Bytes) : Type 0 where
+pub record SequenceRan (s : Bytes) (env : Env) (seq : Seq) (coercible : Bool) (run : Run) (slots : Bytes) (memory : List ℕ) (trace : Bytes) (r : Run)
+    (slots′ : Bytes) (memory′ : List ℕ) (trace′ : Bytes) : Type 0 where
   pub goes : outOf s (length (env .ids)) memory′ slots′ trace′ r ≡ runSeq env seq coercible (run .index) false (stateOf s (length (env .ids)) memory slots trace run)
   pub fit : FitAll s (length (env .ids)) memory′
   pub same : SlotsKept memory memory′

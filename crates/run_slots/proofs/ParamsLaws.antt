@@ -8,7 +8,7 @@ use native.Mathlib.Omega.{arith}
 use native.Mathlib.Nat.{add-zero, zero-add}
 use lib.Dec.{ltb, eqb}
 use lib.ListN.{length, getD, set, replicate, length-set}
-use lib.Seq.{sets, length-sets, getD-set-same, getD-set-other}
+use lib.Seq.{sets, getD-set-same, getD-set-other}
 use borrow.Author.Tests.{ltb-true, ltb-false, eqb-true, eqb-false}
 use Rattle.rules.specs.Bytes.{Bytes, part}
 use Rattle.rules.specs.Limits.{limits, paramNumbers, memoryNumbers}
@@ -55,10 +55,6 @@ getD-among l i (a ∷ vs) (suc k) h f =
 module _ (w : List ℕ) (i : ℕ) (p : Params) where
   abbrev five : List ℕ
   five = p .uri ∷ p .length ∷ p .source ∷ p .digest ∷ p .size ∷ []
-
-  pub length-stored : length (stored w i p) ≡ length w
-  unfolding stored
-  length-stored = length-sets w (limits .components + paramNumbers * i) five
 
   module _ (n : length w ≡ memoryNumbers) (h : i < limits .components) where
     among : (k : ℕ) → k < paramNumbers → getD (sets w (limits .components + paramNumbers * i) five) (limits .components + paramNumbers * i + k) 0 ≡ getD five k 0

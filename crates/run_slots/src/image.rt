@@ -1,6 +1,6 @@
 // The image of a slot: present, size and digest, laid out as an answer of the host.
 ghost use mathlib.Core.Path.{_≡_};
-ghost use Prim.Native.Nat.{_+_, _*_, _≤_};
+ghost use Prim.Native.Nat.{_+_, _≤_};
 ghost use lib.ListN.{length};
 ghost use Rattle.rules.specs.Lent.{was, left};
 ghost use Rattle.rules.specs.Bytes.{part};

@@ -1,14 +1,14 @@
 -- What is written one after the other.
 use Prim.Native.Nat.{ℕ, zero, suc, _+_, _-_, _/_, _%_, _≤_, _<_}
 use mathlib.Core.Path.{_≡_, refl, sym, ap, _∙_}
-use mathlib.Core.List.{List, [], _∷_, _++_}
+use mathlib.Core.List.{[], _∷_, _++_}
 use mathlib.Core.Bool.{Bool, true, false, cond}
 use lib.Dec.{leb, ltb}
 use borrow.Author.Tests.{leb-true, leb-false, lt-ltb, le-ltb}
 use native.Mathlib.Omega.{arith}
 use native.Mathlib.Nat.{add-zero, add-suc, suc-add}
 use native.Mathlib.Numerals.{add-one}
-use lib.ListN.{length, set, take, getD, length-append, length-set, replicate}
+use lib.ListN.{length, set, take, getD, length-append, replicate}
 use lib.Seq.{sets, length-sets, take-suc, take-all}
 use Rattle.text.specs.Text.{Bytes, Wrote, least, digit, digits, hex}
 

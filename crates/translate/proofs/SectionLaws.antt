@@ -92,7 +92,13 @@ module _ (s : Bytes) (table : List ℕ) (group : Group) (places : List ℕ) (h :
     skipped t = skip s components group places k (z .at) l (sym t ∙ e)
 
     pub sizing-job : w ≡ true → SequenceHere s table (limits .depth) (getD places (2 * k) 0)
-    sizing-job t = record { rows = h .rows; n = components; place = taken t .place; small = omega (arith, plan-small, z .records, z .arguments, first-size k (z .at) (taken t) .0, first-size k (z .at) (taken t) .1) }
+    sizing-job t = record {
+      rows = h .rows;
+      n = components;
+      place = taken t .place;
+      small = omega
+          (arith, plan-small, z .records, z .arguments, first-size k (z .at) (taken t) .0, first-size k (z .at) (taken t) .1);
+    }
 
     module _ (r : Size) (whole : w ≡ true → (j : SequenceHere s table (limits .depth) (getD places (2 * k) 0)) → SequenceSized (j .place .seq) r)
         (none : w ≡ false → (r .records ≡ 0) × (r .arguments ≡ 0)) where

@@ -138,7 +138,14 @@ module _ (s : Bytes) (number n : ℕ) (ids sections : List ℕ) (a : Accepted s 
               rw (first, l) (put-append room 0 (startBytes group number n (size .records)) identifiers) in
               let f : at ≡ 0 + length (startBytes group number n (size .records) ++ identifiers) =
               omega (arith, second .next, length-append (startBytes group number n (size .records)) identifiers, start-length group number n (size .records)) in
-              third ∙ rw (second .filled, e, f, put-append room 0 (startBytes group number n (size .records) ++ identifiers) (written (flatAll plan 0)), append-assoc (startBytes group number n (size .records)) identifiers (written (flatAll plan 0)), ← parts)
+              third ∙ rw (
+                second .filled,
+                e,
+                f,
+                put-append room 0 (startBytes group number n (size .records) ++ identifiers) (written (flatAll plan 0)),
+                append-assoc (startBytes group number n (size .records)) identifiers (written (flatAll plan 0)),
+                ← parts,
+              )
 
           pub translated : Translates (translate s group (length room)) (Program total) room room₃
           unfolding translate

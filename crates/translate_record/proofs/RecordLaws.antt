@@ -11,7 +11,8 @@ use Rattle.rules.specs.Bytes.{Bytes, put, part, be4}
 use Rattle.rules.specs.Limits.{limits}
 use Rattle.rules.specs.Commands as Rules
 use Rattle.rules.specs.ProgramFormat.{JUMP, NONE, recordSize}
-use Rattle.rules.specs.Commands.{Op, vendor, class, imageMatch, setIndex, abort, setParams, overrideParams, fetch, copy, run, swap, code, vendorCode, classCode, setIndexCode, setParametersCode, overrideCode, uriKey, sourceKey, digestKey, sizeKey}
+use Rattle.rules.specs.Commands.{Op, vendor, class, imageMatch, setIndex, abort, setParams, overrideParams, fetch, copy, run, swap, code, vendorCode}
+use Rattle.rules.specs.Commands.{classCode, setIndexCode, setParametersCode, overrideCode, uriKey, sourceKey, digestKey, sizeKey}
 use Rattle.rules.specs.Manifest.{one}
 use Rattle.rules.specs.Program.{does, jump, targetOf, entry, paramBytes, argBytes, recBytes, flatCmd, flatSeq}
 use Rattle.run_slots.specs.declared.params.Params.{Params}
@@ -135,7 +136,8 @@ module _ (s : Bytes) (table : List ℕ) (c at : ℕ) (state : WriteState) (room 
     pub leaf-inside : i < j .argument .n
     leaf-inside = omega (arith, leaf-component, r .inside (state .index) (j .inside))
 
-    pub leaf-wrote : (target t : ℕ) → t ≡ cond (Rules.conditionIn (Rules.rowOf c Rules.commands)) target NONE → (to : ℕ) (room₁ : Bytes) → Filled (argBytes (opOf s c (a .value) (paramsOf a))) (state .to + recordSize) room to room₁ →
+    pub leaf-wrote : (target t : ℕ) → t ≡ cond (Rules.conditionIn (Rules.rowOf c Rules.commands)) target NONE → (to : ℕ) (room₁ : Bytes) →
+        Filled (argBytes (opOf s c (a .value) (paramsOf a))) (state .to + recordSize) room to room₁ →
         (room₂ : Bytes) → room₂ ≡ put room₁ (state .to) (headBytes c i (state .next) t (to - (state .to + recordSize))) → (b : ℕ) → b ≡ cond (eqb (a .coerce) 0) (state .coerce) (a .coerce) →
         CommandWrote (one (state .next) (j .argument .op) (j .argument .coerce)) (j .argument .to) (j .argument .n) target state room
         (record { next = a .next; index = i; coerce = b; n = state .n + 1; to = to }) room₂
@@ -147,7 +149,8 @@ module _ (s : Bytes) (table : List ℕ) (c at : ℕ) (state : WriteState) (room 
         let target-is : t ≡ targetOf op target = rw is-code et in
         let head = headBytes (code op) (Rules.component op (state .index)) (state .next) (targetOf op target) (length args) in
         let ten : length head ≡ recordSize = head-length _ _ _ _ _ in
-        let bytes : written (flatCmd (one (state .next) op (j .argument .coerce)) (state .index) target (state .n)) ≡ head ++ args = rw (flat-one (state .next) op (j .argument .coerce) (state .index) target (state .n)) (command-bytes op _ (state .next) (targetOf op target)) in
+        let bytes : written (flatCmd (one (state .next) op (j .argument .coerce)) (state .index) target (state .n)) ≡ head ++ args = rw
+        (flat-one (state .next) op (j .argument .coerce) (state .index) target (state .n)) (command-bytes op _ (state .next) (targetOf op target)) in
         let whole : put (put room (state .to + recordSize) args) (state .to) head ≡ put room (state .to) (head ++ args) = rw ten at (put-before room (state .to) head args) in
         let same : headBytes c i (state .next) t (to - (state .to + recordSize)) ≡ head = rw (size, target-is, leaf-component, is-code) in
         record {

@@ -84,7 +84,8 @@ pub record CommandsJob (s : Bytes) (table : List ℕ) (depth k : ℕ) (state : W
   pub small : length room ≤ most
 
 -- the loop over commands: the records of the whole are those written and those of the commands that are left
-pub record Loop (s : Bytes) (table : List ℕ) (depth : ℕ) (coercible : Bool) (target beyond components : ℕ) (whole : List Rec) (state : WriteState) (room₀ room : Bytes) (left : ℕ) (now : WriteState) : Type 0 where
+pub record Loop (s : Bytes) (table : List ℕ) (depth : ℕ) (coercible : Bool) (target beyond components : ℕ) (whole : List Rec) (state : WriteState)
+    (room₀ room : Bytes) (left : ℕ) (now : WriteState) : Type 0 where
   pub job : CommandsJob s table depth left now room
   pub behind : state .next ≤ now .next
   pub same : job .n ≡ components
@@ -189,7 +190,8 @@ module _ (s : Bytes) (table : List ℕ) (depth : ℕ) (coercible : Bool) (target
                 l .goes
                 ∙ ap (λ (a : Seq). l .done ++ flatSeq a coercible (now .index) (isTrue (now .coerce)) target beyond (now .n)) (its-turn .cmds)
                 ∙ ap (λ (a : List Rec). l .done ++ a) (flat-then x xs coercible (now .index) (isTrue (now .coerce)) target beyond (now .n))
-                ∙ sym (append-assoc (l .done) (flatCmd x (now .index) (cond (coercible && isTrue (now .coerce)) beyond target) (now .n)) (flatSeq xs coercible (indexAfter x (now .index)) (coerceAfter x (isTrue (now .coerce))) target beyond (now .n + sizeCmd x)))
+                ∙ sym (append-assoc (l .done) (flatCmd x (now .index) (cond (coercible && isTrue (now .coerce)) beyond target) (now .n))
+                (flatSeq xs coercible (indexAfter x (now .index)) (coerceAfter x (isTrue (now .coerce))) target beyond (now .n + sizeCmd x)))
                 ∙ rw (e, w .index, w .coerce, nn);
           }
 
@@ -311,7 +313,8 @@ first-fits (last y) x xs e = let n : y ≡ x = cc in let (p, q) = size-last y in
 first-fits (or y b) x xs e = let n : y ≡ x = cc in let (p, q) = size-or y b in (omega (arith, p, ap size n), omega (arith, q, ap argSize n))
 
 -- the loop over alternatives: the records of the command are those written and those of the alternatives that are left
-pub record AltsLoop (s : Bytes) (table : List ℕ) (depth components : ℕ) (cmd : Cmd) (to target : ℕ) (state : WriteState) (room₀ : Bytes) (z : ℕ) (room : Bytes) (k p : ℕ) (now : WriteState) : Type 0 where
+pub record AltsLoop (s : Bytes) (table : List ℕ) (depth components : ℕ) (cmd : Cmd) (to target : ℕ) (state : WriteState) (room₀ : Bytes) (z : ℕ)
+    (room : Bytes) (k p : ℕ) (now : WriteState) : Type 0 where
   pub rows : table ≡ byNumber
   pub behind : state .next < p
   pub whole : Alts
@@ -406,7 +409,8 @@ module _ (s : Bytes) (table : List ℕ) (depth : ℕ) (state : WriteState) (room
           × (j .place .m < limits .commands)
 
       pub one-at : OneAt
-      one-at = command-one s (j .n) (j .place .section) depth (j .place .m) (j .place .e) (state .next) (j .place .cmd) (j .place .to) (j .place .fits) (j .place .reads) v p (rw (q .0, q .1) (its-code .reads)) z z′
+      one-at = command-one s (j .n) (j .place .section) depth (j .place .m) (j .place .e) (state .next) (j .place .cmd) (j .place .to) (j .place .fits)
+          (j .place .reads) v p (rw (q .0, q .1) (its-code .reads)) z z′
 
       abbrev pub leaf-job : LeafJob s table v p state room
       leaf-job =
@@ -415,7 +419,14 @@ module _ (s : Bytes) (table : List ℕ) (depth : ℕ) (state : WriteState) (room
             argument = one-at .0;
             inside = omega (arith, j .inside, one-at .1);
             components = omega (arith, j .components, one-at .1);
-            enough = omega (arith, j .enough, ap sizeCmd (one-at .2), ap argSizeCmd (one-at .2), size-one (state .next) (one-at .0 .op) (one-at .0 .coerce), arg-size-one (state .next) (one-at .0 .op) (one-at .0 .coerce));
+            enough = omega (
+              arith,
+              j .enough,
+              ap sizeCmd (one-at .2),
+              ap argSizeCmd (one-at .2),
+              size-one (state .next) (one-at .0 .op) (one-at .0 .coerce),
+              arg-size-one (state .next) (one-at .0 .op) (one-at .0 .coerce),
+            );
             count = omega (arith, j .few, ap sizeCmd (one-at .2), size-one (state .next) (one-at .0 .op) (one-at .0 .coerce));
           }
 
@@ -516,7 +527,17 @@ module _ (s : Bytes) (table : List ℕ) (depth components : ℕ) (cmd : Cmd) (to
           let (b, a, _) = more h in
           let f : List Rec = flatSeq (its-choice .first) false (state .index) false t z (now .n) in
           let (p₁, p₂) = size-or (its-choice .first) b in
-          omega (arith, l .enough, ap sizeAlts a, ap argSizeAlts a, p₁, p₂, wrote .to, bytes-seq (its-choice .first) false (state .index) false t z (now .n), same-room f (entered state from now) room r room′ wrote)
+          omega (
+            arith,
+            l .enough,
+            ap sizeAlts a,
+            ap argSizeAlts a,
+            p₁,
+            p₂,
+            wrote .to,
+            bytes-seq (its-choice .first) false (state .index) false t z (now .n),
+            same-room f (entered state from now) room r room′ wrote,
+          )
 
       pub jump-few : r .n < limits .records
       jump-few =
@@ -590,7 +611,8 @@ module _ (s : Bytes) (table : List ℕ) (depth components : ℕ) (cmd : Cmd) (to
         (rw g (wrote-then (l .done) f state room₀ now room (entered state from now) r room′ refl refl (l .wrote) wrote))
         (omega (arith, o .0, o .1, ends)) (l .inside) (λ i. rw (l .is)) (λ c. rw (l .is))
       where
-        no-others : (list : List Seq) → list ≡ [] → Alternatives s (sequenceAt s components (its-choice .rest .section) depth) (its-choice .rest .e) list (its-choice .rest .m) (its-choice .inside .head .next + its-choice .inside .head .num) to →
+        no-others : (list : List Seq) → list ≡ [] → Alternatives s (sequenceAt s components (its-choice .rest .section) depth) (its-choice .rest .e)
+            list (its-choice .rest .m) (its-choice .inside .head .next + its-choice .inside .head .num) to →
             its-choice .inside .head .next + its-choice .inside .head .num ≡ to
         no-others [] e q = q
         no-others (y ∷ ys) e q = absurd (omega (arith, ap length e))

@@ -15,7 +15,8 @@ use Rattle.rules.specs.Program.{entry, paramBytes, argBytes}
 use Rattle.rules_theorems.proofs.OpLaws.{weight-is}
 use Rattle.rules.proofs.BytesLaws.{length-part}
 use Rattle.rules.specs.declared.tables.Argument.{Argument}
-use Rattle.rules.specs.Commands.{rowOf, vendorCode, classCode, imageMatchCode, setIndexCode, abortCode, tryEachCode, setParametersCode, overrideCode, fetchCode, copyCode, runCode, runSequenceCode, swapCode, uriKey, sourceKey, digestKey, sizeKey}
+use Rattle.rules.specs.Commands.{rowOf, vendorCode, classCode, imageMatchCode, setIndexCode, abortCode, tryEachCode, setParametersCode, overrideCode}
+use Rattle.rules.specs.Commands.{fetchCode, copyCode, runCode, runSequenceCode, swapCode, uriKey, sourceKey, digestKey, sizeKey}
 use Rattle.rules_tables.specs.Kinds.{kindOf}
 use Rattle.run_slots.specs.Params.{optional, meaning, Fit}
 use Rattle.run_commands.specs.Op.{opOf}
@@ -82,7 +83,22 @@ module _ (s : Bytes) (c v n : ℕ) (a : Args) (f : Fit s n (paramsOf a)) (w : Wi
       λ d₂₂. on c runCode (λ z. rw z)
       λ d₂₃. on c runSequenceCode (λ z. rw z)
       λ d₃₀. on c swapCode (λ z. rw z)
-      λ d₃₂. rw (rowOf, ne-eqb c vendorCode d₁, ne-eqb c classCode d₂, ne-eqb c imageMatchCode d₃, ne-eqb c setIndexCode d₁₂, ne-eqb c abortCode d₁₄, ne-eqb c tryEachCode d₁₅, ne-eqb c setParametersCode d₁₉, ne-eqb c overrideCode d₂₀, ne-eqb c fetchCode d₂₁, ne-eqb c copyCode d₂₂, ne-eqb c runCode d₂₃, ne-eqb c runSequenceCode d₃₀, ne-eqb c swapCode d₃₂)
+      λ d₃₂. rw (
+        rowOf,
+        ne-eqb c vendorCode d₁,
+        ne-eqb c classCode d₂,
+        ne-eqb c imageMatchCode d₃,
+        ne-eqb c setIndexCode d₁₂,
+        ne-eqb c abortCode d₁₄,
+        ne-eqb c tryEachCode d₁₅,
+        ne-eqb c setParametersCode d₁₉,
+        ne-eqb c overrideCode d₂₀,
+        ne-eqb c fetchCode d₂₁,
+        ne-eqb c copyCode d₂₂,
+        ne-eqb c runCode d₂₃,
+        ne-eqb c runSequenceCode d₃₀,
+        ne-eqb c swapCode d₃₂,
+      )
 
 pub argument-is : (s : Bytes) (c at : ℕ) (x : ArgumentAt s c at) (a : Args) → ArgumentRead s c at x a → (k : Argument) → k ≡ kindOf c → argumentSize k a ≡ length (argBytes (x .op))
 argument-is s c at x a r k e =

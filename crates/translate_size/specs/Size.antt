@@ -20,7 +20,9 @@ use Rattle.translate_size.specs.declared.sizes.Size.{Size}
 -- the bytes of the parameters that are set: key, length and value
 abbrev pub parametersSize : Args → ℕ
 parametersSize a =
-    cond (eqb (a .params .uri) 0) 0 (a .params .length) + cond (eqb (a .params .uri) 0) 0 entrySize + cond (eqb (a .params .source) 0) 0 (entrySize + sourceBytes) + cond (eqb (a .params .digest) 0) 0 (entrySize + limits .digest) + cond (eqb (a .params .size) 0) 0 (entrySize + sizeBytes)
+    cond (eqb (a .params .uri) 0) 0 (a .params .length) + cond (eqb (a .params .uri) 0) 0 entrySize
+    + cond (eqb (a .params .source) 0) 0 (entrySize + sourceBytes) + cond (eqb (a .params .digest) 0) 0 (entrySize + limits .digest)
+    + cond (eqb (a .params .size) 0) 0 (entrySize + sizeBytes)
 
 -- the bytes of an argument of that kind
 abbrev pub argumentSize : Argument → Args → ℕ

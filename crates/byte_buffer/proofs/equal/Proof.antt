@@ -25,7 +25,8 @@ loop-again c =
     let p = l .before .pre in (
       omega arith,
       l .loop .inv .1
-          ∙ ⊎-elim (λ w. flag-stop _ _ _ _ _ _ (omega arith) p (l .loop .same) (c .if1 .same) (w .0 .taken) (w .1)) (λ w. flag-next _ _ _ _ _ _ (omega arith) p (l .loop .same) (c .if1 .same) (w .0 .left) (w .1)) (c .if1 .came),
+          ∙ ⊎-elim (λ w. flag-stop _ _ _ _ _ _ (omega arith) p (l .loop .same) (c .if1 .same) (w .0 .taken) (w .1))
+          (λ w. flag-next _ _ _ _ _ _ (omega arith) p (l .loop .same) (c .if1 .same) (w .0 .left) (w .1)) (c .if1 .came),
     )
 
 returns : tie.Need-returns Inv-loop μ-loop

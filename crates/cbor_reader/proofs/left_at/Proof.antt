@@ -76,24 +76,32 @@ module _ {M : Type 1} (𝓤 : URA M) (H : Heap 𝓤) (A : Atoms 𝓤) (W : Given
   exits : (n : ℕ) (u : Val) → n ≡ found → ent 𝓤 (⋆ 𝓤 H A (‵ (usize .own n (u ∷ [])) ∷ (‵ (flft κ q) ⊛ ‵ ftrue) ∷ ‵ (Pair κ d) ∷ [])) (Post u)
   exits n u e =
       qed W (‵ (usize .own n (u ∷ [])) ∷ (‵ (flft κ q) ⊛ ‵ ftrue) ∷ ‵ (Pair κ d) ∷ []) ∵
-      suffices ! _ (ends-at 𝓤 H A left-at.ended stayed (left-at.clauses 𝓤 H A mem run) W (((κ, tt), (q, tt), tt, (d .envelope, (d .at, tt)), passed d), tt) u n (tt, (tt, tt)) (tt, (tt, tt))) $ says ! e $
+      suffices ! _ (ends-at 𝓤 H A left-at.ended stayed (left-at.clauses 𝓤 H A mem run) W (((κ, tt), (q, tt), tt, (d .envelope, (d .at, tt)), passed d), tt)
+      u n (tt, (tt, tt)) (tt, (tt, tt))) $ says ! e $
       move ! (1 ∷ 2 ∷ []) $ frame ! $ frame ! $ done !
 
-  module _ (C : Calls 𝓤 H) (Λ : Loops 𝓤 H) (fm : FmC 𝓤 H (W .laws) C) (known-new : Triple 𝓤 (C #cbor·reader·new) (New 𝓤 H A mem run)) (known-left : Triple 𝓤 (C #cbor·reader·left) (Left 𝓤 H A mem run)) where
-    walk : Is (ShrSlice (named 0) κ u8) (d .envelope) (passed d .0) → d .at < 2 ^ 64 → ent 𝓤 (onEntry 𝓤 H A left-at.signature (κ, tt) (q, tt) (d .envelope, (d .at, tt)) (passed d)) (WpFn 𝓤 H C Λ code.function (only (passed d .0) ∷ vint w64 (d .at) ∷ []) Post)
+  module _ (C : Calls 𝓤 H) (Λ : Loops 𝓤 H) (fm : FmC 𝓤 H (W .laws) C) (known-new : Triple 𝓤 (C #cbor·reader·new) (New 𝓤 H A mem run))
+      (known-left : Triple 𝓤 (C #cbor·reader·left) (Left 𝓤 H A mem run)) where
+    walk : Is (ShrSlice (named 0) κ u8) (d .envelope) (passed d .0) → d .at < 2 ^ 64 →
+        ent 𝓤 (onEntry 𝓤 H A left-at.signature (κ, tt) (q, tt) (d .envelope, (d .at, tt)) (passed d)) (WpFn 𝓤 H C Λ code.function (only (passed d .0) ∷ vint w64 (d .at) ∷ []) Post)
     walk p ok =
         qed W ((‵ (flft κ q) ⊛ ‵ ftrue) ∷ ‵ (Pair κ d) ∷ []) ∵ enter ! C Λ code.function (only (passed d .0) ∷ vint w64 (d .at) ∷ []) _ $
-        alloc1 ! (λ l₀. alloc1 ! (λ l₁. alloc1 ! (λ l₂. alloc1 ! (λ l₃. alloc0 ! $ params1 ! $ pass1 ! (init ! 4 refl (shr-slice-lawful 𝓤 H A W (named 0) κ u8 .typed (d .envelope) (passed d .0) p .0)) $ pass1 ! (init ! 2 refl (tt, record { fits = ok })) $ pass0 ! $
+        alloc1 ! (λ l₀. alloc1 ! (λ l₁. alloc1 ! (λ l₂. alloc1 ! (λ l₃. alloc0 ! $ params1 ! $
+        pass1 ! (init ! 4 refl (shr-slice-lawful 𝓤 H A W (named 0) κ u8 .typed (d .envelope) (passed d .0) p .0)) $ pass1 ! (init ! 2 refl (tt, record { fits = ok })) $ pass0 ! $
         move ! (8 ∷ 9 ∷ []) $ use2 W (raw (New 𝓤 H A mem run .pre (to-new 𝓤 H A mem run κ q d)) ⊛ ‵ (Pair κ d)) (goes-new 𝓤 H A mem run κ q d W) $ split ! $
-        calls-at ! fm (New 𝓤 H A mem run) known-new (to-new 𝓤 H A mem run κ q d) (and-then ! (load ! (from ! (stop !)) (look ! 6 refl)) (and-then ! (load ! (from ! (stop !)) (look ! 4 refl)) (no-more !))) (λ u.
-        use1 W (later (some (λ (r : Reader). ((‵ (flft κ q) ⊛ ‵ ftrue) ⊛ ‵ (B κ .own r (u ∷ []))) ⊛ raw (ensured 𝓤 H A new.ended (new.clauses 𝓤 H A mem run) (κ, tt) (d .envelope, (d .at, tt)) tt r)))) (id⊢ 𝓤 _) $ await ! tt $ pick ! (λ r.
-        split ! $ move ! (1 ∷ []) $ use1 W (raw (fact 𝓤 (r ≡ d))) (new-said 𝓤 H A mem run κ q d r) $ heard ! (r ≡ d) (λ e. split ! $ rewrite ! 1 (λ (h : Reader). ‵ (B κ .own h (u ∷ []))) e refl $ move ! (1 ∷ []) $
+        calls-at ! fm (New 𝓤 H A mem run) known-new (to-new 𝓤 H A mem run κ q d)
+        (and-then ! (load ! (from ! (stop !)) (look ! 6 refl)) (and-then ! (load ! (from ! (stop !)) (look ! 4 refl)) (no-more !))) (λ u.
+        use1 W (later (some (λ (r : Reader). ((‵ (flft κ q) ⊛ ‵ ftrue) ⊛ ‵ (B κ .own r (u ∷ []))) ⊛
+        raw (ensured 𝓤 H A new.ended (new.clauses 𝓤 H A mem run) (κ, tt) (d .envelope, (d .at, tt)) tt r)))) (id⊢ 𝓤 _) $ await ! tt $ pick ! (λ r.
+        split ! $ move ! (1 ∷ []) $ use1 W (raw (fact 𝓤 (r ≡ d))) (new-said 𝓤 H A mem run κ q d r) $
+        heard ! (r ≡ d) (λ e. split ! $ rewrite ! 1 (λ (h : Reader). ‵ (B κ .own h (u ∷ []))) e refl $ move ! (1 ∷ []) $
         -- [what the reader owns; the token; the parameters'; room for _3; …; _2; …; _1; …; room for _0; …]
         peeks ! (B κ) (Is (B κ)) (shows 𝓤 H A (B κ)) d (u ∷ []) (λ is.
         land ! (from ! (stop !)) (init ! 3 refl (typed 𝓤 H A W erased κ d u is)) $
         use2 W (raw (Left 𝓤 H A mem run .pre (to-left u))) (goes-left u) $
         calls-at ! fm (Left 𝓤 H A mem run) known-left (to-left u) (and-then ! (load ! (from ! (stop !)) (look ! 2 refl)) (no-more !)) (λ u′.
-        use1 W (later (some (λ (n : ℕ). ((‵ (flft κ q) ⊛ ‵ ftrue) ⊛ ‵ (usize .own n (u′ ∷ []))) ⊛ raw (ensured 𝓤 H A left.ended (left.clauses 𝓤 H A mem run) (κ, tt) (d, tt) tt n)))) (id⊢ 𝓤 _) $ await ! tt $ pick ! (λ n.
+        use1 W (later (some (λ (n : ℕ). ((‵ (flft κ q) ⊛ ‵ ftrue) ⊛ ‵ (usize .own n (u′ ∷ []))) ⊛
+        raw (ensured 𝓤 H A left.ended (left.clauses 𝓤 H A mem run) (κ, tt) (d, tt) tt n)))) (id⊢ 𝓤 _) $ await ! tt $ pick ! (λ n.
         split ! $ move ! (1 ∷ []) $ use1 W (raw (fact 𝓤 (n ≡ found))) (left-said n) $ heard ! (n ≡ found) (λ e′. split ! $ move ! (1 ∷ []) $
         peeks ! usize (Is usize) (shows 𝓤 H A usize) n (u′ ∷ []) (λ is′.
         land ! (from ! (stop !)) (init ! 9 refl (uint-lawful 𝓤 H A W w64 .typed n _ is′ .0)) $
@@ -104,9 +112,12 @@ left-at-meets : {M : Type 1} (𝓤 : URA M) (H : Heap 𝓤) (A : Atoms 𝓤) →
     → Triple 𝓤 (𝓣 .C #cbor·reader·new) (New 𝓤 H A mem run) → Triple 𝓤 (𝓣 .C #cbor·reader·left) (Left 𝓤 H A mem run)
     → Meets 𝓤 H A left-at.signature (WpFn 𝓤 H (𝓣 .C) (𝓣 .Λ) code.function) (left-at.spec 𝓤 H A mem run)
 left-at-meets 𝓤 H A W mem run 𝓣 known-new known-left =
-    walk-meets 𝓤 H A left-at.ended stayed W (goes-none-slice 𝓤 H A W 1 (0 ∷ []) tt (plain (λ _. u8)) yes, (goes-none 𝓤 H A W 1 (λ _. usize) yes (λ κs x f. refl), tt)) (left-at.clauses 𝓤 H A mem run) (WpFn 𝓤 H (𝓣 .C) (𝓣 .Λ) code.function) (WpFn-mono 𝓤 H (W .laws) 𝓣 code.function)
-    (walked 𝓤 H A left-at.ended stayed (left-at.clauses 𝓤 H A mem run) (WpFn 𝓤 H (𝓣 .C) (𝓣 .Λ) code.function) (λ κs. (slice-vals, (uint-vals w64, tt))) (λ κs. (shr-slice-tells (named 0) (κs .0) u8, (uint-tells w64, tt)))
-    (λ κs qs bounds a g are. via 𝓤 _ (fst∗ 𝓤 _ (emp 𝓤)) (walk 𝓤 H A W mem run (κs .0) (qs .0) (record { envelope = a .0; at = a .1 .0 }) (𝓣 .C) (𝓣 .Λ) (fmOf 𝓤 H (W .laws) 𝓣) known-new known-left (are .0) (are .1 .0 .1))))
+    walk-meets 𝓤 H A left-at.ended stayed W (goes-none-slice 𝓤 H A W 1 (0 ∷ []) tt (plain (λ _. u8)) yes, (goes-none 𝓤 H A W 1 (λ _. usize) yes (λ κs x f. refl), tt))
+    (left-at.clauses 𝓤 H A mem run) (WpFn 𝓤 H (𝓣 .C) (𝓣 .Λ) code.function) (WpFn-mono 𝓤 H (W .laws) 𝓣 code.function)
+    (walked 𝓤 H A left-at.ended stayed (left-at.clauses 𝓤 H A mem run) (WpFn 𝓤 H (𝓣 .C) (𝓣 .Λ) code.function) (λ κs. (slice-vals, (uint-vals w64, tt)))
+    (λ κs. (shr-slice-tells (named 0) (κs .0) u8, (uint-tells w64, tt)))
+    (λ κs qs bounds a g are. via 𝓤 _ (fst∗ 𝓤 _ (emp 𝓤)) (walk 𝓤 H A W mem run (κs .0) (qs .0) (record { envelope = a .0; at = a .1 .0 }) (𝓣 .C) (𝓣 .Λ)
+    (fmOf 𝓤 H (W .laws) 𝓣) known-new known-left (are .0) (are .1 .0 .1))))
 
 pub left-at-spec : {M : Type 1} → stated.statement M
 unfolding code.routine tablesOf

@@ -68,7 +68,8 @@ stayed = (stay-ref (0 ∷ []) tt ReaderS, tt)
 abbrev HeadOf : {M : Type 1} (𝓤 : URA M) (H : Heap 𝓤) (A : Atoms 𝓤) (mem : Memory → SProp 𝓤) (run : Routine → Fun 𝓤) → Contract 𝓤
 HeadOf 𝓤 H A mem run = tripleOf 𝓤 H A head-of.signature (head-of.spec 𝓤 H A mem run)
 
-module _ {M : Type 1} (𝓤 : URA M) (H : Heap 𝓤) (A : Atoms 𝓤) (W : Given 𝓤 H A) (at-mem : Memory → SProp 𝓤) (run : Routine → Fun 𝓤) (κ κ′ : Lft) (bounds : AllOutlive 2 (read-head.signature .outlives) (κ, (κ′, tt))) (q q′ : Share) (b o : ℕ) (γ : GName) (d : Reader) where
+module _ {M : Type 1} (𝓤 : URA M) (H : Heap 𝓤) (A : Atoms 𝓤) (W : Given 𝓤 H A) (at-mem : Memory → SProp 𝓤) (run : Routine → Fun 𝓤) (κ κ′ : Lft)
+    (bounds : AllOutlive 2 (read-head.signature .outlives) (κ, (κ′, tt))) (q q′ : Share) (b o : ℕ) (γ : GName) (d : Reader) where
   abbrev R : RattleType
   R = T.the-row (α (named 1) κ′)
 
@@ -93,13 +94,15 @@ module _ {M : Type 1} (𝓤 : URA M) (H : Heap 𝓤) (A : Atoms 𝓤) (W : Given
 
   -- what the envelope owns is kept, and the place's facts are made anew
   again : (n : ℕ) → n < 2 ^ 64 → ent 𝓤 (sem 𝓤 H A (Own κ′ d)) (sem 𝓤 H A (Own κ′ (put n)))
-  again n ok = qed W (‵ (Own κ′ d) ∷ []) ∵ owned ! usize (Is usize) (uint-makes 𝓤 H A W w64) n _ (refl, ok) $ move ! (1 ∷ 0 ∷ []) $ by ! (own-put 𝓤 H A W (T.the-type (α (named 0) κ′)) (T′.the-laws (α (named 0) κ′)) 1 (d .envelope, (d .at, tt)) n (T′.lowered d))
+  again n ok = qed W (‵ (Own κ′ d) ∷ []) ∵ owned ! usize (Is usize) (uint-makes 𝓤 H A W w64) n _ (refl, ok) $ move ! (1 ∷ 0 ∷ []) $
+      by ! (own-put 𝓤 H A W (T.the-type (α (named 0) κ′)) (T′.the-laws (α (named 0) κ′)) 1 (d .envelope, (d .at, tt)) n (T′.lowered d))
 
   -- the place that is answered is a number of its width
   fits : (r : Read) (vs : List Val) → Is S.the-row r vs → r .next < 2 ^ 64
   fits r vs is = LL.owed S.the-type S′.the-laws r vs is .1 .1 .1 .0 .1
 
-  exits : (r : Read) → r ≡ readOf (headHere d) → ent 𝓤 (⋆ 𝓤 H A (‵ (fobs γ (R .coded .code (put (r .next)))) ∷ ‵ (fbor κ (Body (mem R) b o γ)) ∷ ‵ (flft κ q) ∷ ‵ (S.the-row .own r (S′.lowered r ∷ [])) ∷ (‵ (flft κ′ q′) ⊛ ‵ ftrue) ∷ [])) (Post (S′.lowered r))
+  exits : (r : Read) → r ≡ readOf (headHere d) → ent 𝓤 (⋆ 𝓤 H A (‵ (fobs γ (R .coded .code (put (r .next)))) ∷ ‵ (fbor κ (Body (mem R) b o γ)) ∷ ‵
+      (flft κ q) ∷ ‵ (S.the-row .own r (S′.lowered r ∷ [])) ∷ (‵ (flft κ′ q′) ⊛ ‵ ftrue) ∷ [])) (Post (S′.lowered r))
   exits r e =
       qed W (‵ (fobs γ (R .coded .code (put (r .next)))) ∷ ‵ (fbor κ (Body (mem R) b o γ)) ∷ ‵ (flft κ q) ∷ ‵ (S.the-row .own r (S′.lowered r ∷ [])) ∷ (‵ (flft κ′ q′) ⊛ ‵ ftrue) ∷ []) ∵
       suffices ! _ (ends-at 𝓤 H A read-head.ended stayed (read-head.clauses 𝓤 H A at-mem run) W (((κ, (κ′, tt)), (q, (q′, tt)), bounds, a, at), tt) (S′.lowered r) r (put (r .next), tt) (tt, tt)) $
@@ -116,32 +119,41 @@ module _ {M : Type 1} (𝓤 : URA M) (H : Heap 𝓤) (A : Atoms 𝓤) (W : Given
         use1 W (‵ (fat fullShare (T′.mir erased) b o (T′.lowered d))) (W .laws .raw-at fullShare (T′.mir erased) b o (T′.lowered d)) $
         move ! (1 ∷ []) $ peeks ! R (Is R) (shows 𝓤 H A R) d (T′.lowered d ∷ []) (λ was. move ! (1 ∷ 0 ∷ []) $
         -- [the struct's cell; what the reader owns; the open borrow; obs; auth; 'a's token; true; _4; …; _3; …; _2; …; _1; …; room for _0; …]
-        assigns ! (of-opd ! (load ! (from ! (hop ! (look ! 13 refl) (fld ! refl (stop !)))) (look-in ! 0 (sub ! 0 refl (whole !))))) (from ! (stop !)) (init ! 9 refl (tt, typed 𝓤 H A W erased κ′ d _ was .1 .0)) $
-        assigns ! (of-opd ! (load ! (from ! (hop ! (look ! 13 refl) (fld ! refl (stop !)))) (look-in ! 0 (sub ! 1 refl (whole !))))) (from ! (stop !)) (init ! 7 refl (tt, typed 𝓤 H A W erased κ′ d _ was .1 .1 .0)) $
+        assigns ! (of-opd ! (load ! (from ! (hop ! (look ! 13 refl) (fld ! refl (stop !)))) (look-in ! 0 (sub ! 0 refl (whole !))))) (from ! (stop !))
+        (init ! 9 refl (tt, typed 𝓤 H A W erased κ′ d _ was .1 .0)) $
+        assigns ! (of-opd ! (load ! (from ! (hop ! (look ! 13 refl) (fld ! refl (stop !)))) (look-in ! 0 (sub ! 1 refl (whole !))))) (from ! (stop !))
+        (init ! 7 refl (tt, typed 𝓤 H A W erased κ′ d _ was .1 .1 .0)) $
         move ! (1 ∷ 5 ∷ []) $ use2 W (raw (HeadOf 𝓤 H A at-mem run .pre to) ⊛ ‵ (Own κ′ d)) (apart 𝓤 H A W κ′ d q′) $ split ! $
         calls-at ! fm (HeadOf 𝓤 H A at-mem run) known to (and-then ! (load ! (from ! (stop !)) (look ! 9 refl)) (and-then ! (load ! (from ! (stop !)) (look ! 7 refl)) (no-more !))) (λ u.
-        use1 W (later (some (λ (r : Read). ((‵ (flft κ′ q′) ⊛ ‵ ftrue) ⊛ ‵ (S.the-row .own r (u ∷ []))) ⊛ raw (ensured 𝓤 H A head-of.ended (head-of.clauses 𝓤 H A at-mem run) (κ′, tt) (d .envelope, (d .at, tt)) tt r)))) (id⊢ 𝓤 _) $ await ! tt $ pick ! (λ r.
+        use1 W (later (some (λ (r : Read). ((‵ (flft κ′ q′) ⊛ ‵ ftrue) ⊛ ‵ (S.the-row .own r (u ∷ []))) ⊛
+        raw (ensured 𝓤 H A head-of.ended (head-of.clauses 𝓤 H A at-mem run) (κ′, tt) (d .envelope, (d .at, tt)) tt r)))) (id⊢ 𝓤 _) $ await ! tt $ pick ! (λ r.
         split ! $ move ! (1 ∷ []) $ use1 W (raw (fact 𝓤 (r ≡ readOf (headHere d)))) (said r) $ heard ! (r ≡ readOf (headHere d)) (λ e. split ! $ move ! (1 ∷ []) $
         -- [the answer; 'a's token; what the reader owns; its cell; the open borrow; obs; auth; true; _4; …; _3; …; room for _2; …; _1; …; room for _0; …]
         peeks ! S.the-row (Is S.the-row) (shows 𝓤 H A S.the-row) r (u ∷ []) (λ is.
         land ! (from ! (stop !)) (init ! 12 refl (LL.lawful S.the-type S′.the-laws 𝓤 H A W .typed r _ is .0)) $
-        rewrite ! 0 (λ (v : Val). ‵ (S.the-row .own r (v ∷ []))) (ap only (LL.tells S.the-type S′.the-laws r _ is)) refl $ rewrite ! 12 (λ (v : Val). ‵ (fat fullShare S′.mir l₂ 0 v)) (ap only (LL.tells S.the-type S′.the-laws r _ is)) refl $
-        assigns ! (of-opd ! (load ! (from ! (fld ! refl (stop !))) (look-in ! 12 (sub ! 3 refl (whole !))))) (from ! (hop ! (look ! 14 refl) (fld ! refl (stop !)))) (store-in ! 3 (sub ! 1 refl (whole !)) (tt, record { fits = fits r _ is })) $
-        assigns ! (of-opd ! (load ! (from ! (stop !)) (look ! 12 refl))) (from ! (stop !)) (init ! 16 refl (LL.lawful S.the-type S′.the-laws 𝓤 H A W .typed r _ (LL.owes S.the-type S′.the-laws r (LL.owed S.the-type S′.the-laws r _ is)) .0)) $
+        rewrite ! 0 (λ (v : Val). ‵ (S.the-row .own r (v ∷ []))) (ap only (LL.tells S.the-type S′.the-laws r _ is)) refl $
+        rewrite ! 12 (λ (v : Val). ‵ (fat fullShare S′.mir l₂ 0 v)) (ap only (LL.tells S.the-type S′.the-laws r _ is)) refl $
+        assigns ! (of-opd ! (load ! (from ! (fld ! refl (stop !))) (look-in ! 12 (sub ! 3 refl (whole !))))) (from ! (hop ! (look ! 14 refl) (fld ! refl (stop !))))
+        (store-in ! 3 (sub ! 1 refl (whole !)) (tt, record { fits = fits r _ is })) $
+        assigns ! (of-opd ! (load ! (from ! (stop !)) (look ! 12 refl))) (from ! (stop !))
+        (init ! 16 refl (LL.lawful S.the-type S′.the-laws 𝓤 H A W .typed r _ (LL.owes S.the-type S′.the-laws r (LL.owed S.the-type S′.the-laws r _ is)) .0)) $
         -- the borrow is closed at the moved reader
         move ! (2 ∷ []) $ use1 W (‵ (Own κ′ (put (r .next)))) (again (r .next) (fits r _ is)) $
         move ! (3 ∷ []) $ use1 W (‵ (cellAt fullShare (R .mir) (T′.lowered (put (r .next)) ∷ []) b o)) (W .laws .at-raw fullShare (T′.mir erased) b o (T′.lowered (put (r .next)))) $
         move ! (0 ∷ 1 ∷ 4 ∷ 5 ∷ 6 ∷ []) $ closes ! tt R (put (r .next)) (T′.lowered (put (r .next)) ∷ []) b o $
         returns ! (look ! 14 refl) $ forget ! 6 refl $ forget ! 8 refl $ forget ! 10 refl $ forget ! 12 refl $ forget ! 14 refl $
-        move ! (14 ∷ 15 ∷ []) $ free1 ! $ move ! (12 ∷ 13 ∷ []) $ free1 ! $ move ! (10 ∷ 11 ∷ []) $ free1 ! $ move ! (8 ∷ 9 ∷ []) $ free1 ! $ move ! (6 ∷ 7 ∷ []) $ free1 ! $ free0 ! $ keep ! (0 ∷ 1 ∷ 2 ∷ 3 ∷ 4 ∷ []) $ by ! (exits r e))))))))))))
+        move ! (14 ∷ 15 ∷ []) $ free1 ! $ move ! (12 ∷ 13 ∷ []) $ free1 ! $ move ! (10 ∷ 11 ∷ []) $ free1 ! $ move ! (8 ∷ 9 ∷ []) $ free1 ! $
+        move ! (6 ∷ 7 ∷ []) $ free1 ! $ free0 ! $ keep ! (0 ∷ 1 ∷ 2 ∷ 3 ∷ 4 ∷ []) $ by ! (exits r e))))))))))))
 
 read-head-meets : {M : Type 1} (𝓤 : URA M) (H : Heap 𝓤) (A : Atoms 𝓤) → Given 𝓤 H A → (mem : Memory → SProp 𝓤) (run : Routine → Fun 𝓤) (𝓣 : Tables 𝓤 H)
     → Triple 𝓤 (𝓣 .C #cbor·reader·head-of) (HeadOf 𝓤 H A mem run)
     → Meets 𝓤 H A read-head.signature (WpFn 𝓤 H (𝓣 .C) (𝓣 .Λ) code.function) (read-head.spec 𝓤 H A mem run)
 read-head-meets 𝓤 H A W mem run 𝓣 known =
     walk-meets 𝓤 H A read-head.ended stayed W (goes-ref 𝓤 H A W 2 0 tt ReaderS, tt) (read-head.clauses 𝓤 H A mem run) (WpFn 𝓤 H (𝓣 .C) (𝓣 .Λ) code.function) (WpFn-mono 𝓤 H (W .laws) 𝓣 code.function)
-    (walked 𝓤 H A read-head.ended stayed (read-head.clauses 𝓤 H A mem run) (WpFn 𝓤 H (𝓣 .C) (𝓣 .Λ) code.function) (λ κs. (ptr-vals, tt)) (λ κs. (mut-tells (named 0) (κs .0) (T.the-row (namedLft 2 1 tt κs)), tt))
-    (λ κs qs bounds a g are. via 𝓤 _ (fst∗ 𝓤 _ (emp 𝓤)) (walk 𝓤 H A W mem run (κs .0) (κs .1 .0) bounds (qs .0) (qs .1 .0) (a .0 .ptr .0) (a .0 .ptr .1) (a .0 .name) (a .0 .now) (𝓣 .C) (𝓣 .Λ) (fmOf 𝓤 H (W .laws) 𝓣) known)))
+    (walked 𝓤 H A read-head.ended stayed (read-head.clauses 𝓤 H A mem run) (WpFn 𝓤 H (𝓣 .C) (𝓣 .Λ) code.function) (λ κs. (ptr-vals, tt))
+    (λ κs. (mut-tells (named 0) (κs .0) (T.the-row (namedLft 2 1 tt κs)), tt))
+    (λ κs qs bounds a g are. via 𝓤 _ (fst∗ 𝓤 _ (emp 𝓤)) (walk 𝓤 H A W mem run (κs .0) (κs .1 .0) bounds (qs .0) (qs .1 .0) (a .0 .ptr .0) (a .0 .ptr .1)
+    (a .0 .name) (a .0 .now) (𝓣 .C) (𝓣 .Λ) (fmOf 𝓤 H (W .laws) 𝓣) known)))
 
 pub read-head-spec : {M : Type 1} → stated.statement M
 unfolding code.routine tablesOf

@@ -78,7 +78,7 @@ check-command-Inv-loop s table components section depth commands end at refusal 
 abbrev check-command-μ-loop : check-command-lts.MeasureT-loop
 check-command-μ-loop s table components section depth commands end at refusal p₀ so-far₀ left₀ p so-far left = left
 
--- back to where the head of its argument was read, from where its sequence was checked
+-- back to where the head of a sequence's byte string was read, from where the sequence was checked
 abbrev to-head :
     {t : ℕ} →
     check-command-lts.After-check-sequence (check-command-callees t) (check-command-at t) check-command.Post check-command-Inv-loop check-command-μ-loop →

@@ -16,7 +16,7 @@ to-entry c = c .before .before .before .before
 abbrev to-head : tie.After-repeated-one → tie.Else1
 to-head c = c .before .before .before .before
 
--- back to where a repeated identifier was looked for, from where one was found
+-- back to where a repeated identifier was looked for, from where none was found
 abbrev to-repeated : tie.After-enum-told → tie.After-repeated-one
 to-repeated c = c .before .before
 

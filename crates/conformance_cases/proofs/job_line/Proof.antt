@@ -61,4 +61,5 @@ returns-6 c =
     rw (ne-eqb _ _ (if1 .if1 .left), ne-eqb _ _ (if2 .if2 .left), ne-eqb _ _ (if3 .if3 .left), ne-eqb _ _ (if4 .if4 .left), ne-eqb _ _ (if5 .if5 .left)) (put-malformed .put-malformed .ensures)
 
 pub job-line-spec : {M : Type 1} → statement M
-job-line-spec = tie.close (tie.spec (λ c κs. tt) (λ c. search needs) returns (λ c κs. tt) (λ c. search needs) returns-2 (λ c κs. tt) (λ c. search needs) returns-3 (λ c κs. tt) (λ c. search needs) returns-4 (λ c κs. tt) (λ c. search needs) returns-5 (λ c κs. tt) (λ c. search needs) returns-6)
+job-line-spec = tie.close (tie.spec (λ c κs. tt) (λ c. search needs) returns (λ c κs. tt) (λ c. search needs) returns-2 (λ c κs. tt) (λ c. search needs)
+    returns-3 (λ c κs. tt) (λ c. search needs) returns-4 (λ c κs. tt) (λ c. search needs) returns-5 (λ c κs. tt) (λ c. search needs) returns-6)

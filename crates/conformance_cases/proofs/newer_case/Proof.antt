@@ -33,4 +33,5 @@ returns-2 c =
     rw (← string-end .string-end .ensures .end, ne-eqb _ _ (if1 .if1 .left)) (rw (to-end (string-end .string-end .result) (start .args .b .now)) at (newer-line .newer-line .ensures))
 
 pub newer-case-spec : {M : Type 1} → statement M
-newer-case-spec = tie.close (tie.spec (λ c κs. tt) (λ c κs. tt) (λ c. search needs) returns sub-newer-line part-newer-line-start (λ c. search needs) (λ c. search needs) (λ c. search needs) (λ c. search needs) (λ c κs. tt) (λ c. search needs) returns-2)
+newer-case-spec = tie.close (tie.spec (λ c κs. tt) (λ c κs. tt) (λ c. search needs) returns sub-newer-line part-newer-line-start (λ c. search needs)
+    (λ c. search needs) (λ c. search needs) (λ c. search needs) (λ c κs. tt) (λ c. search needs) returns-2)

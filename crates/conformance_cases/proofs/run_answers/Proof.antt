@@ -33,4 +33,5 @@ returns-2 c =
     rw (← string-end .string-end .ensures .end, ne-eqb _ _ (if1 .if1 .left)) (rw (to-end (string-end .string-end .result) (start .args .b .now)) at (run-line .run-line .ensures))
 
 pub run-answers-spec : {M : Type 1} → statement M
-run-answers-spec = tie.close (tie.spec (λ c κs. tt) (λ c κs. tt) (λ c. search needs) returns sub-run-line part-run-line-start (λ c. search needs) (λ c. search needs) (λ c. search needs) (λ c. search needs) (λ c κs. search needs) (λ c. search needs) returns-2)
+run-answers-spec = tie.close (tie.spec (λ c κs. tt) (λ c κs. tt) (λ c. search needs) returns sub-run-line part-run-line-start (λ c. search needs)
+    (λ c. search needs) (λ c. search needs) (λ c. search needs) (λ c κs. search needs) (λ c. search needs) returns-2)

@@ -36,4 +36,5 @@ returns-2 c =
     rw (le-ltb _ _ (if1 .if1 .left)) (rw (to-end runHead (start .args .b .now)) at (run-slots .run-slots .ensures))
 
 pub run-case-spec : {M : Type 1} → statement M
-run-case-spec = tie.close (tie.spec (λ c κs. tt) (λ c. search needs) returns slice-aggregate-run-slots (λ c. search needs) (λ c. search needs) (λ c. search needs) run-slots-requires (λ c. search needs) returns-2)
+run-case-spec = tie.close (tie.spec (λ c κs. tt) (λ c. search needs) returns slice-aggregate-run-slots (λ c. search needs) (λ c. search needs)
+    (λ c. search needs) run-slots-requires (λ c. search needs) returns-2)

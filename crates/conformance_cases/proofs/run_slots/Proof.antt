@@ -33,4 +33,5 @@ returns-2 c =
     rw (← string-end .string-end .ensures .end, ne-eqb _ _ (if1 .if1 .left)) (rw (to-end (string-end .string-end .result) (start .args .b .now)) at (run-answers .run-answers .ensures))
 
 pub run-slots-spec : {M : Type 1} → statement M
-run-slots-spec = tie.close (tie.spec (λ c κs. tt) (λ c κs. tt) (λ c. search needs) returns sub-run-answers part-run-answers-start (λ c. search needs) (λ c. search needs) (λ c. search needs) (λ c. search needs) (λ c κs. search needs) (λ c. search needs) returns-2)
+run-slots-spec = tie.close (tie.spec (λ c κs. tt) (λ c κs. tt) (λ c. search needs) returns sub-run-answers part-run-answers-start (λ c. search needs)
+    (λ c. search needs) (λ c. search needs) (λ c. search needs) (λ c κs. search needs) (λ c. search needs) returns-2)

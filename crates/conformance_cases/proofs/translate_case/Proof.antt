@@ -22,4 +22,5 @@ returns-2 c =
     rw (le-ltb _ _ (if1 .if1 .left)) (rw (two .two .ensures .0, to-end 3 (start .args .b .now)) at (translate-line .translate-line .ensures))
 
 pub translate-case-spec : {M : Type 1} → statement M
-translate-case-spec = tie.close (tie.spec (λ c κs. tt) (λ c. search needs) returns (λ c. search needs) (λ c. search needs) (λ c. search needs) (λ c. search needs) (λ c κs. search needs) (λ c κs. search needs) (λ c. search needs) returns-2)
+translate-case-spec = tie.close (tie.spec (λ c κs. tt) (λ c. search needs) returns (λ c. search needs) (λ c. search needs) (λ c. search needs)
+    (λ c. search needs) (λ c κs. search needs) (λ c κs. search needs) (λ c. search needs) returns-2)

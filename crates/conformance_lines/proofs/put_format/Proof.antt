@@ -30,9 +30,11 @@ loop-again c =
     let number-at = put-piece .before in
     let loop = number-at .before .before .before .before in
     let start = loop .before .before .before .before in
-    let w = format-next (start .args .template .now) (start .args .numbers .now) (start .args .at) (start .args .room .now) (loop .loop .i) (loop .loop .k) (number-at .number-at .result) (loop .loop .inv .2) (number-at .number-at .ensures) (loop .loop .inv .3) (put-piece .put-piece .ensures) in
+    let w = format-next (start .args .template .now) (start .args .numbers .now) (start .args .at) (start .args .room .now) (loop .loop .i) (loop .loop .k)
+    (number-at .number-at .result) (loop .loop .inv .2) (number-at .number-at .ensures) (loop .loop .inv .3) (put-piece .put-piece .ensures) in
     let t = start .args .template .now in
-    ⊎-elim (λ x. (omega arith, omega (arith, x .1), rw (x .1) (used-more t (loop .loop .i) (loop .loop .k) (loop .loop .inv .2) (x .0 .taken)), w)) (λ x. (omega arith, omega (arith, x .1), rw (x .1) (used-same t (loop .loop .i) (loop .loop .k) (loop .loop .inv .2) (x .0 .left)), w)) (c .if1 .came)
+    ⊎-elim (λ x. (omega arith, omega (arith, x .1), rw (x .1) (used-more t (loop .loop .i) (loop .loop .k) (loop .loop .inv .2) (x .0 .taken)), w))
+    (λ x. (omega arith, omega (arith, x .1), rw (x .1) (used-same t (loop .loop .i) (loop .loop .k) (loop .loop .inv .2) (x .0 .left)), w)) (c .if1 .came)
 
 same-length : tie.Need-same-length Inv-loop μ-loop
 same-length c =

@@ -15,4 +15,5 @@ returns c =
     rw (least .least .ensures, least2 .least2 .ensures, least3 .least3 .ensures, least4 .least4 .ensures, least5 .least5 .ensures) at (put-format .put-format .ensures)
 
 pub put-sections-spec : {M : Type 1} → statement M
-put-sections-spec = tie.close (tie.spec (λ c. search needs) (λ c κs. tt) (λ c. search needs) (λ c κs. tt) (λ c. search needs) (λ c κs. tt) (λ c. search needs) (λ c κs. tt) (λ c. search needs) (λ c κs. tt) (λ c. search needs) (λ c. search needs) (λ c κs. tt) (λ c. search needs) returns)
+put-sections-spec = tie.close (tie.spec (λ c. search needs) (λ c κs. tt) (λ c. search needs) (λ c κs. tt) (λ c. search needs) (λ c κs. tt) (λ c. search needs)
+    (λ c κs. tt) (λ c. search needs) (λ c κs. tt) (λ c. search needs) (λ c. search needs) (λ c κs. tt) (λ c. search needs) returns)

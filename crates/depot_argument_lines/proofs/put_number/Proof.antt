@@ -23,7 +23,8 @@ returns-2 c =
     let at-if2 = at-wide .before .before .before in
     let at-if1 = at-if2 .before in
     let start = at-if1 .before .before .before in
-    rw (ne-eqb (length (start .args .s .now)) sizeBytes (at-if1 .if1 .left), eq-eqb (length (start .args .s .now)) sourceBytes (at-if2 .if2 .taken), ← at-wide .wide .ensures .0) (at-put-decimal2 .put-decimal2 .ensures)
+    rw (ne-eqb (length (start .args .s .now)) sizeBytes (at-if1 .if1 .left), eq-eqb (length (start .args .s .now)) sourceBytes (at-if2 .if2 .taken), ← at-wide .wide .ensures .0)
+    (at-put-decimal2 .put-decimal2 .ensures)
 
 returns-3 : tie.Need-returns-3
 unfolding numberText
@@ -36,4 +37,5 @@ returns-3 c =
 
 pub put-number-spec : {M : Type 1} → statement M
 put-number-spec =
-    tie.close (tie.spec (λ c κs. search needs) (λ c κs. search needs) (λ c. search needs) returns (λ c. search needs) (λ c κs. search needs) (λ c κs. search needs) (λ c. search needs) returns-2 (λ c κs. search needs) (λ c. search needs) returns-3)
+    tie.close (tie.spec (λ c κs. search needs) (λ c κs. search needs) (λ c. search needs) returns (λ c. search needs) (λ c κs. search needs)
+    (λ c κs. search needs) (λ c. search needs) returns-2 (λ c κs. search needs) (λ c. search needs) returns-3)

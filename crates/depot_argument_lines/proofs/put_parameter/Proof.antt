@@ -21,8 +21,11 @@ returns c =
     let at-wide = at-wide2 .before .before in
     let start = at-wide .before .before .before .before in
     let e : entrySize + at-wide2 .wide2 .result - entrySize ≡ getD (start .args .s .now) entryLengthFrom 0 = omega (arith, at-wide2 .wide2 .ensures .0) in
-    rw (← e, ← at-wide .wide .ensures .0) (wrote-then (wrote-then (wrote-then (wrote-then (at-put-spaces .put-spaces .ensures) (at-put-parameter .put-parameter .ensures)) (at-put .put .ensures)) (at-put-value .put-value .ensures)) (at-put2 .put2 .ensures))
+    rw (← e, ← at-wide .wide .ensures .0) (wrote-then (wrote-then (wrote-then (wrote-then (at-put-spaces .put-spaces .ensures) (at-put-parameter .put-parameter .ensures))
+    (at-put .put .ensures)) (at-put-value .put-value .ensures)) (at-put2 .put2 .ensures))
 
 pub put-parameter-spec : {M : Type 1} → statement M
 put-parameter-spec =
-    tie.close (tie.spec (λ c. search needs) (λ c κs. search needs) (λ c. search needs) (λ c κs. search needs) (λ c. search needs) (λ c κs. search needs) (λ c κs. search needs) (λ c. search needs) (λ c κs. search needs) (λ c. search needs) (λ c. search needs) (λ c. search needs) (λ c κs. search needs) (λ c. search needs) (λ c κs. search needs) (λ c. search needs) returns)
+    tie.close (tie.spec (λ c. search needs) (λ c κs. search needs) (λ c. search needs) (λ c κs. search needs) (λ c. search needs) (λ c κs. search needs)
+    (λ c κs. search needs) (λ c. search needs) (λ c κs. search needs) (λ c. search needs) (λ c. search needs) (λ c. search needs) (λ c κs. search needs)
+    (λ c. search needs) (λ c κs. search needs) (λ c. search needs) returns)

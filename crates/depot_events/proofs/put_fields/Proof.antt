@@ -13,7 +13,8 @@ returns c =
     let p3 = p4 .before .before .before .before in
     let p2 = p3 .before .before .before .before in
     let p1 = p2 .before .before .before .before in
-    wrote-then (wrote-then (wrote-then (wrote-then (wrote-then (p1 .put-padded .ensures) (p2 .put-padded2 .ensures)) (p3 .put-padded3 .ensures)) (p4 .put-spaces .ensures)) (p5 .put-result .ensures)) (p6 .put-byte .ensures)
+    wrote-then (wrote-then (wrote-then (wrote-then (wrote-then (p1 .put-padded .ensures) (p2 .put-padded2 .ensures)) (p3 .put-padded3 .ensures)) (p4 .put-spaces .ensures))
+    (p5 .put-result .ensures)) (p6 .put-byte .ensures)
 
 pub put-fields-spec : {M : Type 1} → statement M
 put-fields-spec =

@@ -28,8 +28,16 @@ returns-2 c =
     let at-wide = at-put-start .before .before .before in
     let at-if1 = at-wide .before .before in
     let start = at-if1 .before .before .before in
-    rw (le-ltb (length (start .args .p .now)) startSize (at-if1 .if1 .left), ← from-drop (start .args .p .now) startSize startSize refl, ← at-wide .wide .ensures .0, ← at-two .two .ensures .0, ← at-after-components .after-components .ensures) (wrote-then (wrote-then (at-put-start .put-start .ensures) (at-put-components .put-components .ensures)) (at-put-records .put-records .ensures))
+    rw (
+      le-ltb (length (start .args .p .now)) startSize (at-if1 .if1 .left),
+      ← from-drop (start .args .p .now) startSize startSize refl,
+      ← at-wide .wide .ensures .0,
+      ← at-two .two .ensures .0,
+      ← at-after-components .after-components .ensures,
+    )
+    (wrote-then (wrote-then (at-put-start .put-start .ensures) (at-put-components .put-components .ensures)) (at-put-records .put-records .ensures))
 
 pub put-program-spec : {M : Type 1} → statement M
 put-program-spec =
-    tie.close (tie.spec (λ c. search needs) (λ c κs. search needs) (λ c. search needs) returns (λ c. search needs) (λ c κs. search needs) (λ c. search needs) (λ c. search needs) (λ c. search needs) (λ c κs. search needs) (λ c κs. search needs) (λ c κs. search needs) (λ c κs. search needs) (λ c κs. search needs) (λ c. search needs) returns-2)
+    tie.close (tie.spec (λ c. search needs) (λ c κs. search needs) (λ c. search needs) returns (λ c. search needs) (λ c κs. search needs) (λ c. search needs)
+    (λ c. search needs) (λ c. search needs) (λ c κs. search needs) (λ c κs. search needs) (λ c κs. search needs) (λ c κs. search needs) (λ c κs. search needs) (λ c. search needs) returns-2)

@@ -14,8 +14,10 @@ returns c =
     let at-four = at-put-labelled .before in
     let at-put-group = at-four .before .before .before .before .before in
     let at-wide = at-put-group .before in
-    rw (← at-wide .wide .ensures .0, ← at-four .four .ensures .0, ← at-wide2 .wide2 .ensures .0, ← at-two .two .ensures .0) (wrote-then (wrote-then (at-put-group .put-group .ensures) (at-put-labelled .put-labelled .ensures)) (at-put-counts .put-counts .ensures))
+    rw (← at-wide .wide .ensures .0, ← at-four .four .ensures .0, ← at-wide2 .wide2 .ensures .0, ← at-two .two .ensures .0)
+    (wrote-then (wrote-then (at-put-group .put-group .ensures) (at-put-labelled .put-labelled .ensures)) (at-put-counts .put-counts .ensures))
 
 pub put-start-spec : {M : Type 1} → statement M
 put-start-spec =
-    tie.close (tie.spec (λ c. search needs) (λ c κs. search needs) (λ c κs. search needs) (λ c. search needs) (λ c κs. search needs) (λ c κs. search needs) (λ c. search needs) (λ c κs. search needs) (λ c κs. search needs) (λ c κs. search needs) (λ c. search needs) returns)
+    tie.close (tie.spec (λ c. search needs) (λ c κs. search needs) (λ c κs. search needs) (λ c. search needs) (λ c κs. search needs) (λ c κs. search needs)
+    (λ c. search needs) (λ c κs. search needs) (λ c κs. search needs) (λ c κs. search needs) (λ c. search needs) returns)

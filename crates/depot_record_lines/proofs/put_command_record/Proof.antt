@@ -23,8 +23,11 @@ returns c =
     let start = at-wide .before .before .before .before in
     let e : recordSize + at-two3 .two3 .result - recordSize ≡ twoAt (start .args .s .now) argumentFrom = omega (arith, at-two3 .two3 .ensures .0) in
     let target : at-two2 .two2 .result ≡ twoAt (start .args .s .now) targetFrom = at-two2 .two2 .ensures .0 in
-    rw (← e, ← at-wide .wide .ensures .0, ← at-wide2 .wide2 .ensures .0, ← at-two .two .ensures .0, ← target) (wrote-then (wrote-then (at-put-line .put-line .ensures) (at-put-failure .put-failure .ensures)) (at-put-argument .put-argument .ensures))
+    rw (← e, ← at-wide .wide .ensures .0, ← at-wide2 .wide2 .ensures .0, ← at-two .two .ensures .0, ← target)
+    (wrote-then (wrote-then (at-put-line .put-line .ensures) (at-put-failure .put-failure .ensures)) (at-put-argument .put-argument .ensures))
 
 pub put-command-record-spec : {M : Type 1} → statement M
 put-command-record-spec =
-    tie.close (tie.spec (λ c. search needs) (λ c κs. search needs) (λ c. search needs) (λ c κs. search needs) (λ c κs. search needs) (λ c κs. search needs) (λ c κs. search needs) (λ c κs. search needs) (λ c κs. search needs) (λ c. search needs) (λ c. search needs) (λ c. search needs) (λ c. search needs) (λ c κs. search needs) (λ c. search needs) returns)
+    tie.close (tie.spec (λ c. search needs) (λ c κs. search needs) (λ c. search needs) (λ c κs. search needs) (λ c κs. search needs) (λ c κs. search needs)
+    (λ c κs. search needs) (λ c κs. search needs) (λ c κs. search needs) (λ c. search needs) (λ c. search needs) (λ c. search needs) (λ c. search needs)
+    (λ c κs. search needs) (λ c. search needs) returns)

@@ -26,8 +26,11 @@ returns-3 : tie.Need-returns-3
 unfolding recordSize
 returns-3 c =
     let at-two = c .before in
-    let start = at-two .before .before .before in
-    (rw (at-two .two .ensures .0) (sym (size-whole (start .args .s .now) ProgramFormat·recordSize (twoAt (start .args .s .now) argumentFrom) (rw (at-two .two .ensures .0) at (c .if2 .left)))), search needs)
+    let start = at-two .before .before .before in (
+      rw (at-two .two .ensures .0) (sym (size-whole (start .args .s .now) ProgramFormat·recordSize (twoAt (start .args .s .now) argumentFrom)
+          (rw (at-two .two .ensures .0) at (c .if2 .left)))),
+      search needs,
+    )
 
 pub size-of-spec : {M : Type 1} → statement M
 size-of-spec =

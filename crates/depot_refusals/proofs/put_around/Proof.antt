@@ -21,7 +21,8 @@ returns-2 c =
     let p3 = p4 .before .before .before .before in
     let p2 = p3 .before .before .before .before in
     let p1 = p2 .before .before .before .before .before in
-    rw (lt-ltb _ _ (p1 .before .before .if1 .left)) (wrote-then (wrote-then (wrote-then (wrote-then (wrote-then (p1 .put-before2 .ensures) (p2 .put2 .ensures)) (p3 .put-part .ensures)) (p4 .put-byte .ensures)) (p5 .put-after .ensures)) (p6 .put-byte2 .ensures))
+    rw (lt-ltb _ _ (p1 .before .before .if1 .left)) (wrote-then (wrote-then
+    (wrote-then (wrote-then (wrote-then (p1 .put-before2 .ensures) (p2 .put2 .ensures)) (p3 .put-part .ensures)) (p4 .put-byte .ensures)) (p5 .put-after .ensures)) (p6 .put-byte2 .ensures))
 
 pub put-around-spec : {M : Type 1} → statement M
 put-around-spec =

@@ -12,8 +12,10 @@ returns c =
     let at-put-string = at-put-labelled2 .before .before .before .before .before in
     let at-put = at-put-string .before .before .before .before in
     let at-put-labelled = at-put .before .before .before .before .before in
-    wrote-then (wrote-then (wrote-then (wrote-then (at-put-labelled .put-labelled .ensures) (at-put .put .ensures)) (at-put-string .put-string .ensures)) (at-put-labelled2 .put-labelled2 .ensures)) (at-put-byte .put-byte .ensures)
+    wrote-then (wrote-then (wrote-then (wrote-then (at-put-labelled .put-labelled .ensures) (at-put .put .ensures)) (at-put-string .put-string .ensures))
+    (at-put-labelled2 .put-labelled2 .ensures)) (at-put-byte .put-byte .ensures)
 
 pub put-component-spec : {M : Type 1} → statement M
 put-component-spec =
-    tie.close (tie.spec (λ c. search needs) (λ c κs. search needs) (λ c. search needs) (λ c κs. search needs) (λ c κs. search needs) (λ c. search needs) (λ c κs. search needs) (λ c κs. search needs) (λ c. search needs) returns)
+    tie.close (tie.spec (λ c. search needs) (λ c κs. search needs) (λ c. search needs) (λ c κs. search needs) (λ c κs. search needs) (λ c. search needs)
+    (λ c κs. search needs) (λ c κs. search needs) (λ c. search needs) returns)

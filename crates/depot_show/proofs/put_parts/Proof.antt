@@ -12,7 +12,8 @@ returns c =
     let at-least = at-put-components .before in
     let at-put-byte = at-least .before .before .before .before in
     let at-put-labelled = at-put-byte .before .before .before .before in
-    rw (← at-least .least .ensures) (wrote-then (wrote-then (wrote-then (at-put-labelled .put-labelled .ensures) (at-put-byte .put-byte .ensures)) (at-put-components .put-components .ensures)) (at-put-sections .put-sections .ensures))
+    rw (← at-least .least .ensures) (wrote-then (wrote-then (wrote-then (at-put-labelled .put-labelled .ensures) (at-put-byte .put-byte .ensures))
+    (at-put-components .put-components .ensures)) (at-put-sections .put-sections .ensures))
 
 pub put-parts-spec : {M : Type 1} → statement M
 put-parts-spec =

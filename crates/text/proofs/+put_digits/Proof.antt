@@ -1,5 +1,4 @@
 use Prim.Native.Nat.{ℕ, _<_}
-use native.Mathlib.Omega.{arith}
 use borrow.Author.Needs.{needs}
 use Rattle.text.proofs.TextLaws.{wrote-none, wrote-then, digits-none, digits-one, digits-more}
 use borrow.Fn.Kinds.{In}

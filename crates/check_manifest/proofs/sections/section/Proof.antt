@@ -8,7 +8,7 @@ use Rattle.check_manifest.proofs.SectionLaws.{stopped-promise, section-
 use Rattle.check_manifest.proofs.sections.section.Statement.{statement}
 use Rattle.check_manifest.proofs.sections.section.Tie as tie
 
--- back to where its head was read, from where its key was good
+-- back to where the byte string's head was read, from where its sequence was good
 abbrev to-head : tie.Else2 → tie.After-item
 to-head c = c .before .before .before .before
 

@@ -20,4 +20,5 @@ returns-2 c =
     rw (if1 .if1 .left) (rw (device-of .device-of .ensures) at (pitvorgas-run .pitvorgas-run .ensures))
 
 pub run-by-spec : {M : Type 1} → statement M
-run-by-spec = tie.close (tie.spec (λ c κs. search needs) (λ c. search needs) (λ c κs. tt) (λ c. search needs) (λ c. search needs) returns (λ c. search needs) (λ c κs. tt) (λ c. search needs) (λ c. search needs) returns-2)
+run-by-spec = tie.close (tie.spec (λ c κs. search needs) (λ c. search needs) (λ c κs. tt) (λ c. search needs) (λ c. search needs) returns (λ c. search needs)
+    (λ c κs. tt) (λ c. search needs) (λ c. search needs) returns-2)

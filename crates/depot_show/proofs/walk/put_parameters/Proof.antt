@@ -34,7 +34,8 @@ loop-again c =
     let s = r .before in
     let t = s .before in
     let u = t .before in
-    rw (q .look .ensures, r .want .ensures) (rest-text (rw (more-parameters _ _ _ _ _ (t .loop-test .taken) (s .if1 .left)) at (u .loop .inv)) (rw (q .look .ensures, r .want .ensures) at (p .put-parameter .ensures)))
+    rw (q .look .ensures, r .want .ensures) (rest-text (rw (more-parameters _ _ _ _ _ (t .loop-test .taken) (s .if1 .left)) at (u .loop .inv))
+    (rw (q .look .ensures, r .want .ensures) at (p .put-parameter .ensures)))
 
 same-length-2 : tie.Need-same-length-2 Inv-loop μ-loop
 same-length-2 c =

@@ -9,7 +9,8 @@ returns c =
     let e = d .before .before .before .before .before in
     let f = e .before .before .before .before .before in
     let g = f .before .before .before .before .before in
-    rw (← d .before .low4 .ensures, ← e .before .low3 .ensures, ← f .before .low2 .ensures, ← g .before .low .ensures) (wrote-then (wrote-then (wrote-then (g .put-byte .ensures) (f .put-byte2 .ensures)) (e .put-byte3 .ensures)) (d .put-byte4 .ensures))
+    rw (← d .before .low4 .ensures, ← e .before .low3 .ensures, ← f .before .low2 .ensures, ← g .before .low .ensures)
+    (wrote-then (wrote-then (wrote-then (g .put-byte .ensures) (f .put-byte2 .ensures)) (e .put-byte3 .ensures)) (d .put-byte4 .ensures))
 
 pub put-four-spec : {M : Type 1} → statement M
 put-four-spec =

@@ -18,7 +18,8 @@ returns c =
     let number = f .before .decimal .ensures ∙ ap Words.number (f .before .before .word2 .ensures ∙ ap Words.word two) in
     let presence = p .before .presence .ensures ∙ ap Rule.presence (p .before .before .word3 .ensures ∙ ap Words.word three) in
     let image = i .before .rest3 .ensures ∙ ap Words.rest three in
-    rw (← d .before .word .ensures, ← number, ← presence, ← image) (wrote-then (wrote-then (wrote-then (d .put-identifier .ensures) (f .put-four .ensures)) (p .put-byte .ensures)) (i .put-image .ensures))
+    rw (← d .before .word .ensures, ← number, ← presence, ← image) (wrote-then (wrote-then (wrote-then (d .put-identifier .ensures) (f .put-four .ensures)) (p .put-byte .ensures))
+    (i .put-image .ensures))
 
 pub put-slot-spec : {M : Type 1} → statement M
 put-slot-spec =

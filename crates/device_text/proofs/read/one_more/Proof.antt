@@ -34,7 +34,13 @@ returns-4 c =
     let n : ℕ = a .n in
     let b : ℕ = a .b in
     let m : ℕ = n * 10 + (c .before .wide .result - 48) in
-    rw (le-ltb (b) (48) (c .before .before .before .before .if1 .left), le-ltb (57) (b) (c .before .before .before .if2 .left), lt-leb (Words.noNumber) (n) (c .before .before .if3 .left), ← c .before .wide .ensures .0, le-leb (Words.noNumber) (m) (c .if4 .taken))
+    rw (
+      le-ltb (b) (48) (c .before .before .before .before .if1 .left),
+      le-ltb (57) (b) (c .before .before .before .if2 .left),
+      lt-leb (Words.noNumber) (n) (c .before .before .if3 .left),
+      ← c .before .wide .ensures .0,
+      le-leb (Words.noNumber) (m) (c .if4 .taken),
+    )
 
 returns-5 : tie.Need-returns-5
 unfolding Words.oneMore
@@ -43,7 +49,13 @@ returns-5 c =
     let n : ℕ = a .n in
     let b : ℕ = a .b in
     let m : ℕ = n * 10 + (c .before .wide .result - 48) in
-    rw (le-ltb (b) (48) (c .before .before .before .before .if1 .left), le-ltb (57) (b) (c .before .before .before .if2 .left), lt-leb (Words.noNumber) (n) (c .before .before .if3 .left), ← c .before .wide .ensures .0, lt-leb (Words.noNumber) (m) (c .if4 .left))
+    rw (
+      le-ltb (b) (48) (c .before .before .before .before .if1 .left),
+      le-ltb (57) (b) (c .before .before .before .if2 .left),
+      lt-leb (Words.noNumber) (n) (c .before .before .if3 .left),
+      ← c .before .wide .ensures .0,
+      lt-leb (Words.noNumber) (m) (c .if4 .left),
+    )
 
 pub one-more-spec : {M : Type 1} → statement M
 one-more-spec =

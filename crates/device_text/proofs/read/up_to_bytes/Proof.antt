@@ -28,7 +28,11 @@ returns-4 : tie.Need-returns-4
 unfolding Words.upToBytes
 returns-4 c =
     let a = c .before .before .before .before .before .args in
-    rw (eq-eqb (length (a .w .now) % 2) 0 (c .before .before .before .if1 .left), le-ltb (length (a .w .now)) 2 (c .before .before .if2 .left), le-ltb (a .n) (length (a .w .now) / 2) (c .before .if3 .left)) (c .all-digits .ensures)
+    rw (
+      eq-eqb (length (a .w .now) % 2) 0 (c .before .before .before .if1 .left),
+      le-ltb (length (a .w .now)) 2 (c .before .before .if2 .left),
+      le-ltb (a .n) (length (a .w .now) / 2) (c .before .if3 .left),
+    ) (c .all-digits .ensures)
 
 pub up-to-bytes-spec : {M : Type 1} → statement M
 up-to-bytes-spec = tie.close (tie.spec returns returns-2 returns-3 (λ c κs. search needs) returns-4)

@@ -32,7 +32,14 @@ returns-3 c =
     let n = d .decimal .ensures ∙ ap Words.number (d .before .word2 .ensures ∙ ap Words.word two) in
     let w = c .before .before .word3 .ensures ∙ ap Words.word three in
     let t = c .before .rest3 .ensures ∙ ap Words.rest three in
-    rw (← e, not-false (u .up-to-bytes .result) (d .before .before .before .if1 .left), ← n, lt-ltb (d .decimal .result) Words.noNumber (c .before .before .before .before .if2 .left), ← t, ← w) (c .is-state .ensures)
+    rw (
+      ← e,
+      not-false (u .up-to-bytes .result) (d .before .before .before .if1 .left),
+      ← n,
+      lt-ltb (d .decimal .result) Words.noNumber (c .before .before .before .before .if2 .left),
+      ← t,
+      ← w,
+    ) (c .is-state .ensures)
 
 pub is-slot-spec : {M : Type 1} → statement M
 is-slot-spec =

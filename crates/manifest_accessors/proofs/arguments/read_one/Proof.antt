@@ -5,7 +5,7 @@ use Rattle.manifest_accessors.proofs.OneLaws.{one-of-two, one-sixteen, 
 use Rattle.manifest_accessors.proofs.arguments.read_one.Statement.{statement}
 use Rattle.manifest_accessors.proofs.arguments.read_one.Tie as tie
 
--- back to the entry, from where it is neither vendor nor class
+-- back to the entry, from where the code is not below vendor's
 abbrev to-entry : tie.Else1 → tie.Start
 to-entry c = c .before .before .before
 

@@ -5,7 +5,27 @@ use Rattle.rules.proofs.answers.Refusal.of.Tie as tie
 returns-20 : tie.Need-returns-20
 returns-20 c =
     let (((((((((((((((((((u, a1), a2), a3), a4), a5), a6), a7), a8), a9), a10), a11), a12), a13), a14), a15), a16), a17), a18), a19) = c .match .rest in
-    simp (ne-eqb _ _ a1, ne-eqb _ _ a2, ne-eqb _ _ a3, ne-eqb _ _ a4, ne-eqb _ _ a5, ne-eqb _ _ a6, ne-eqb _ _ a7, ne-eqb _ _ a8, ne-eqb _ _ a9, ne-eqb _ _ a10, ne-eqb _ _ a11, ne-eqb _ _ a12, ne-eqb _ _ a13, ne-eqb _ _ a14, ne-eqb _ _ a15, ne-eqb _ _ a16, ne-eqb _ _ a17, ne-eqb _ _ a18, ne-eqb _ _ a19)
+    simp (
+      ne-eqb _ _ a1,
+      ne-eqb _ _ a2,
+      ne-eqb _ _ a3,
+      ne-eqb _ _ a4,
+      ne-eqb _ _ a5,
+      ne-eqb _ _ a6,
+      ne-eqb _ _ a7,
+      ne-eqb _ _ a8,
+      ne-eqb _ _ a9,
+      ne-eqb _ _ a10,
+      ne-eqb _ _ a11,
+      ne-eqb _ _ a12,
+      ne-eqb _ _ a13,
+      ne-eqb _ _ a14,
+      ne-eqb _ _ a15,
+      ne-eqb _ _ a16,
+      ne-eqb _ _ a17,
+      ne-eqb _ _ a18,
+      ne-eqb _ _ a19,
+    )
 
 pub of-spec : {M : Type 1} → statement M
 of-spec =
