@@ -1,3 +1,2 @@
 pub mod OuterLaws
 pub mod EnvelopeLaws
-pub mod NewerLaws

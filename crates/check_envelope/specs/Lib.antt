@@ -1,3 +1,2 @@
 pub mod Outer
 pub mod Report
-pub mod Newer

@@ -1,13 +1,10 @@
-// Check and newer: an envelope is checked against the rules of document 01, and of two the newer manifest is handed back.
+// Check: an envelope is checked against the rules of document 01.
 ghost use mathlib.Core.Path.{_≡_};
 ghost use Rattle.rules.specs.Lent.{was};
 ghost use Rattle.rules.specs.Check as Check;
-ghost use Rattle.rules.specs.Newer as Rule;
 ghost use Rattle.check_envelope.specs.Report.{reportOf, numbersIn, numbersOf};
-ghost use Rattle.check_envelope.specs.Newer.{Handed};
 use cbor_reader::left_at;
 use check_manifest::read_body;
-use newest::choose;
 use outer::read_outer;
 use report::Checked;
 use report::Place;
@@ -17,7 +14,6 @@ use rules::answers::Refusal;
 use rules::controller::Controller;
 use rules_tables::tables;
 
-pub mod newest;
 mod outer;
 pub mod report;
 
@@ -63,17 +59,4 @@ pub fn check(s: &[u8]) -> Report
         },
         sections,
     }
-}
-
-// The manifest of the newer of two envelopes, a part of that envelope itself. The first wins a tie, and one that is refused is passed over.
-pub fn newer<'a>(a: &'a [u8], b: &'a [u8]) -> &'a [u8]
-    ensures { λ r. ⌜ Handed (Rule.newer (was a) (was b)) (a .entry) (b .entry) r ⌝ }
-{
-    let n = choose(a, b);
-    let from = n.from;
-    let to = n.to;
-    if n.second == 1 {
-        return &b[from..to];
-    }
-    &a[from..to]
 }

@@ -10,7 +10,7 @@ ghost use Rattle.check_manifest.specs.Body.{frontOf, ListRead, CommonRea
 use cbor::reading::Reading;
 use cbor::reading::item;
 use cbor::reading::refuse;
-use check_sequence::argument::number;
+use check_argument::number;
 use component_ids::components;
 use rules::answers::Refusal;
 use rules::codes;

@@ -21,8 +21,8 @@ use Rattle.rules.proofs.TableLaws.{allowed-bit, listed-some, listed-none}
 use Rattle.cbor.specs.Reading.{fault, reading}
 use Rattle.cbor.specs.declared.reading.Reading.{Reading}
 use Rattle.cbor.proofs.ReadingLaws.{Stopped}
-use Rattle.check_sequence.specs.Argument.{argumentStart}
-use Rattle.check_sequence.proofs.ArgumentLaws.{argument-forth}
+use Rattle.check_argument.specs.Argument.{argumentStart}
+use Rattle.check_argument.proofs.ArgumentLaws.{argument-forth}
 use Rattle.check_sequence.specs.Command.{commandStart, Section}
 
 -- the start of a command, by the tests in their order

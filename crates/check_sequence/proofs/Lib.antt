@@ -1,3 +1,2 @@
-pub mod ArgumentLaws
 pub mod CommandLaws
 pub mod SequenceLaws

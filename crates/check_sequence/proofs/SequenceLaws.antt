@@ -19,7 +19,7 @@ use Rattle.rules.proofs.CheckLaws.{item-law}
 use Rattle.cbor.specs.Reading.{fault, ends, reading}
 use Rattle.cbor.specs.declared.reading.Reading.{Reading}
 use Rattle.cbor.proofs.ReadingLaws.{Stopped, alike, bind-assoc, reading-went}
-use Rattle.check_sequence.specs.Argument.{argumentStart}
+use Rattle.check_argument.specs.Argument.{argumentStart}
 use Rattle.check_sequence.specs.Command.{commandStart}
 use Rattle.check_sequence.proofs.CommandLaws.{start-forth}
 

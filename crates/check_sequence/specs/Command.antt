@@ -12,7 +12,7 @@ use Rattle.rules.specs.Commands.{COMMON, PAYLOAD_FETCH, INSTALL, VALIDATE, LOAD
 use Rattle.rules.specs.Tables.{kindOf}
 use Rattle.rules.specs.Manifest.{Cmd}
 use Rattle.rules.specs.Check.{number, command, sequenceAt}
-use Rattle.check_sequence.specs.Argument.{argumentStart}
+use Rattle.check_argument.specs.Argument.{argumentStart}
 
 module _ (s : Bytes) where
   -- its code, and its argument up to the sequences: how many these are, and where the first is

@@ -1,2 +1,1 @@
-pub mod Argument
 pub mod Command

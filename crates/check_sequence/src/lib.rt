@@ -16,7 +16,6 @@ use rules::answers::Refusal;
 use rules::controller::Controller;
 use rules_tables::Table;
 
-pub mod argument;
 mod command;
 
 // The sequence at `at`, after so many commands; it and those in it may be `depth` deep.

@@ -5,7 +5,7 @@ use mathlib.Core.Bool.{cond}
 use lib.Dec.{eqb}
 use lib.ListN.{length, getD, take}
 use Rattle.text.specs.Text.{Bytes, ascii, least, hex}
-use Rattle.text.specs.Pieces.{lines}
+use Rattle.text_pieces.specs.Pieces.{lines}
 use Rattle.rules.specs.Bytes.{spanAt}
 use Rattle.rules.specs.Limits.{limits}
 use Rattle.rules.specs.Slots.{slotBytes, imageFrom, slotAt}

@@ -6,7 +6,7 @@ use Rattle.rules.specs.Bytes.{twoAt}
 use Rattle.rules.specs.Step.{eventBytes, eventCode, eventComponent, eventPlace, eventResult}
 use Rattle.text.specs.Text.{Bytes, ascii, padded, least}
 use Rattle.text_names.specs.Words.{wide, commandWords, resultWords}
-use Rattle.text.specs.Pieces.{lines}
+use Rattle.text_pieces.specs.Pieces.{lines}
 
 -- the component, the place and the result
 unfoldable pub fieldsText : ℕ → ℕ → ℕ → Bytes

@@ -4,7 +4,7 @@ ghost use lib.ListN.{length};
 ghost use Rattle.rules.specs.Lent.{was};
 ghost use Rattle.rules.specs.Step.{eventBytes};
 ghost use Rattle.text.specs.Text.{Writes};
-ghost use Rattle.text.specs.Pieces.{lines};
+ghost use Rattle.text_pieces.specs.Pieces.{lines};
 ghost use Rattle.depot_events.specs.Events.{fieldsText, eventText, eventsText};
 use byte_buffer::two;
 use byte_buffer::wide;

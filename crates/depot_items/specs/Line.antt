@@ -8,7 +8,7 @@ use Rattle.rules.specs.Bytes.{Bytes, part}
 use Rattle.rules.specs.Limits.{limits}
 use Rattle.rules.specs.Cbor.{NUMBER, BYTES, TEXT, ARRAY, MAP, FALSE, TRUE, NIL}
 use Rattle.text.specs.Text.{ascii, decimal, padded, hex, quoted}
-use Rattle.text.specs.Pieces.{labelled, counted, coded}
+use Rattle.text_pieces.specs.Pieces.{labelled, counted, coded}
 use Rattle.text_names.specs.Words.{commandWords, parameterWords}
 use Rattle.depot_items.specs.declared.Item.{Item}
 

@@ -7,9 +7,6 @@ ghost use Rattle.text.specs.Text.{Writes};
 ghost use Rattle.depot_items.specs.Line.{marginText, titleText, stringText, itemText, argumentText, alternativeText, parameterText};
 use crate::Item;
 use rules::controller::Controller;
-use text::pieces::put_code;
-use text::pieces::put_counted;
-use text::pieces::put_labelled;
 use text::put;
 use text::put_byte;
 use text::put_decimal;
@@ -17,6 +14,9 @@ use text::put_hex;
 use text::put_padded;
 use text::put_quoted;
 use text::put_spaces;
+use text_pieces::put_code;
+use text_pieces::put_counted;
+use text_pieces::put_labelled;
 
 pub const NEWLINE: u8 = 10;
 

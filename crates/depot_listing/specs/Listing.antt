@@ -9,7 +9,7 @@ use Rattle.rules.specs.Bytes.{twoAt, fourAt}
 use Rattle.rules.specs.Answers.{groupNumber}
 use Rattle.rules.specs.ProgramFormat.{groupFrom, numberFrom, componentsFrom, recordsFrom, startSize, lengthFrom, nameSize}
 use Rattle.text.specs.Text.{Bytes, ascii, hex}
-use Rattle.text.specs.Pieces.{labelled, counted}
+use Rattle.text_pieces.specs.Pieces.{labelled, counted}
 use Rattle.depot_argument_lines.specs.Items.{sizeIn, itemsText}
 use Rattle.depot_record_lines.specs.Lines.{missingText, recordsText}
 

@@ -9,9 +9,9 @@ ghost use Rattle.depot_listing.specs.Listing.{componentSize, componentTe
 use byte_buffer::wide;
 use rules::program_format::NAME_BYTES;
 use rules::program_format::NAME_LENGTH;
-use text::pieces::put_labelled;
 use text::put;
 use text::put_hex;
+use text_pieces::put_labelled;
 
 // How long the component at the start of the bytes is, 0 if none lies there.
 fn size_of(s: &[u8]) -> usize

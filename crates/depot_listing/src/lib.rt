@@ -20,9 +20,9 @@ use rules::program_format::START_COMPONENTS;
 use rules::program_format::START_GROUP;
 use rules::program_format::START_NUMBER;
 use rules::program_format::START_RECORDS;
-use text::pieces::put_counted;
-use text::pieces::put_labelled;
 use text::put;
+use text_pieces::put_counted;
+use text_pieces::put_labelled;
 
 fn put_group(room: &mut [u8], at: usize, group: usize) -> usize
     ensures { λ r. ⌜ Writes (groupText group) at room r ⌝ }

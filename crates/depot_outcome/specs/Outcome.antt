@@ -8,7 +8,7 @@ use Rattle.rules.specs.Limits.{limits}
 use Rattle.rules.specs.Slots.{slotBytes, idFrom, imageFrom, digestFrom, slotAt}
 use Rattle.text.specs.Text.{Bytes, ascii, hex, least}
 use Rattle.text_names.specs.Words.{endWords}
-use Rattle.text.specs.Pieces.{part, labelled, counted, lines}
+use Rattle.text_pieces.specs.Pieces.{part, labelled, counted, lines}
 use Rattle.depot_refusals.specs.Refusals.{refusedText}
 use Rattle.depot_events.specs.Events.{eventsText}
 use Rattle.pitvorgas_answers.specs.declared.RunAnswer.{RunAnswer}

@@ -18,12 +18,12 @@ use rules::slot_format::SLOT_DIGEST;
 use run_slots::slot::capacity;
 use run_slots::slot::size;
 use text::least;
-use text::pieces::put_counted;
-use text::pieces::put_labelled;
-use text::pieces::put_part;
 use text::put;
 use text::put_byte;
 use text::put_spaces;
+use text_pieces::put_counted;
+use text_pieces::put_labelled;
+use text_pieces::put_part;
 
 fn put_end(room: &mut [u8], at: usize, end: usize, place: usize) -> usize
     ensures { λ r. ⌜ Writes (endText end place) at room r ⌝ }

@@ -9,7 +9,7 @@ use Rattle.rules.specs.Commands.{commands, rowOf, conditionIn}
 use Rattle.rules.specs.ProgramFormat.{JUMP, NONE, codeFrom, componentFrom, placeFrom, targetFrom, argumentFrom}
 use Rattle.rules.specs.ProgramFormat.{recordSize as ProgramFormat·recordSize}
 use Rattle.text.specs.Text.{Bytes, ascii, padded}
-use Rattle.text.specs.Pieces.{labelled, coded}
+use Rattle.text_pieces.specs.Pieces.{labelled, coded}
 use Rattle.text_names.specs.Words.{wide, commandWords}
 use Rattle.depot_argument_lines.specs.Items.{sizeIn, itemsText}
 use Rattle.depot_argument_lines.specs.Arguments.{argumentText}

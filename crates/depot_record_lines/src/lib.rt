@@ -22,12 +22,12 @@ use rules::program_format::PLACE;
 use rules::program_format::RECORD_BYTES;
 use rules::program_format::TARGET;
 use rules_tables::condition_of;
-use text::pieces::put_code;
-use text::pieces::put_labelled;
 use text::put;
 use text::put_padded;
 use text::put_spaces;
 use text_names::put_command;
+use text_pieces::put_code;
+use text_pieces::put_labelled;
 
 // Where the component stands in a line, from the command's name on.
 const COLUMN: usize = 26;

@@ -8,7 +8,7 @@ use Rattle.rules.specs.declared.answers.Refusal.the-variants.{NotCbor, NotVerif
 use Rattle.rules.specs.Answers.{refusalNumber}
 use Rattle.text.specs.Text.{Bytes, ascii, hex}
 use Rattle.text_names.specs.Words.{refusalWords}
-use Rattle.text.specs.Pieces.{part, spaced, labelled}
+use Rattle.text_pieces.specs.Pieces.{part, spaced, labelled}
 
 unfoldable pub refusedLine : ℕ → ℕ → Bytes
 refusedLine n p = labelled (ascii "refused with ") n ++ labelled (ascii " at ") p ++ ascii ": " ++ refusalWords n ++ ascii "\n"

@@ -4,15 +4,15 @@ ghost use Prim.Native.Nat.{_<_, _+_, _-_};
 ghost use lib.ListN.{length};
 ghost use Rattle.rules.specs.Lent.{was};
 ghost use Rattle.text.specs.Text.{Writes};
-ghost use Rattle.text.specs.Pieces.{part, spaced};
+ghost use Rattle.text_pieces.specs.Pieces.{part, spaced};
 ghost use Rattle.depot_refusals.specs.Refusals.{shown, refusedLine, beforeText, aroundText, refusedText};
 use rules::answers::Refusal;
-use text::pieces::put_labelled;
-use text::pieces::put_part;
-use text::pieces::put_spaced;
 use text::put;
 use text::put_byte;
 use text_names::put_refusal;
+use text_pieces::put_labelled;
+use text_pieces::put_part;
+use text_pieces::put_spaced;
 
 // How many bytes are shown before the place, and after it.
 const SHOWN: usize = 8;

@@ -7,7 +7,7 @@ use lib.ListN.{getD}
 use Rattle.rules.specs.Limits.{limits, sectionCount}
 use Rattle.text.specs.Text.{Bytes, ascii, hex, least}
 use Rattle.text_names.specs.Words.{sectionKey, sectionWords}
-use Rattle.text.specs.Pieces.{part, labelled, lines}
+use Rattle.text_pieces.specs.Pieces.{part, labelled, lines}
 use Rattle.depot_refusals.specs.Refusals.{refusedText}
 use Rattle.pitvorgas_answers.specs.declared.CheckAnswer.{CheckAnswer}
 use Rattle.pitvorgas_answers.specs.declared.NewerAnswer.{NewerAnswer}

@@ -13,13 +13,13 @@ use rules::controller::Places;
 use rules::controller::SECTIONS;
 use rules::controller::SectionPlaces;
 use text::least;
-use text::pieces::put_labelled;
-use text::pieces::put_part;
 use text::put;
 use text::put_byte;
 use text::put_spaces;
 use text_names::put_section;
 use text_names::section_key;
+use text_pieces::put_labelled;
+use text_pieces::put_part;
 
 fn put_component(room: &mut [u8], at: usize, s: &[u8], ids: &Places, k: usize) -> usize
     requires { ⌜ k < limits .components ⌝ }

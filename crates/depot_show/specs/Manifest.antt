@@ -8,7 +8,7 @@ use Rattle.rules.specs.Bytes.{Bytes}
 use Rattle.rules.specs.Cbor.{BYTES}
 use Rattle.rules.specs.Limits.{limits, sectionCount}
 use Rattle.text.specs.Text.{ascii, least}
-use Rattle.text.specs.Pieces.{labelled, coded, lines}
+use Rattle.text_pieces.specs.Pieces.{labelled, coded, lines}
 use Rattle.text_names.specs.Words.{sectionKey, sectionWords}
 use Rattle.depot_items.specs.Line.{newline, stringText}
 use Rattle.depot_show.specs.Shown.{sequenceShown}

@@ -11,11 +11,11 @@ use rules::controller::Places;
 use rules::controller::SECTIONS;
 use rules::controller::SectionPlaces;
 use text::least;
-use text::pieces::put_code;
-use text::pieces::put_labelled;
 use text::put;
 use text::put_byte;
 use text_names::section_key;
+use text_pieces::put_code;
+use text_pieces::put_labelled;
 use walk::put_sequence;
 
 mod walk;

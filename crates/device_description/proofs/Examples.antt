@@ -7,7 +7,7 @@ use lib.ListN.{replicate}
 use Rattle.rules.specs.Bytes.{Bytes}
 use Rattle.text.specs.Text.{ascii}
 use Rattle.device_text.specs.Words.{until, lines, trim, word, rest, oneMore, numberFrom, number, digit, allDigits, unhex, bytes, isBytes, upToBytes}
-use Rattle.device_text.specs.SlotText.{isImage, image, isState, isSlot, identifier, slot, status, isAnswer, answer}
+use Rattle.device_slots.specs.SlotText.{isImage, image, isState, isSlot, identifier, slot, status, isAnswer, answer}
 use Rattle.device_description.specs.Scenario.{start, verdictLine, vendorLine, classLine, numberLine, eventLine, setting, Said, slotLine, answerLine, line, linesFrom, described}
 
 -- lines, each with its end

@@ -15,8 +15,8 @@ use Rattle.rules.specs.Slots.{slotBytes, answerBytes}
 use Rattle.text.specs.Text.{ascii}
 use Rattle.text.proofs.TextLaws.{sets-append}
 use Rattle.device_text.specs.Words.{lines, trim, word, rest, isNumber, bytes, isBytes}
-use Rattle.device_text.specs.SlotText.{isSlot, slot, isAnswer, answer}
-use Rattle.device_text.proofs.LengthLaws.{slot-length, answer-length}
+use Rattle.device_slots.specs.SlotText.{isSlot, slot, isAnswer, answer}
+use Rattle.device_slots.proofs.LengthLaws.{slot-length, answer-length}
 use Rattle.device_description.specs.Scenario.{passed, says, withSlots, withAnswers, refusedAt, understood, verdictLine, vendorLine, classLine, numberLine, eventLine}
 use Rattle.device_description.specs.Scenario.{setting, Said, slotLine, answerLine, line, _then_, start, linesFrom, described, Describes, Took}
 use Rattle.device_description.specs.declared.Scenario.{Scenario}

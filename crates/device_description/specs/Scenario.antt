@@ -10,7 +10,7 @@ use Rattle.rules.specs.Limits.{limits}
 use Rattle.rules.specs.Slots.{slotBytes, answerBytes}
 use Rattle.text.specs.Text.{ascii}
 use Rattle.device_text.specs.Words.{lines, trim, word, rest, number, isNumber, bytes, isBytes}
-use Rattle.device_text.specs.SlotText.{zeros, isSlot, slot, isAnswer, answer}
+use Rattle.device_slots.specs.SlotText.{zeros, isSlot, slot, isAnswer, answer}
 use Rattle.device_description.specs.declared.Scenario.{Scenario}
 
 -- what a text says before its first line

@@ -8,9 +8,7 @@ ghost use Rattle.device_text.specs.Words as Words;
 use byte_buffer::equal;
 
 pub mod line;
-pub mod put;
 pub mod read;
-pub mod shape;
 
 const SPACE: u8 = 32;
 

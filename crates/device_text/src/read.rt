@@ -47,7 +47,7 @@ pub fn decimal(w: &[u8]) -> usize
 }
 
 // The value of a digit in hexadecimal; 16 is none.
-pub(crate) fn digit(b: u8) -> usize
+pub fn digit(b: u8) -> usize
     ensures { λ r. ⌜ r ≡ Words.digit b ⌝ }
 {
     let n = wide(b);
@@ -98,7 +98,7 @@ pub fn is_bytes(n: usize, w: &[u8]) -> bool
     all_digits(w)
 }
 
-pub(crate) fn up_to_bytes(n: usize, w: &[u8]) -> bool
+pub fn up_to_bytes(n: usize, w: &[u8]) -> bool
     ensures { λ r. ⌜ r ≡ Words.upToBytes n (was w) ⌝ }
 {
     if w.len() % 2 != 0 {

@@ -22,7 +22,7 @@ use Rattle.check_envelope.specs.Report.{reportOf}
 use Rattle.check_envelope.proofs.EnvelopeLaws.{differ}
 use Rattle.component_ids.proofs.IdentifierLaws.{span-laid}
 use Rattle.run_slots.specs.Slot.{namesAt}
-use Rattle.run_slots.proofs.SearchLaws.{names-laid}
+use Rattle.run_slot_search.proofs.SearchLaws.{names-laid}
 use Rattle.manifest_accessors.specs.Accepted.{Accepted}
 use Rattle.manifest_accessors.proofs.IdentifiersRead.{In, ids-in}
 

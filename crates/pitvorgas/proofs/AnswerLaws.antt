@@ -10,11 +10,11 @@ use Rattle.rules.specs.Got.{Got, refused, got}
 use Rattle.rules.specs.Manifest.{Manifest}
 use Rattle.rules.specs.Newer.{Newer, inFirst, inSecond}
 use Rattle.rules.specs.Run.{Ran}
-use Rattle.check_envelope.specs.declared.newest.Newest.{Newest}
+use Rattle.check_newer.specs.declared.Newest.{Newest}
 use Rattle.check_envelope.specs.declared.report.Checked.{Checked}
 use Rattle.check_envelope.specs.declared.report.Checked.the-variants as C
 use Rattle.check_envelope.specs.declared.report.Report.{Report}
-use Rattle.check_envelope.specs.Newer.{newestOf}
+use Rattle.check_newer.specs.Newer.{newestOf}
 use Rattle.check_envelope.specs.Report.{reportOf}
 use Rattle.check_envelope.proofs.EnvelopeLaws.{differ}
 use Rattle.run_admission.specs.declared.answer.Outcome.{Outcome}

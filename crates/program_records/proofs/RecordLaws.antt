@@ -22,12 +22,12 @@ use Rattle.rules.specs.ProgramFormat.{mark, JUMP, NONE, codeFrom, componentFrom
 use Rattle.rules.specs.ProgramTest.{need, opIn, groupAllows, recordIn}
 use Rattle.rules.proofs.BytesLaws.{num-2}
 use Rattle.rules.proofs.TableLaws.{listed-some, listed-none}
-use Rattle.program_records.specs.Entries.{nextIn}
-use Rattle.program_records.specs.Arguments.{accepted, allowsIn, targetFits}
-use Rattle.program_records.proofs.FormLaws.{op-code}
-use Rattle.program_records.proofs.ArgumentLaws.{row-allows, targeted}
+use Rattle.program_parameters.specs.Entries.{nextIn}
+use Rattle.program_arguments.specs.Arguments.{accepted, allowsIn, targetFits}
+use Rattle.program_arguments.proofs.FormLaws.{op-code}
+use Rattle.program_arguments.proofs.ArgumentLaws.{row-allows, targeted}
 use Rattle.program_records.specs.Records.{mark₁, mark₂, jumpFits, commandAt, recordAt}
-use Rattle.program_records.proofs.PartLaws.{part-drop, rest-at, same-2}
+use Rattle.program_parameters.proofs.PartLaws.{part-drop, rest-at, same-2}
 
 -- a command's answer is handed on
 handed : {B : Type 0} (o : Option Row) (f : Row → Bool) (t : Bool) (h : Row → Got Op) (u : Op → Bool) (k : Op → B) →

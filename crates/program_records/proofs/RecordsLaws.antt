@@ -16,9 +16,9 @@ use Rattle.rules.specs.Program.{Rec, does, jump}
 use Rattle.rules.specs.ProgramFormat.{JUMP, codeFrom, argumentFrom, recordSize}
 use Rattle.rules.specs.ProgramTest.{recordIn, recordsIn, nonJumps}
 use Rattle.rules.proofs.GotLaws.{after, after-more, after-none}
-use Rattle.program_records.specs.Entries.{nextIn}
+use Rattle.program_parameters.specs.Entries.{nextIn}
 use Rattle.program_records.specs.Records.{recordsAre}
-use Rattle.program_records.proofs.PartLaws.{rest-at}
+use Rattle.program_parameters.proofs.PartLaws.{rest-at}
 use Rattle.program_records.proofs.ReadRecord.{Kind, record-read}
 
 -- 1 for a record that is no jump, by its code

@@ -1,5 +1,3 @@
-// Records of commands in a program: the parameters and arguments that they may hold, and where they end.
-mod argument;
-pub mod parameters;
+// Records of commands in a program: whether each is well formed, and where it ends.
 mod record;
 pub mod records;

@@ -21,8 +21,8 @@ use Rattle.run_commands.specs.Op.{opOf, IsCode, SixteenAt}
 use Rattle.run_commands.proofs.LentLaws.{moves-step, lent-after}
 use Rattle.program_run.specs.declared.step.ProgramState.{ProgramState}
 use Rattle.program_run.specs.Step.{ArgumentAt, valueOf, GivenAs, OnwardJob, Onward, stateOf, ExecJob, Executed}
-use Rattle.program_run.proofs.FirstRecord.{numberAt, First, first-of}
-use Rattle.program_records.proofs.FormLaws.{op-code}
+use Rattle.program_jump.proofs.FirstRecord.{numberAt, First, first-of}
+use Rattle.program_arguments.proofs.FormLaws.{op-code}
 use Rattle.program_records.proofs.ReadRecord.{Commands}
 use Rattle.program_run.proofs.GivenLaws.{argument-sixteen}
 use Rattle.rules_theorems.proofs.RunLaws.{exec-does}

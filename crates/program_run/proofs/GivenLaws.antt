@@ -13,11 +13,11 @@ use Rattle.rules.proofs.TableLaws.{each-row, _&_}
 use Rattle.run_slots.specs.declared.params.Params as Words
 use Rattle.run_slots.specs.Params.{meaning}
 use Rattle.run_commands.specs.Op.{opOf, SixteenAt}
-use Rattle.program_records.specs.declared.parameters.Entries.{Entries}
-use Rattle.program_records.specs.Entries.{ParamsAre}
+use Rattle.program_parameters.specs.declared.Entries.{Entries}
+use Rattle.program_parameters.specs.Entries.{ParamsAre}
 use Rattle.program_run.specs.Step.{ArgumentAt, valueOf, GivenAs}
-use Rattle.program_records.proofs.FormLaws.{Reads, sixteen-is, nil-is, below-is, parameters-is, no-try, no-sub}
-use Rattle.program_records.proofs.PartLaws.{length-to}
+use Rattle.program_arguments.proofs.FormLaws.{Reads, sixteen-is, nil-is, below-is, parameters-is, no-try, no-sub}
+use Rattle.program_parameters.proofs.PartLaws.{length-to}
 
 -- by its code
 module _ (p : Bytes) (n code from to : ℕ) (x : ArgumentAt p n code from to) where

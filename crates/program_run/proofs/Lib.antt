@@ -1,6 +1,4 @@
-pub mod FirstRecord
 pub mod GivenLaws
-pub mod JumpLaws
 pub mod OnwardLaws
 pub mod ExecuteLaws
 pub mod StepLaws

@@ -17,9 +17,9 @@ use Rattle.rules.specs.ProgramTest.{nonJumps}
 use Rattle.rules.specs.Run.{on}
 use Rattle.rules.specs.Step.{Env, State, out}
 use Rattle.run_actions.specs.declared.Progress.{Progress}
-use Rattle.program_run.specs.Jump.{AdvanceJob, Advanced}
+use Rattle.program_jump.specs.Jump.{AdvanceJob, Advanced}
 use Rattle.program_run.specs.Step.{OnwardJob, Onward}
-use Rattle.program_run.proofs.JumpLaws.{exec-past, fewer}
+use Rattle.program_jump.proofs.JumpLaws.{exec-past, fewer}
 
 module _ (env : Env) (rs : List Rec) (n t : ℕ) where
   module _ (end : ℕ) (st : State) where

@@ -30,7 +30,7 @@ use Rattle.program_run.specs.Step.{StepJob, stateOf, startAt, Ran}
 use Rattle.rules.specs.Step.{out, eventBytes}
 use Rattle.rules_theorems.proofs.Effects.{program-effects}
 use Rattle.rules_theorems.proofs.ProgramFaults.{Only97, program97}
-use Rattle.run_slots.proofs.SearchLaws.{names-count}
+use Rattle.run_slot_search.proofs.SearchLaws.{names-count}
 
 module _ (p : Bytes) (t : Tested) (a : Known p t) where
   group : t .group ≡ a .program .group

@@ -13,7 +13,7 @@ use Rattle.rules.specs.Step.{Env, Out}
 use Rattle.run_commands.specs.Machine.{stateAt}
 use Rattle.program_run.specs.declared.step.ProgramState.{ProgramState}
 use Rattle.program_run.specs.Step.{stateOf, Ready, rest, StepJob, Stepped, startAt, Ran}
-use Rattle.program_run.proofs.FirstRecord.{none-left}
+use Rattle.program_jump.proofs.FirstRecord.{none-left}
 
 pub record Loop (p : Bytes) (components total : ℕ) (vendor class answers : Bytes) (env : Env) (group : Group) (whole : Out)
     (slots : Bytes) (memory : List ℕ) (trace : Bytes) (current : ProgramState) : Type 0 where

@@ -7,8 +7,8 @@ use Rattle.rules.specs.declared.answers.End.the-variants.{Finished}
 use Rattle.rules.specs.Answers.{endNumber}
 use Rattle.rules.specs.Bytes.{Bytes}
 use Rattle.program_run.specs.declared.step.ProgramState.{ProgramState}
-use Rattle.program_run.specs.declared.jump.RecordPlace.{RecordPlace}
-use Rattle.program_run.specs.Jump.{LandJob, Landed}
+use Rattle.program_jump.specs.declared.RecordPlace.{RecordPlace}
+use Rattle.program_jump.specs.Jump.{LandJob, Landed}
 use Rattle.program_run.specs.Step.{Ready, ExecJob, Executed, StepJob, Stepped}
 
 module _ (p : Bytes) (components total : ℕ) (current : ProgramState) (vendor class answers slots : Bytes) (memory : List ℕ) (trace : Bytes)

@@ -1,4 +1,3 @@
-pub mod Jump
 pub mod Step
 pub mod Known
 pub mod Program

@@ -25,7 +25,7 @@ use Rattle.run_commands.specs.Op.{opOf}
 use Rattle.rules.specs.Lent.{Lent, was, left}
 use Rattle.program_run.specs.declared.step.ProgramState.{ProgramState}
 use Rattle.program_run.specs.declared.step.Extent.{Extent}
-use Rattle.program_run.specs.Jump.{RecordsAt}
+use Rattle.program_jump.specs.Jump.{RecordsAt}
 
 -- the argument of a command, as the program test read it
 pub record ArgumentAt (p : Bytes) (components code from to : ℕ) : Type 0 where

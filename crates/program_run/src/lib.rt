@@ -16,7 +16,6 @@ use run_admission::ending::number_after;
 use step::Extent;
 use step::run_records;
 
-mod jump;
 mod step;
 
 // The run of a program that the test has accepted, by what the test found.

@@ -2,11 +2,11 @@
 ghost use mathlib.Core.Path.{_≡_};
 ghost use Rattle.rules.specs.Lent.{was};
 ghost use Rattle.program_run.specs.Step.{ArgumentAt, GivenAs, valueOf, OnwardJob, Onward, ExecJob, Executes, StepAsked, Steps, startAt, RecordsRun};
-use crate::jump::advance;
-use crate::jump::land;
 use byte_buffer::two;
 use byte_buffer::wide;
-use program_records::parameters::read_params;
+use program_jump::advance;
+use program_jump::land;
+use program_parameters::read_params;
 use rules::answers::End;
 use rules::codes;
 use rules::controller::Memory;

@@ -13,7 +13,7 @@ use Rattle.rules.specs.Program.{Program}
 use Rattle.rules.specs.ProgramFormat.{START, groupFrom, componentsFrom, recordsFrom, startSize, lengthFrom, nameSize}
 use Rattle.rules.specs.ProgramTest.{marked, idsIn, recordsIn, nonJumps}
 use Rattle.run_slots.specs.Slot.{namesAt}
-use Rattle.program_records.specs.Entries.{nextIn}
+use Rattle.program_parameters.specs.Entries.{nextIn}
 use Rattle.program_test.specs.declared.test.Tested.{Tested}
 
 -- 'Per component: mark, FD, length 1, identifier': the place after the one at `at`

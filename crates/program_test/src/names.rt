@@ -5,7 +5,7 @@ ghost use lib.ListN.{length, drop, replicate};
 ghost use Rattle.rules.specs.Lent.{was, left};
 ghost use Rattle.rules.specs.Limits.{limits, places};
 ghost use Rattle.rules.specs.ProgramTest as Rule;
-ghost use Rattle.program_records.specs.Entries.{nextIn};
+ghost use Rattle.program_parameters.specs.Entries.{nextIn};
 ghost use Rattle.program_test.specs.Test.{NamesAre};
 use byte_buffer::wide;
 use rules::controller::Controller;

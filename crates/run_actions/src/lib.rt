@@ -1,8 +1,7 @@
-// What a command does, its event aside: the conditions, and the commands that fill slots.
+// How far a run is, and the conditions, their events aside.
 ghost use mathlib.Core.Path.{_≡_};
 
 pub mod conditions;
-pub mod images;
 
 // How far a run is: events written, answers used, and the number of the end of what was done last, 0 to go on.
 pub struct Progress {

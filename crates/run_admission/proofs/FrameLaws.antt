@@ -23,7 +23,7 @@ use Rattle.rules.proofs.GotLaws.{passed}
 use Rattle.run_slots.specs.Slot.{Holds, Found}
 use Rattle.run_slots.specs.Params.{Unset}
 use Rattle.run_slots.proofs.ParamsLaws.{zeros, params-start, fit-start}
-use Rattle.run_slots.proofs.SearchLaws.{good-some}
+use Rattle.run_slot_search.proofs.SearchLaws.{good-some}
 use Rattle.run_actions.specs.Action.{AllHold}
 use Rattle.run_commands.specs.Machine.{stateAt, Lends}
 use Rattle.run_admission.specs.declared.answer.Answer.the-variants as The

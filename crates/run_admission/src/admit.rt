@@ -8,8 +8,8 @@ use rules::controller::Controller;
 use rules::controller::Memory;
 use rules::controller::Places;
 use rules::slot_format::IMAGE_BYTES;
-use run_slots::search::find_slots;
-use run_slots::whole::good_slots;
+use run_slot_search::search::find_slots;
+use run_slot_search::whole::good_slots;
 
 // 81: no install while an event is open.
 fn may_start(group: Group, device: Controller) -> bool

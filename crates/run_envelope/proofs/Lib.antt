@@ -1,2 +1,1 @@
-pub mod SectionsLaws
 pub mod OutcomeLaws

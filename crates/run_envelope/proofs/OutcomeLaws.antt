@@ -25,7 +25,7 @@ use Rattle.run_sequence.specs.declared.Run.{Run}
 use Rattle.run_slots.specs.Slot.{namesAt, Found}
 use Rattle.run_admission.specs.Answer.{refusalIn, endingOf, Settles}
 use Rattle.run_sequence.specs.Cycle.{outOf}
-use Rattle.run_envelope.specs.Sections.{SectionsJob, SectionsRan}
+use Rattle.run_sections.specs.Sections.{SectionsJob, SectionsRan}
 use Rattle.manifest_accessors.specs.Accepted.{Accepted}
 use Rattle.manifest_accessors.proofs.AcceptedLaws.{known, named, refused-by}
 use Rattle.run_admission.proofs.FrameLaws.{trace-room, lent-start, state-start, settles-refused}

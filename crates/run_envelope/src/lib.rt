@@ -16,9 +16,7 @@ use run_admission::answer::Outcome;
 use run_admission::answer::refused;
 use run_admission::ending::ended;
 use run_admission::ending::number_after;
-use sections::run_sections;
-
-mod sections;
+use run_sections::run_sections;
 
 // The run of an envelope that check has accepted, by what check reported.
 fn run_checked(

@@ -2,4 +2,3 @@ pub mod GoodSlot
 pub mod ImageLaws
 pub mod NumbersLaws
 pub mod ParamsLaws
-pub mod SearchLaws

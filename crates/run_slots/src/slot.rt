@@ -32,7 +32,7 @@ pub fn size(slots: &[u8], k: usize) -> usize
 }
 
 // 85, of one slot.
-pub(crate) fn good_slot(slots: &[u8], k: usize) -> bool
+pub fn good_slot(slots: &[u8], k: usize) -> bool
     requires { ⌜ Holds (now slots) k ⌝ }
     ensures { λ r. ⌜ r ≡ goodSlot (slotAt (was slots) k) ⌝ }
 {

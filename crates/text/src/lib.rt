@@ -7,8 +7,6 @@ ghost use Rattle.rules.specs.Lent.{was};
 ghost use Rattle.text.specs.Text.{Writes, decimal, padded, hex, quoted};
 ghost use Rattle.text.specs.Text.{digits as Text·digits, digit as Text·digit, least as Text·least, printable as Text·printable};
 
-pub mod pieces;
-
 // A decimal number of 64 bits.
 const DIGITS: usize = 20;
 

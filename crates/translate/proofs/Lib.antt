@@ -1,5 +1,4 @@
 pub mod PlanLaws
-pub mod NameLaws
 pub mod SectionLaws
 pub mod TranslateLaws
 pub mod TranslatedLaws

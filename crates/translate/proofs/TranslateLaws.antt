@@ -21,7 +21,7 @@ use Rattle.rules.specs.Program.{idBytes, flatAll, programOf, programBytes, tran
 use Rattle.rules_theorems.proofs.RoundTrip.{GoodIds}
 use Rattle.rules_theorems.proofs.FlatLaws.{well-formed, program-size, length-all}
 use Rattle.run_slots.specs.Slot.{namesAt}
-use Rattle.run_slots.proofs.SearchLaws.{name-at, names-count}
+use Rattle.run_slot_search.proofs.SearchLaws.{name-at, names-count}
 use Rattle.manifest_accessors.specs.Accepted.{Accepted}
 use Rattle.manifest_accessors.proofs.AcceptedLaws.{known, envelope-short, inside, named}
 use Rattle.translate_size.specs.declared.sizes.Size.{Size}
@@ -29,7 +29,7 @@ use Rattle.translate.specs.declared.Translated.the-variants.{Refused, Pr
 use Rattle.translate_size.specs.Size.{most}
 use Rattle.translate_record.specs.Record.{written, Filled}
 use Rattle.translate.specs.Sections.{SectionsHere, SectionsSized, SectionsJob}
-use Rattle.translate.specs.Start.{startBytes}
+use Rattle.translate_start.specs.Start.{startBytes}
 use Rattle.translate.specs.Translate.{Translates}
 use Rattle.rules.proofs.BytesLaws.{length-part}
 use Rattle.byte_buffer.proofs.PutLaws.{put-append}

@@ -1,4 +1,2 @@
-pub mod Start
-pub mod Names
 pub mod Sections
 pub mod Translate

@@ -6,8 +6,6 @@ ghost use Rattle.manifest_accessors.specs.Accepted.{Accepted};
 ghost use Rattle.translate.specs.Translate.{Translates};
 use check_envelope::check;
 use check_envelope::report::Checked;
-use names::size_names;
-use names::write_names;
 use rules::answers::Group;
 use rules::answers::Refusal;
 use rules::controller::Places;
@@ -17,12 +15,11 @@ use rules::program_format::START_BYTES;
 use rules_tables::tables;
 use sections::size_sections;
 use sections::write_sections;
-use start::put_start;
+use translate_start::names::size_names;
+use translate_start::names::write_names;
+use translate_start::start::put_start;
 
-mod names;
 mod sections;
-mod start;
-
 // A refusal with its place, or how long the program is.
 pub enum Translated {
     Refused(Refusal, usize),

@@ -3,9 +3,9 @@ use borrow.Author.Needs.{needs}
 use Prim.Native.Nat.{_-_, _≤_}
 use native.Mathlib.Omega.{arith}
 use Rattle.text.specs.Text.{Wrote}
-use Rattle.text.specs.Pieces.{lines}
+use Rattle.text_pieces.specs.Pieces.{lines}
 use Rattle.text.proofs.TextLaws.{wrote-length}
-use Rattle.text.proofs.PieceLaws.{lines-none, lines-next, lines-all}
+use Rattle.text_pieces.proofs.PieceLaws.{lines-none, lines-next, lines-all}
 use Rattle.conformance_lines.specs.Lines.{placeText, placesText}
 use Rattle.conformance_lines.proofs.put_places.Statement.{statement}
 use Rattle.conformance_lines.proofs.put_places.Tie as tie

@@ -3,8 +3,8 @@ use Prim.Native.Nat.{_-_, _≤_}
 use native.Mathlib.Omega.{arith}
 use Rattle.text.specs.Text.{Wrote}
 use Rattle.text.proofs.TextLaws.{wrote-length}
-use Rattle.text.specs.Pieces.{lines}
-use Rattle.text.proofs.PieceLaws.{lines-none, lines-next, lines-all}
+use Rattle.text_pieces.specs.Pieces.{lines}
+use Rattle.text_pieces.proofs.PieceLaws.{lines-none, lines-next, lines-all}
 use Rattle.depot_outcome.specs.Outcome.{slotText, slotsText}
 use Rattle.depot_outcome.proofs.put_slots.Statement.{statement}
 use Rattle.depot_outcome.proofs.put_slots.Tie as tie

@@ -1,5 +1,5 @@
 use borrow.Author.Needs.{needs}
-use Rattle.text.proofs.PieceLaws.{part-end}
+use Rattle.text_pieces.proofs.PieceLaws.{part-end}
 use Rattle.depot_refusals.specs.Refusals.{shown}
 use native.Mathlib.Omega.{arith}
 use Prim.Native.Nat.{_+_}

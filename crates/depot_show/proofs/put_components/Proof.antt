@@ -1,7 +1,7 @@
 use Prim.Native.Nat.{_-_, _≤_}
 use Rattle.text.specs.Text.{Wrote}
 use Rattle.text.proofs.TextLaws.{wrote-length}
-use Rattle.text.proofs.PieceLaws.{lines-none, lines-next, lines-all}
+use Rattle.text_pieces.proofs.PieceLaws.{lines-none, lines-next, lines-all}
 use Rattle.depot_show.specs.Manifest.{componentsText}
 use borrow.Author.Needs.{needs}
 use Rattle.depot_show.proofs.put_components.Statement.{statement}

@@ -1,9 +1,9 @@
 use Prim.Native.Nat.{_-_, _≤_}
 use Rattle.rules.specs.Limits.{sectionCount}
 use Rattle.text.specs.Text.{Wrote}
-use Rattle.text.specs.Pieces.{lines}
+use Rattle.text_pieces.specs.Pieces.{lines}
 use Rattle.text.proofs.TextLaws.{wrote-length}
-use Rattle.text.proofs.PieceLaws.{lines-none, lines-next, lines-all}
+use Rattle.text_pieces.proofs.PieceLaws.{lines-none, lines-next, lines-all}
 use Rattle.depot_show.specs.Manifest.{sectionAt, sectionsText}
 use borrow.Author.Needs.{needs}
 use Rattle.depot_show.proofs.put_sections.Statement.{statement}

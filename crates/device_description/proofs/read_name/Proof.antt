@@ -3,7 +3,7 @@ use mathlib.Core.Bool.{true}
 use borrow.Author.Needs.{needs}
 use Rattle.rules.specs.Limits.{limits}
 use Rattle.device_text.specs.Words as Words
-use Rattle.device_text.proofs.LengthLaws.{sixteen-all}
+use Rattle.device_slots.proofs.LengthLaws.{sixteen-all}
 use Rattle.device_description.proofs.read_name.Statement.{statement}
 use Rattle.device_description.proofs.read_name.Tie as tie
 

@@ -1,6 +1,6 @@
 use borrow.Author.Needs.{needs}
 use borrow.Author.Tests.{not-true, not-false}
-use Rattle.run_slots.proofs.SearchLaws.{good-short}
+use Rattle.run_slot_search.proofs.SearchLaws.{good-short}
 use Rattle.rules.proofs.GotLaws.{holds, fails}
 use Rattle.run_admission.proofs.AdmitLaws.{no-verdict, no-start, wrong-number, bad-slots, no-slot, bad-answers, short-trace, admitted}
 use Rattle.run_admission.proofs.admit.admit.Statement.{statement}

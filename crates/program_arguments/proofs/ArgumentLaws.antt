@@ -1,0 +1,135 @@
+-- What a record of a command may hold, by its row of the command table.
+use Prim.Native.Nat.{ℕ, _-_, _≤_, _<_}
+use mathlib.Core.Path.{_≡_, refl, sym, ap, _∙_}
+use mathlib.Core.List.{[], _∷_}
+use mathlib.Core.Bool.{Bool, true, false, not, _&&_, _||_}
+use mathlib.Core.Option.{some}
+use native.Mathlib.Omega.{arith}
+use lib.Dec.{eqb, ltb, leb}
+use lib.ListN.{length}
+use borrow.Author.Tests.{eq-eqb, ne-eqb, le-ltb, lt-ltb, eqb-true, eqb-false, not-true, not-false}
+use Rattle.rules.specs.declared.answers.Group.{Group}
+use Rattle.rules.specs.declared.answers.Group.the-variants.{Install, Boot}
+use Rattle.rules.specs.declared.tables.Argument.{Argument}
+use Rattle.rules.specs.declared.tables.Argument.the-variants.{Sixteen, Nil, Index, Alternatives, Parameters, Sequence}
+use Rattle.rules.specs.Bytes.{Bytes, part, same}
+use Rattle.rules.specs.Commands.{Op, Params, isCondition, Form, sixteen, nil, below, alternatives, parameters, sequence, Row, rowOf, commands}
+use Rattle.rules.specs.Tables.{kindOf, setOf}
+use Rattle.rules.specs.Limits.{limits}
+use Rattle.rules.specs.Got.{Got, refused, got}
+use Rattle.rules.specs.Program.{targetOf}
+use Rattle.rules.specs.ProgramFormat.{NONE}
+use Rattle.rules.specs.ProgramTest.{paramsIn, opIn, groupAllows}
+use Rattle.rules.proofs.TableLaws.{rows-agree}
+use Rattle.program_parameters.specs.declared.Entries.{Entries}
+use Rattle.program_parameters.specs.Entries.{ParamsAre}
+use Rattle.program_arguments.specs.Arguments.{accepted, allowsIn, targetFits}
+use Rattle.program_parameters.proofs.PartLaws.{length-to}
+
+-- the test by numbers is the rule's, for each row of the table
+pub row-allows : (c : ℕ) (row : Row) (g : Group) → rowOf c commands ≡ some row → allowsIn g (setOf (row .allowed)) ≡ groupAllows g (row .allowed)
+row-allows c row Install r = rows-agree (λ x. allowsIn Install (setOf (x .allowed))) (λ x. groupAllows Install (x .allowed)) c row refl r
+row-allows c row Boot r = rows-agree (λ x. allowsIn Boot (setOf (x .allowed))) (λ x. groupAllows Boot (x .allowed)) c row refl r
+
+module _ (b : Bool) (target n total : ℕ) where
+  pub no-target : target ≡ NONE → true ≡ targetFits b target n total
+  no-target h = rw (eq-eqb target NONE h)
+
+  module _ (h : target ≡ NONE → ⊥) where
+    pub not-condition : not b ≡ true → false ≡ targetFits b target n total
+    not-condition l = rw (ne-eqb target NONE h, not-true b l)
+
+    pub not-forward : not b ≡ false → target ≤ n → false ≡ targetFits b target n total
+    not-forward l u = rw (ne-eqb target NONE h, not-false b l, le-ltb n target u)
+
+    pub forward : not b ≡ false → n < target → leb target total ≡ targetFits b target n total
+    forward l u = rw (ne-eqb target NONE h, not-false b l, lt-ltb n target u)
+
+-- the rule's test of a target, by the table's column
+pub targeted : (op : Op) (b : Bool) (target n total : ℕ) → isCondition op ≡ b →
+    targetFits b target n total ≡ (eqb target NONE || eqb (targetOf op target) target && (ltb n target && leb target total))
+targeted op true target n total e = rw (e, eq-eqb target target refl)
+targeted op false target n total e = go (eqb target NONE) refl
+  where
+    go : (x : Bool) → eqb target NONE ≡ x → targetFits false target n total ≡ (eqb target NONE || eqb (targetOf op target) target && (ltb n target && leb target total))
+    go true q = rw (q)
+    go false q = rw (e, q, ne-eqb NONE target (λ z. eqb-false target NONE q (sym z)))
+
+-- the test of an argument of each kind; a record has no alternatives and no sequence
+abbrev tested : ℕ → Bytes → Argument → Bool
+tested n q Sixteen = eqb (length q) (limits .class)
+tested n q Nil = same q []
+tested n q Index = same q []
+tested n q Alternatives = false
+tested n q Parameters = accepted (paramsIn n q)
+tested n q Sequence = false
+
+module _ (n i : ℕ) (q : Bytes) where
+  form-tested : (f : Form) → tested n q (kindOf f) ≡ accepted (opIn n i f q)
+  unfolding opIn
+  form-tested (sixteen op) = go (eqb (length q) (limits .class)) refl
+    where
+      go : (b : Bool) → eqb (length q) (limits .class) ≡ b → b ≡ accepted (opIn n i (sixteen op) q)
+      go true e = rw e
+      go false e = rw e
+  form-tested (nil op) = go (same q []) refl
+    where
+      go : (b : Bool) → same q [] ≡ b → b ≡ accepted (opIn n i (nil op) q)
+      go true e = rw e
+      go false e = rw e
+  form-tested (below op) = go (same q []) refl
+    where
+      go : (b : Bool) → same q [] ≡ b → b ≡ accepted (opIn n i (below op) q)
+      go true e = rw e
+      go false e = rw e
+  form-tested alternatives = refl
+  form-tested (parameters op) = go (paramsIn n q) refl
+    where
+      go : (x : Got Params) → paramsIn n q ≡ x → accepted x ≡ accepted (opIn n i (parameters op) q)
+      go (refused r p) e = rw e
+      go (got a) e = rw e
+  form-tested sequence = refl
+
+  kind-tested : (f : Form) (k : Argument) (b : Bool) → kindOf f ≡ k → b ≡ tested n q k → b ≡ accepted (opIn n i f q)
+  kind-tested f k b e t = t ∙ (rw (← e) (form-tested f))
+
+empty : (q : Bytes) → same q [] ≡ eqb (length q) 0
+empty [] = refl
+empty (x ∷ q) = sym (ne-eqb (length (x ∷ q)) 0 (λ e. omega arith))
+
+good-is : (p : Bytes) (n from to : ℕ) (x : Got Params) (e : Entries) → ParamsAre p n from to x e → e .good ≡ accepted x
+good-is p n from to (refused r q) e h = ap (λ (y : Entries). y .good) h
+good-is p n from to (got a) e h = ap (λ (y : Entries). y .good) (h .0)
+
+-- by places
+module _ (p : Bytes) (from to n : ℕ) (pre : (0 < from) × (from ≤ to) × (to ≤ length p)) (k : Argument) where
+  size : length (part p from (to - from)) ≡ to - from
+  size = length-to p from to (pre .1) (pre .2)
+
+  abbrev pub Right : Bool → Type 0
+  Right b = (f : Form) (i : ℕ) → kindOf f ≡ k → b ≡ accepted (opIn n i f (part p from (to - from)))
+
+  pub sixteen-right : k ≡ Sixteen → Right (eqb (to - from) (limits .class))
+  sixteen-right h f i e = kind-tested n i _ f k _ e (rw (h, size))
+
+  none-right : tested n (part p from (to - from)) k ≡ same (part p from (to - from)) [] → Right (eqb to from)
+  none-right h f i e = kind-tested n i _ f k _ e (go (eqb to from) refl ∙ (rw (h, empty (part p from (to - from)), size)))
+    where
+      go : (b : Bool) → eqb to from ≡ b → b ≡ eqb (to - from) 0
+      go true q = sym (eq-eqb (to - from) 0 (omega (arith, eqb-true to from q)))
+      go false q = sym (ne-eqb (to - from) 0 (λ z. eqb-false to from q (omega arith)))
+
+  pub nil-right : k ≡ Nil → Right (eqb to from)
+  nil-right h = none-right (rw h)
+
+  pub index-right : k ≡ Index → Right (eqb to from)
+  index-right h = none-right (rw h)
+
+  pub parameters-right : k ≡ Parameters → (e : Entries) → ParamsAre p n from to (paramsIn n (part p from (to - from))) e → Right (e .good)
+  parameters-right h g w f i e = kind-tested n i _ f k _ e (rw h (good-is p n from to (paramsIn n (part p from (to - from))) g w))
+
+  pub alternatives-right : k ≡ Alternatives → Right false
+  alternatives-right h f i e = kind-tested n i _ f k _ e (rw h)
+
+  pub sequence-right : k ≡ Sequence → Right false
+  sequence-right h f i e = kind-tested n i _ f k _ e (rw h)

@@ -1,0 +1,70 @@
+// What a record of a command may hold.
+ghost use mathlib.Core.Path.{_≡_};
+ghost use Prim.Native.Nat.{ℕ, _-_, _≤_, _<_};
+ghost use lib.ListN.{length};
+ghost use Rattle.rules.specs.Lent.{was};
+ghost use Rattle.rules.specs.Bytes.{part};
+ghost use Rattle.rules.specs.Commands.{Form};
+ghost use Rattle.rules.specs.Tables.{kindOf};
+ghost use Rattle.rules.specs.ProgramTest as Rule;
+ghost use Rattle.program_arguments.specs.Arguments.{accepted, allowsIn, targetFits};
+use program_parameters::read_params;
+use rules::answers::Group;
+use rules::controller::Controller;
+use rules::program_format::NO_TARGET;
+use rules::tables::Argument;
+use rules_tables::COMMON;
+use rules_tables::INSTALL;
+use rules_tables::LOAD;
+use rules_tables::PAYLOAD_FETCH;
+use rules_tables::RUN;
+use rules_tables::VALIDATE;
+
+// The sections of each group, as a set.
+const INSTALL_SECTIONS: u8 = COMMON + PAYLOAD_FETCH + INSTALL;
+
+const BOOT_SECTIONS: u8 = COMMON + VALIDATE + LOAD + RUN;
+
+// Whether the bytes from `from` to `to` are an argument of that kind, for n components.
+pub fn argument_fits(p: &[u8], argument: Argument, from: usize, to: usize, n: usize) -> bool
+    requires { ⌜ (0 < from) × (from ≤ to) × (to ≤ length (now p)) ⌝ }
+    ensures { λ r. ⌜ ((form : Form) (i : ℕ) → kindOf form ≡ argument → r ≡ accepted (Rule.opIn n i form (part (was p) from (to - from)))) ⌝ }
+{
+    match argument {
+        Argument::Sixteen => to - from == Controller::CLASS_BYTES,
+        Argument::Nil => to == from,
+        Argument::Index => to == from,
+        Argument::Parameters => {
+            let e = read_params(p, from, to, n);
+            e.good
+        }
+        Argument::Alternatives => false,
+        Argument::Sequence => false,
+    }
+}
+
+// Whether a command that is allowed in the set of sections may stand in a program of the group.
+pub fn allows(sections: u8, group: Group) -> bool
+    ensures { λ r. ⌜ r ≡ allowsIn group sections ⌝ }
+{
+    match group {
+        Group::Install => sections & INSTALL_SECTIONS != 0,
+        Group::Boot => sections & BOOT_SECTIONS != 0,
+    }
+}
+
+// Whether record n of `total`, which is a condition or not, may have the target.
+pub fn target_fits(condition: bool, target: usize, n: usize, total: usize) -> bool
+    ensures { λ r. ⌜ r ≡ targetFits condition target n total ⌝ }
+{
+    if target == NO_TARGET {
+        return true;
+    }
+    if !condition {
+        return false;
+    }
+    if target <= n {
+        return false;
+    }
+    target <= total
+}

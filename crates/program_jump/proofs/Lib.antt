@@ -1,0 +1,2 @@
+pub mod FirstRecord
+pub mod JumpLaws

@@ -1,0 +1,221 @@
+-- The parameters of a command, by the places where the reading of each ended.
+use Prim.Native.Nat.{ℕ, suc, _+_, _-_, _≤_, _<_}
+use mathlib.Core.Path.{_≡_, refl, ap, _∙_}
+use mathlib.Core.List.{[], _∷_}
+use mathlib.Core.Bool.{Bool, true, false, _&&_, cond}
+use mathlib.Core.Option.{Option, some, none, Option·map}
+use native.Mathlib.Omega.{arith}
+use lib.Dec.{eqb, leb}
+use lib.ListN.{length}
+use borrow.Author.Tests.{ne-eqb, lt-ltb, le-ltb, eqb-true, eqb-false}
+use Rattle.rules.specs.Limits.{limits}
+use Rattle.rules.specs.Bytes.{Bytes, part, num, same}
+use Rattle.rules.specs.Commands as Rules
+use Rattle.rules.specs.Got.{Got, refused, got, _>>=_}
+use Rattle.rules.specs.ProgramFormat.{entrySize, sourceBytes, sizeBytes}
+use Rattle.rules.specs.ProgramTest.{bad, need, optional, isBelow, paramsIn}
+use Rattle.run_slots.specs.Params.{meaning}
+use Rattle.run_slots.specs.Params as Words
+use Rattle.program_parameters.specs.declared.Entries.{Entries}
+use Rattle.program_parameters.specs.Entries.{nextIn, valueIn, placeIn, lengthIn, sourceIn, sizeIn, noEntries, entriesAt, endAt, uriEnd, sourceEnd, digestEnd, ParamsAre}
+use Rattle.program_parameters.proofs.PartLaws.{part-none, part-cons}
+use Rattle.program_parameters.proofs.EntryLaws.{reading, Step, was-bad, was-step}
+
+-- what is made of a parameter's bytes does not change how they are read
+abbrev made : {A : Type 0} → (Bytes → A) → Got (Option Bytes × Bytes) → Got (Option A × Bytes)
+made f (refused r p) = refused r p
+made f (got a) = got (Option·map f (a .0), a .1)
+
+by-bytes : {A : Type 0} (k lo hi : ℕ) (f : Bytes → A) (q : Bytes) → optional k lo hi f q ≡ made f (optional k lo hi (λ b. b) q)
+unfolding optional
+by-bytes k lo hi f [] = refl
+by-bytes k lo hi f (x ∷ []) = go (eqb x k) refl
+  where
+    go : (b : Bool) → eqb x k ≡ b → optional k lo hi f (x ∷ []) ≡ made f (optional k lo hi (λ b. b) (x ∷ []))
+    go true e = rw (e, optional)
+    go false e = rw (e, optional)
+by-bytes k lo hi f (x ∷ n ∷ q) = go (eqb x k) (leb lo n && leb n hi && leb n (length q)) refl refl
+  where
+    go : (b t : Bool) → eqb x k ≡ b → (leb lo n && leb n hi && leb n (length q)) ≡ t → optional k lo hi f (x ∷ n ∷ q) ≡ made f (optional k lo hi (λ b. b) (x ∷ n ∷ q))
+    go true true e h = rw (e, optional, h)
+    go true false e h = rw (e, optional, h)
+    go false t e h = rw (e, optional)
+
+-- the parameters that stand one after the other from `from` to d
+abbrev given : Bytes → ℕ → ℕ → ℕ → ℕ → ℕ → Rules.Params
+given p from a b c d =
+    record { uri = valueIn p from a; source = Option·map num (valueIn p a b); digest = valueIn p b c; size = Option·map num (valueIn p c d) }
+
+module _ (p : Bytes) (n from to : ℕ) where
+  abbrev answer : Got Rules.Params
+  answer = paramsIn n (part p from (to - from))
+
+  params-1 : reading p from to 6 1 (limits .uri) ≡ bad → answer ≡ bad
+  unfolding paramsIn
+  params-1 q = rw q
+
+  module _ (a : ℕ) (x : Step p from to 6 1 (limits .uri) a) where
+    params-2 : reading p a to 10 sourceBytes sourceBytes ≡ bad → answer ≡ bad
+    unfolding paramsIn
+    params-2 q = rw (x .reads, by-bytes 10 sourceBytes sourceBytes num, q)
+
+    module _ (b : ℕ) (y : Step p a to 10 sourceBytes sourceBytes b) where
+      params-3 : reading p b to 11 (limits .digest) (limits .digest) ≡ bad → answer ≡ bad
+      unfolding paramsIn
+      params-3 q = rw (x .reads, by-bytes 10 sourceBytes sourceBytes num, y .reads, q)
+
+      module _ (c : ℕ) (z : Step p b to 11 (limits .digest) (limits .digest) c) where
+        params-4 : reading p c to 12 sizeBytes sizeBytes ≡ bad → answer ≡ bad
+        unfolding paramsIn
+        params-4 q = rw (x .reads, by-bytes 10 sourceBytes sourceBytes num, y .reads, z .reads, by-bytes 12 sizeBytes sizeBytes num, q)
+
+        params-5 : (d : ℕ) → Step p c to 12 sizeBytes sizeBytes d →
+            answer ≡ (need (same (part p d (to - d)) []) >>= λ _. need (isBelow (Option·map num (valueIn p a b)) n) >>= λ _. got (given p from a b c d))
+        unfolding paramsIn
+        params-5 d w = rw (x .reads, by-bytes 10 sourceBytes sourceBytes num, y .reads, z .reads, by-bytes 12 sizeBytes sizeBytes num, w .reads)
+
+-- the numbers of a parameter mean its value
+module _ (p : Bytes) (at r : ℕ) where
+  uri-is : Words.optional (placeIn at r) (part p (placeIn at r) (lengthIn at r)) ≡ valueIn p at r
+  uri-is = go (eqb at r)
+    where
+      go : (b : Bool) → Words.optional (cond b 0 (at + entrySize)) (part p (cond b 0 (at + entrySize)) (cond b 0 (r - at - entrySize))) ≡ cond b none
+          (some (part p (at + entrySize) (r - at - entrySize)))
+      go true = refl
+      go false = rw (ne-eqb (at + entrySize) 0 (λ e. omega arith))
+
+  module _ (w : ℕ) (fixed : (at ≡ r → ⊥) → (at + entrySize + w ≤ r) × (r ≤ at + entrySize + w)) where
+    width : (at ≡ r → ⊥) → r - at - entrySize ≡ w
+    width h = let (x, y) = fixed h in omega arith
+
+    number-is : Words.optional (cond (eqb at r) 0 (num (part p (at + entrySize) w) + 1)) (cond (eqb at r) 0 (num (part p (at + entrySize) w) + 1) - 1) ≡ Option·map num (valueIn p at r)
+    number-is = go (eqb at r) refl
+      where
+        go : (b : Bool) → eqb at r ≡ b → Words.optional (cond b 0 (num (part p (at + entrySize) w) + 1)) (cond b 0 (num (part p (at + entrySize) w) + 1) - 1) ≡ Option·map
+            num (cond b none (some (part p (at + entrySize) (r - at - entrySize))))
+        go true e = refl
+        go false e =
+            let s : num (part p (at + entrySize) w) + 1 - 1 ≡ num (part p (at + entrySize) w) = omega arith in
+            rw (ne-eqb (num (part p (at + entrySize) w) + 1) 0 (λ z. omega arith), s, width (eqb-false at r e))
+
+    string-is : Words.optional (placeIn at r) (part p (placeIn at r) w) ≡ valueIn p at r
+    string-is = go (eqb at r) refl
+      where
+        go : (b : Bool) → eqb at r ≡ b → Words.optional (cond b 0 (at + entrySize)) (part p (cond b 0 (at + entrySize)) w) ≡ cond b none (some (part p (at + entrySize) (r - at - entrySize)))
+        go true e = refl
+        go false e = rw (ne-eqb (at + entrySize) 0 (λ z. omega arith), width (eqb-false at r e))
+
+    string-fits : (to : ℕ) → r ≤ to → to ≤ length p → 0 < placeIn at r → placeIn at r + w ≤ length p
+    string-fits to h l = go (eqb at r) refl
+      where
+        go : (b : Bool) → eqb at r ≡ b → 0 < cond b 0 (at + entrySize) → cond b 0 (at + entrySize) + w ≤ length p
+        go true e z = absurd (omega arith)
+        go false e z = let (x, y) = fixed (eqb-false at r e) in omega arith
+
+    below : (n : ℕ) → cond (eqb at r) 0 (num (part p (at + entrySize) w) + 1) ≤ n → isBelow (Option·map num (valueIn p at r)) n ≡ true
+    below n = go (eqb at r) refl
+      where
+        go : (b : Bool) → eqb at r ≡ b → cond b 0 (num (part p (at + entrySize) w) + 1) ≤ n → isBelow (Option·map num (cond b none (some (part p (at + entrySize) (r - at - entrySize))))) n ≡ true
+        go true e h = refl
+        go false e h = rw (width (eqb-false at r e)) (lt-ltb _ n (omega arith))
+
+    not-below : (n : ℕ) → n < cond (eqb at r) 0 (num (part p (at + entrySize) w) + 1) → isBelow (Option·map num (valueIn p at r)) n ≡ false
+    not-below n = go (eqb at r) refl
+      where
+        go : (b : Bool) → eqb at r ≡ b → n < cond b 0 (num (part p (at + entrySize) w) + 1) → isBelow (Option·map num (cond b none (some (part p (at + entrySize) (r - at - entrySize))))) n ≡ false
+        go true e h = absurd (omega arith)
+        go false e h = rw (width (eqb-false at r e)) (le-ltb _ n (omega arith))
+
+refuses : (p : Bytes) (n from to : ℕ) (x : Got Rules.Params) (e : Entries) → x ≡ bad → e ≡ noEntries → ParamsAre p n from to x e
+refuses p n from to x e q g = rw q g
+
+not-empty : (p : Bytes) (d to : ℕ) → d < to → to ≤ length p → same (part p d (to - d)) [] ≡ false
+not-empty p d to h l =
+    let e : to - d ≡ suc (to - d - 1) = omega arith in
+    rw (e, part-cons p d (to - d - 1) (omega arith))
+
+module _ (p : Bytes) (n from to : ℕ) (pre : (0 < from) × (from ≤ to) × (to ≤ length p)) (a : ℕ) (qa : a ≡ nextIn to (reading p from to 6 1 (limits .uri))) where
+  pub no-uri : a ≡ 0 → (e : Entries) → e ≡ noEntries → ParamsAre p n from to (answer p n from to) e
+  no-uri z e g = refuses p n from to _ e (params-1 p n from to (was-bad p from to 6 1 (limits .uri) (pre .1) (pre .2) a (pre .0) qa z)) g
+
+  module _ (ha : a ≡ 0 → ⊥) where
+    pub uri-step : Step p from to 6 1 (limits .uri) a
+    uri-step = was-step p from to 6 1 (limits .uri) (pre .1) (pre .2) a (pre .0) qa ha
+
+    pub source-pre : (0 < a) × (a ≤ to) × (to ≤ length p)
+    source-pre = (omega (arith, ha), uri-step .fits, pre .2)
+
+    module _ (b : ℕ) (qb : b ≡ nextIn to (reading p a to 10 sourceBytes sourceBytes)) where
+      pub no-source : b ≡ 0 → (e : Entries) → e ≡ noEntries → ParamsAre p n from to (answer p n from to) e
+      no-source z e g =
+          refuses p n from to _ e (params-2 p n from to a uri-step (was-bad p a to 10 sourceBytes sourceBytes (source-pre .1) (source-pre .2) b (source-pre .0) qb z)) g
+
+      module _ (hb : b ≡ 0 → ⊥) where
+        pub source-step : Step p a to 10 sourceBytes sourceBytes b
+        source-step = was-step p a to 10 sourceBytes sourceBytes (source-pre .1) (source-pre .2) b (source-pre .0) qb hb
+
+        pub digest-pre : (0 < b) × (b ≤ to) × (to ≤ length p)
+        digest-pre = (omega (arith, hb), source-step .fits, pre .2)
+
+        module _ (c : ℕ) (qc : c ≡ nextIn to (reading p b to 11 (limits .digest) (limits .digest))) where
+          pub no-digest : c ≡ 0 → (e : Entries) → e ≡ noEntries → ParamsAre p n from to (answer p n from to) e
+          no-digest z e g =
+              refuses p n from to _ e (params-3 p n from to a uri-step b source-step (was-bad p b to 11 (limits .digest) (limits .digest) (digest-pre .1) (digest-pre .2) c (digest-pre .0) qc z)) g
+
+          module _ (hc : c ≡ 0 → ⊥) where
+            pub digest-step : Step p b to 11 (limits .digest) (limits .digest) c
+            digest-step = was-step p b to 11 (limits .digest) (limits .digest) (digest-pre .1) (digest-pre .2) c (digest-pre .0) qc hc
+
+            pub size-pre : (0 < c) × (c ≤ to) × (to ≤ length p)
+            size-pre = (omega (arith, hc), digest-step .fits, pre .2)
+
+            module _ (d : ℕ) (qd : d ≡ nextIn to (reading p c to 12 sizeBytes sizeBytes)) where
+              no-size : d ≡ 0 → answer p n from to ≡ bad
+              no-size z =
+                  params-4 p n from to a uri-step b source-step c digest-step (was-bad p c to 12 sizeBytes sizeBytes (size-pre .1) (size-pre .2) d (size-pre .0) qd z)
+
+              some-step : (d ≡ 0 → ⊥) → Step p c to 12 sizeBytes sizeBytes d
+              some-step hd = was-step p c to 12 sizeBytes sizeBytes (size-pre .1) (size-pre .2) d (size-pre .0) qd hd
+
+              -- a fourth that is not well formed, or bytes after it
+              pub not-all : (d ≡ to → ⊥) → (e : Entries) → e ≡ noEntries → ParamsAre p n from to (answer p n from to) e
+              not-all h e g = refuses p n from to _ e (go (eqb d 0) refl) g
+                where
+                  go : (t : Bool) → eqb d 0 ≡ t → answer p n from to ≡ bad
+                  go true z = no-size (eqb-true d 0 z)
+                  go false z =
+                      let w : Step p c to 12 sizeBytes sizeBytes d = some-step (eqb-false d 0 z) in
+                      params-5 p n from to a uri-step b source-step c digest-step d w
+                      ∙ rw (not-empty p d to (omega (arith, h, w .fits)) (pre .2))
+
+              module _ (hd : d ≡ to) where
+                pub size-step : Step p c to 12 sizeBytes sizeBytes d
+                size-step = some-step (λ z. omega arith)
+
+                whole : answer p n from to ≡ (need (isBelow (Option·map num (valueIn p a b)) n) >>= λ _. got (given p from a b c d))
+                whole = params-5 p n from to a uri-step b source-step c digest-step d size-step ∙ rw (part-none p d (to - d) (omega arith))
+
+                pub no-component : n < sourceIn p a b → (e : Entries) → e ≡ noEntries → ParamsAre p n from to (answer p n from to) e
+                no-component h e g =
+                    let q : answer p n from to ≡ bad = rw (whole, not-below p a b sourceBytes (source-step .wide) n h) in
+                    refuses p n from to _ e q g
+
+                -- these places are those of the contract
+                placed : entriesAt p from a b c d ≡ entriesAt p from (uriEnd p from to) (sourceEnd p from to) (digestEnd p from to) to
+                placed =
+                    let eb : b ≡ sourceEnd p from to = qb ∙ ap (endAt p to 10 sourceBytes sourceBytes) qa in
+                    let ec : c ≡ digestEnd p from to = qc ∙ ap (endAt p to 11 (limits .digest) (limits .digest)) eb in
+                    ap (λ (x : ℕ). entriesAt p from x b c d) qa
+                    ∙ ap (λ (x : ℕ). entriesAt p from (uriEnd p from to) x c d) eb
+                    ∙ ap (λ (x : ℕ). entriesAt p from (uriEnd p from to) (sourceEnd p from to) x d) ec
+                    ∙ ap (λ (x : ℕ). entriesAt p from (uriEnd p from to) (sourceEnd p from to) (digestEnd p from to) x) hd
+
+                pub all-read : (u l s v z : ℕ) → u ≡ placeIn from a → l ≡ lengthIn from a → s ≡ sourceIn p a b → v ≡ placeIn b c → z ≡ sizeIn p c d → s ≤ n →
+                    ParamsAre p n from to (answer p n from to) (record { good = true; params = record { uri = u; length = l; source = s; digest = v; size = z } })
+                unfolding meaning
+                all-read u l s v z eu el es ev ez h =
+                    rw (whole, eu, el, es, ev, ez, below p a b sourceBytes (source-step .wide) n (rw (← es) h)) (
+                      placed,
+                      rw (uri-is p from a, number-is p a b sourceBytes (source-step .wide), string-is p b c (limits .digest) (digest-step .wide), number-is p c d sizeBytes (size-step .wide)),
+                      record { source = rw (← es) h; digest = string-fits p b c (limits .digest) (digest-step .wide) to (digest-step .fits) (pre .2) },
+                    )

@@ -1,0 +1,15 @@
+use borrow.Author.Needs.{needs}
+use Rattle.text_pieces.specs.Pieces.{part}
+use Rattle.text_pieces.proofs.put_spaced.Statement.{statement}
+use Rattle.text_pieces.proofs.put_spaced.Tie as tie
+
+returns : tie.Need-returns
+unfolding part
+returns c =
+    let put = c .before .before in
+    rw (← put .before .before .before .within .ensures .2) (put .put-each .ensures)
+
+pub put-spaced-spec : {M : Type 1} → statement M
+put-spaced-spec =
+    tie.close
+    (tie.spec (λ c κs. search needs) (λ c. search needs) (λ c. search needs) (λ c. search needs) (λ c κs. search needs) (λ c. search needs) returns)
