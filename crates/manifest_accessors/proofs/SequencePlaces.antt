@@ -72,6 +72,7 @@ pub record Turn (s : Bytes) (n depth events k at : ℕ) (x : CommandsAt s n dept
   pub first : CommandAt s n depth events at
   pub rest : CommandsAt s n depth 0 (k - 1) (first .to)
   pub cmds : x .cmds ≡ then (first .cmd) (rest .cmds)
+  pub ends : rest .to ≡ x .to
   pub few : first .m + countCmd (first .cmd) ≡ rest .m
   pub under : events ≤ first .m
 
@@ -87,6 +88,7 @@ turn s n depth events (suc k) at x h =
       first = record { section = x .section; m = x .m; e = x .e; fits = x .fits; cmd = c; to = p; reads = qc; few = x .few };
       rest = record { section = x .section; m = x .m + countCmd c; e = x .e; fits = x .fits; cmds = cs; to = q; reads = rw d qs; few = omega arith };
       cmds = sym ec;
+      ends = eq;
       few = refl;
       under = x .few;
     }
@@ -95,3 +97,8 @@ pub no-more : (s : Bytes) (n depth events k at : ℕ) (x : CommandsAt s n depth 
 unfolding commandsAt
 no-more s n depth events zero at x h = let (ec, eq) = both (x .reads) in sym ec
 no-more s n depth events (suc k) at x h = absurd (omega arith)
+
+pub all-read : (s : Bytes) (n depth events k at : ℕ) (x : CommandsAt s n depth events k at) → k ≡ 0 → at ≡ x .to
+unfolding commandsAt
+all-read s n depth events zero at x h = let (ec, eq) = both (x .reads) in eq
+all-read s n depth events (suc k) at x h = absurd (omega arith)

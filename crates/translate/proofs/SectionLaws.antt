@@ -21,7 +21,7 @@ use Rattle.translate_size.specs.declared.sizes.Size.{Size}
 use Rattle.translate_record.specs.declared.record.WriteState.{WriteState}
 use Rattle.translate_size.specs.Size.{most, SequenceHere, SequenceSized}
 use Rattle.translate_record.specs.Record.{written, Wrote}
-use Rattle.translate_sequence.specs.Write.{SequenceJob}
+use Rattle.translate_sequence.specs.Write.{SequenceJob, SequenceWrote}
 use Rattle.translate.specs.Sections.{SectionsHere, SectionsSized, startOf}
 use Rattle.manifest_accessors.proofs.SectionPlaces.{Wanted}
 use Rattle.translate.proofs.PlanLaws.{PlanAt, seqsOf, plan-start, plan-end, Skipped, skip, Taken, take}
@@ -75,14 +75,20 @@ module _ (s : Bytes) (table : List ℕ) (group : Group) (places : List ℕ) (h :
     pub at : PlanAt s components group places k
     pub records : now .records + sizeAll (seqsOf s components group places k at) ≡ sizeAll plan
     pub arguments : now .arguments + argSizeAll (seqsOf s components group places k at) ≡ argSizeAll plan
+    pub next : now .next ≡ 0
 
   pub sizing-starts : Sizing 0 (record { next = 0; records = 0; arguments = 0 })
-  sizing-starts = record { at = plan-start s components group places (h .manifest) refl (h .checks) (h .places); records = omega arith; arguments = omega arith }
+  sizing-starts =
+      record { at = plan-start s components group places (h .manifest) refl (h .checks) (h .places); records = omega arith; arguments = omega arith; next = refl }
 
   pub sizing-done : (k : ℕ) (now : Size) → Sizing k now → sectionCount ≤ k → SectionsSized plan now
   sizing-done k now z l =
       let e = plan-end s components group places k (z .at) l in
-      record { records = omega (arith, z .records, ap sizeAll e, size-none .0); arguments = omega (arith, z .arguments, ap argSizeAll e, size-none .1) }
+      record {
+        records = omega (arith, z .records, ap sizeAll e, size-none .0);
+        arguments = omega (arith, z .arguments, ap argSizeAll e, size-none .1);
+        next = z .next;
+      }
 
   module _ (k : ℕ) (now : Size) (z : Sizing k now) (l : k < sectionCount) (w : Bool) (e : Wanted group places k w) where
     taken : w ≡ true → Taken s components group places k (z .at)
@@ -100,8 +106,8 @@ module _ (s : Bytes) (table : List ℕ) (group : Group) (places : List ℕ) (h :
           (arith, plan-small, z .records, z .arguments, first-size k (z .at) (taken t) .0, first-size k (z .at) (taken t) .1);
     }
 
-    module _ (r : Size) (whole : w ≡ true → (j : SequenceHere s table (limits .depth) (getD places (2 * k) 0)) → SequenceSized (j .place .seq) r)
-        (none : w ≡ false → (r .records ≡ 0) × (r .arguments ≡ 0)) where
+    module _ (r : Size) (whole : w ≡ true → (j : SequenceHere s table (limits .depth) (getD places (2 * k) 0)) → SequenceSized (j .place .seq) (j .place .to) r)
+        (none : w ≡ false → r ≡ record { next = getD places (2 * k) 0; records = 0; arguments = 0 }) where
       pub sizing-on : Sizing (k + 1) (record { next = 0; records = now .records + r .records; arguments = now .arguments + r .arguments })
       unfolding sizing-job
       sizing-on = go w refl
@@ -113,13 +119,15 @@ module _ (s : Bytes) (table : List ℕ) (group : Group) (places : List ℕ) (h :
                 at = taken t .next;
                 records = omega (arith, y .records, z .records, first-size k (z .at) (taken t) .0);
                 arguments = omega (arith, y .arguments, z .arguments, first-size k (z .at) (taken t) .1);
+                next = refl;
               }
           go false t =
               let q = skipped t in
               record {
                 at = q .next;
-                records = omega (arith, none t .0, z .records, ap sizeAll (q .same));
-                arguments = omega (arith, none t .1, z .arguments, ap argSizeAll (q .same));
+                records = omega (arith, ap (λ (x : Size). x .records) (none t), z .records, ap sizeAll (q .same));
+                arguments = omega (arith, ap (λ (x : Size). x .arguments) (none t), z .arguments, ap argSizeAll (q .same));
+                next = refl;
               }
 
       pub sizing-adds : (now .records + r .records ≤ most) × (now .arguments + r .arguments ≤ most)
@@ -172,7 +180,8 @@ module _ (s : Bytes) (table : List ℕ) (group : Group) (places : List ℕ) (h :
           }
 
       module _ (r : WriteState) (room′ : Bytes)
-          (whole : w ≡ true → (j : SequenceJob s table (limits .depth) (startOf (getD places (2 * k) 0) now) room) → Wrote (flatSeq (j .place .seq) false 0 false NONE 0 (now .n)) now room r room′)
+          (whole : w ≡ true → (j : SequenceJob s table (limits .depth) (startOf (getD places (2 * k) 0) now) room) →
+          SequenceWrote (flatSeq (j .place .seq) false 0 false NONE 0 (now .n)) (j .place .to) (startOf (getD places (2 * k) 0) now) room r room′)
           (none : w ≡ false → (r ≡ now) × (room′ ≡ room)) where
         pub writing-on : Writing room′ (k + 1) r
         unfolding writing-job
@@ -182,22 +191,23 @@ module _ (s : Bytes) (table : List ℕ) (group : Group) (places : List ℕ) (h :
             go true t =
                 let a : Seq = its t .place .seq in
                 let f : List Rec = flatSeq a false 0 false NONE 0 (now .n) in
-                let y : Wrote f now room r room′ = whole t (writing-job t) in
+                let from : WriteState = startOf (getD places (2 * k) 0) now in
+                let y : Wrote f from room r room′ = whole t (writing-job t) .wrote in
                 let n : r .n ≡ now .n + size a = omega (arith, y .n, length-seq a false 0 false NONE 0 (now .n)) in
                 let to : r .to ≡ now .to + recordSize * size a + argSize a = omega (arith, y .to, bytes-seq a false 0 false NONE 0 (now .n)) in
                 record {
                   at = its t .next;
                   done = z .done ++ f;
-                  wrote = wrote-then (z .done) f state room₀ now room now r room′ refl refl (z .wrote) y;
+                  wrote = wrote-then (z .done) f state room₀ now room from r room′ refl refl (z .wrote) y;
                   goes =
                       z .goes
                       ∙ ap (λ (x : List Seq). z .done ++ flatAll x (now .n)) (its t .first)
                       ∙ ap (λ (x : List Rec). z .done ++ x) (flat-first a (seqsOf s components group places (k + 1) (its t .next)) (now .n))
                       ∙ sym (append-assoc (z .done) f _)
                       ∙ ap (λ (x : ℕ). z .done ++ f ++ flatAll (seqsOf s components group places (k + 1) (its t .next)) x) (sym n);
-                  enough = omega (arith, z .enough, first-size k (z .at) (its t) .0, first-size k (z .at) (its t) .1, same-room f now room r room′ y);
+                  enough = omega (arith, z .enough, first-size k (z .at) (its t) .0, first-size k (z .at) (its t) .1, same-room f from room r room′ y);
                   few = omega (arith, z .few, first-size k (z .at) (its t) .0);
-                  small = omega (arith, z .small, same-room f now room r room′ y);
+                  small = omega (arith, z .small, same-room f from room r room′ y);
                 }
             go false t =
                 let q = skip s components group places k (z .at) l (sym t ∙ e) in

@@ -41,6 +41,7 @@ ArgumentFits s table code a room to =
 unfoldable pub headBytes : ℕ → ℕ → ℕ → ℕ → ℕ → Bytes
 headBytes code component place target size = mark ++ (code ∷ component ∷ be2 place) ++ be2 target ++ be2 size
 
+-- the bytes of the records, one after the other
 unfoldable pub written : List Rec → Bytes
 written rs = flat (map recBytes rs)
 
@@ -50,6 +51,7 @@ pub record Wrote (rs : List Rec) (state : WriteState) (room : Bytes) (r : WriteS
   pub to : r .to ≡ state .to + length (written rs)
   pub n : r .n ≡ state .n + length rs
 
+-- the command's records were written from the state on; the state goes on at `to`, with the index and coerce after the command
 pub record CommandWrote (cmd : Cmd) (to components target : ℕ) (state : WriteState) (room : Bytes) (r : WriteState) (room′ : Bytes) : Type 0 where
   pub wrote : Wrote (flatCmd cmd (state .index) target (state .n)) state room r room′
   pub next : r .next ≡ to

@@ -11,7 +11,7 @@ use Rattle.rules.specs.Bytes.{Bytes, put}
 use Rattle.rules.specs.Tables.{byNumber}
 use Rattle.rules.specs.Limits.{limits}
 use Rattle.rules.specs.ProgramFormat.{recordSize}
-use Rattle.rules.specs.Commands.{Op}
+use Rattle.rules.specs.Commands.{Op, runSequenceCode, tryEachCode}
 use Rattle.rules.specs.Manifest.{Seq, end, then, Cmd, one, sub, try, Alts, last, or}
 use Rattle.rules.specs.Check.{sequenceAt}
 use Rattle.rules.specs.Run.{indexAfter, coerceAfter}
@@ -20,18 +20,18 @@ use Rattle.rules.specs.ProgramSize.{argSize, argSizeCmd, argSizeAlts}
 use Rattle.rules_theorems.proofs.RunLaws.{length-seq, length-cmd}
 use Rattle.rules_theorems.proofs.FlatLaws.{bytes, sum-seq, sum-cmd}
 use Rattle.manifest_accessors.specs.Heads.{HeadAt}
-use Rattle.manifest_accessors.specs.Arguments.{isTrue, ArgumentAt}
+use Rattle.manifest_accessors.specs.Arguments.{coerceFalse, isTrue, ArgumentAt}
 use Rattle.manifest_accessors.specs.Places.{SequenceAt}
 use Rattle.manifest_accessors.proofs.HeadLaws.{number-headed}
 use Rattle.manifest_accessors.proofs.PlaceLaws.{head-later, command-later, command-starts}
 use Rattle.manifest_accessors.proofs.ArgumentLaws.{command-one}
-use Rattle.manifest_accessors.proofs.SequencePlaces.{CommandsAt, start, start-head, start-commands, Turn, turn, no-more}
-use Rattle.manifest_accessors.proofs.CommandPlaces.{Coded, coded, Sub, its-sequence, Tries, its-alternatives, listOf, Alternatives, string-head, string-fits, string-sequence}
+use Rattle.manifest_accessors.proofs.SequencePlaces.{CommandsAt, start, start-head, start-commands, Turn, turn, no-more, all-read}
+use Rattle.manifest_accessors.proofs.CommandPlaces.{Coded, coded, Sub, its-sequence, Tries, its-alternatives, listOf, Alternatives, string-head, string-sequence}
 use Rattle.manifest_accessors.proofs.TryPlaces.{AltsAt, Choice, choice, try-head, try-places}
 use Rattle.translate_record.specs.declared.record.WriteState.{WriteState}
 use Rattle.translate_size.specs.Size.{most, SequenceHere, CommandHere}
 use Rattle.translate_record.specs.Record.{written, LeafJob, Wrote, CommandWrote, JumpWrote}
-use Rattle.translate_sequence.specs.Write.{SequenceJob, CommandJob}
+use Rattle.translate_sequence.specs.Write.{SequenceJob, CommandJob, SequenceWrote}
 use Rattle.byte_buffer.proofs.PutLaws.{put-append}
 
 pub written-append : (a b : List Rec) → written (a ++ b) ≡ written a ++ written b
@@ -72,6 +72,15 @@ wrote-then a b state room now room′ at r room″ e e′ w v =
 pub same-room : (a : List Rec) (state : WriteState) (room : Bytes) (now : WriteState) (room′ : Bytes) → Wrote a state room now room′ → length room′ ≡ length room
 same-room a state room now room′ w = ap length (w .filled) ∙ length-sets room (state .to) (written a)
 
+-- the same place in the room
+wrote-at : (rs : List Rec) (state state′ : WriteState) (room : Bytes) (r r′ : WriteState) (room′ : Bytes) → state .to ≡ state′ .to → state .n ≡ state′ .n → r .to ≡ r′ .to → r .n ≡ r′ .n →
+    Wrote rs state room r room′ → Wrote rs state′ room r′ room′
+wrote-at rs state state′ room r r′ room′ a b d e w = record { filled = w .filled ∙ ap (λ (k : ℕ). put room k (written rs)) a; to = omega (arith, a, d, w .to); n = omega (arith, b, e, w .n) }
+
+-- the state where a sequence starts or ends
+abbrev pub entered : WriteState → ℕ → WriteState → WriteState
+entered state at now = record { next = at; index = state .index; coerce = state .coerce; n = now .n; to = now .to }
+
 -- some commands as check read them, and room for their records
 pub record CommandsJob (s : Bytes) (table : List ℕ) (depth k : ℕ) (state : WriteState) (room : Bytes) : Type 0 where
   pub rows : table ≡ byNumber
@@ -84,10 +93,11 @@ pub record CommandsJob (s : Bytes) (table : List ℕ) (depth k : ℕ) (state : W
   pub small : length room ≤ most
 
 -- the loop over commands: the records of the whole are those written and those of the commands that are left
-pub record Loop (s : Bytes) (table : List ℕ) (depth : ℕ) (coercible : Bool) (target beyond components : ℕ) (whole : List Rec) (state : WriteState)
+pub record Loop (s : Bytes) (table : List ℕ) (depth : ℕ) (coercible : Bool) (target beyond components to : ℕ) (whole : List Rec) (state : WriteState)
     (room₀ room : Bytes) (left : ℕ) (now : WriteState) : Type 0 where
   pub job : CommandsJob s table depth left now room
   pub behind : state .next ≤ now .next
+  pub ends : job .place .to ≡ to
   pub same : job .n ≡ components
   pub done : List Rec
   pub wrote : Wrote done state room₀ now room
@@ -112,19 +122,24 @@ arg-size-then x xs = refl
 
 module _ (s : Bytes) (table : List ℕ) (depth : ℕ) (coercible : Bool) (target beyond : ℕ) where
   pub loop-starts : (left : ℕ) (now : WriteState) (room : Bytes) (x : CommandsJob s table depth left now room) →
-      Loop s table depth coercible target beyond (x .n) (flatSeq (x .place .cmds) coercible (now .index) (isTrue (now .coerce)) target beyond (now .n)) now room room left now
-  loop-starts left now room x = record { job = x; behind = omega arith; same = refl; done = []; wrote = wrote-none now now room refl refl; goes = refl }
+      Loop s table depth coercible target beyond (x .n) (x .place .to) (flatSeq (x .place .cmds) coercible (now .index) (isTrue (now .coerce)) target beyond (now .n)) now room room left now
+  loop-starts left now room x = record { job = x; behind = omega arith; ends = refl; same = refl; done = []; wrote = wrote-none now now room refl refl; goes = refl }
 
-  module _ (components : ℕ) (whole : List Rec) (state : WriteState) (room₀ room : Bytes) (left : ℕ) (now : WriteState)
-      (l : Loop s table depth coercible target beyond components whole state room₀ room left now) where
-    pub loop-done : left ≡ 0 → Wrote whole state room₀ now room
-    loop-done z =
+  module _ (components to : ℕ) (whole : List Rec) (state : WriteState) (room₀ room : Bytes) (left : ℕ) (now : WriteState)
+      (l : Loop s table depth coercible target beyond components to whole state room₀ room left now) where
+    pub loop-done : left ≡ 0 → (from : WriteState) → state .to ≡ from .to → state .n ≡ from .n → SequenceWrote whole to from room₀ (entered from (now .next) now) room
+    loop-done z from a b =
         let e : whole ≡ l .done =
         l .goes
         ∙ ap (λ (a : Seq). l .done ++ flatSeq a coercible (now .index) (isTrue (now .coerce)) target beyond (now .n)) (no-more s (l .job .n) depth 0 left (now .next) (l .job .place) z)
         ∙ ap (λ (a : List Rec). l .done ++ a) (flat-end coercible (now .index) (isTrue (now .coerce)) target beyond (now .n))
         ∙ append-nil (l .done) in
-        rw e (l .wrote)
+        record {
+          wrote = wrote-at whole state from room₀ now (entered from (now .next) now) room a b refl refl (rw e (l .wrote));
+          next = all-read s (l .job .n) depth 0 left (now .next) (l .job .place) z ∙ l .ends;
+          index = refl;
+          coerce = refl;
+        }
 
     module _ (h : 0 < left) where
       abbrev pub its-turn : Turn s (l .job .n) depth 0 left (now .next) (l .job .place)
@@ -151,7 +166,7 @@ module _ (s : Bytes) (table : List ℕ) (depth : ℕ) (coercible : Bool) (target
 
       pub loop-goes-on : (t : ℕ) → t ≡ cond (coercible && isTrue (now .coerce)) beyond target → (r : WriteState) (room′ : Bytes) →
           CommandWrote (its-turn .first .cmd) (its-turn .first .to) (l .job .n) t now room r room′ →
-          Loop s table depth coercible target beyond components whole state room₀ room′ (left - 1) r
+          Loop s table depth coercible target beyond components to whole state room₀ room′ (left - 1) r
       loop-goes-on t e r room′ w =
           let x : Cmd = its-turn .first .cmd in
           let xs : Seq = its-turn .rest .cmds in
@@ -183,6 +198,7 @@ module _ (s : Bytes) (table : List ℕ) (depth : ℕ) (coercible : Bool) (target
                   small = omega (arith, l .job .small, nl);
                 };
             behind = omega (arith, l .behind, w .next, command-later s (l .job .n) depth 0 (now .next) (its-turn .first));
+            ends = its-turn .ends ∙ l .ends;
             same = l .same;
             done = l .done ++ f;
             wrote = wrote-then (l .done) f state room₀ now room now r room′ refl refl (l .wrote) (w .wrote);
@@ -207,7 +223,7 @@ module _ (s : Bytes) (table : List ℕ) (depth : ℕ) (state : WriteState) (room
     pub commands-later : state .next < p
     commands-later = omega (arith, q .1, head-later s (state .next) sequence-head .0)
 
-    abbrev pub commands-job : CommandsJob s table (depth - 1) (v / 2) (record { next = p; index = state .index; coerce = 1; n = state .n; to = state .to }) room
+    abbrev pub commands-job : CommandsJob s table (depth - 1) (v / 2) (record { next = p; index = state .index; coerce = coerceFalse; n = state .n; to = state .to }) room
     commands-job =
         record {
           rows = j .rows;
@@ -220,27 +236,18 @@ module _ (s : Bytes) (table : List ℕ) (depth : ℕ) (state : WriteState) (room
           small = j .small;
         }
 
--- the same place in the room
-pub wrote-at : (rs : List Rec) (state state′ : WriteState) (room : Bytes) (r r′ : WriteState) (room′ : Bytes) → state .to ≡ state′ .to → state .n ≡ state′ .n → r .to ≡ r′ .to → r .n ≡ r′ .n →
-    Wrote rs state room r room′ → Wrote rs state′ room r′ room′
-wrote-at rs state state′ room r r′ room′ a b d e w = record { filled = w .filled ∙ ap (λ (k : ℕ). put room k (written rs)) a; to = omega (arith, a, d, w .to); n = omega (arith, b, e, w .n) }
-
--- the state where a sequence starts, and after a command that held sequences
-abbrev pub entered : WriteState → ℕ → WriteState → WriteState
-entered state at now = record { next = at; index = state .index; coerce = state .coerce; n = now .n; to = now .to }
-
 -- what a command that held sequences leaves
-holds-sequences : (cmd : Cmd) (to components target : ℕ) (state : WriteState) (room : Bytes) (at : ℕ) (r : WriteState) (room′ : Bytes) →
-    Wrote (flatCmd cmd (state .index) target (state .n)) state room r room′ → at ≡ to → state .index < components →
+holds-sequences : (cmd : Cmd) (to components target : ℕ) (state : WriteState) (room : Bytes) (r : WriteState) (room′ : Bytes) →
+    SequenceWrote (flatCmd cmd (state .index) target (state .n)) to state room r room′ → state .index < components →
     ((i : ℕ) → indexAfter cmd i ≡ i) → ((c : Bool) → coerceAfter cmd c ≡ c) →
-    CommandWrote cmd to components target state room (entered state at r) room′
-holds-sequences cmd to components target state room at r room′ w e inside index coerce =
+    CommandWrote cmd to components target state room r room′
+holds-sequences cmd to components target state room r room′ w inside index coerce =
     record {
-      wrote = wrote-at (flatCmd cmd (state .index) target (state .n)) state state room r (entered state at r) room′ refl refl refl refl w;
-      next = e;
-      index = sym (index (state .index));
-      inside = inside;
-      coerce = sym (coerce _);
+      wrote = w .wrote;
+      next = w .next;
+      index = w .index ∙ sym (index (state .index));
+      inside = omega (arith, inside, w .index);
+      coerce = ap isTrue (w .coerce) ∙ sym (coerce _);
     }
 
 wrote-as : (cmd cmd′ : Cmd) (to to′ components components′ target : ℕ) (state : WriteState) (room : Bytes) (r : WriteState) (room′ : Bytes) →
@@ -314,15 +321,15 @@ first-fits (or y b) x xs e = let n : y ≡ x = cc in let (p, q) = size-or y b in
 
 -- the loop over alternatives: the records of the command are those written and those of the alternatives that are left
 pub record AltsLoop (s : Bytes) (table : List ℕ) (depth components : ℕ) (cmd : Cmd) (to target : ℕ) (state : WriteState) (room₀ : Bytes) (z : ℕ)
-    (room : Bytes) (k p : ℕ) (now : WriteState) : Type 0 where
+    (room : Bytes) (k : ℕ) (now : WriteState) : Type 0 where
   pub rows : table ≡ byNumber
-  pub behind : state .next < p
+  pub behind : state .next < now .next
   pub whole : Alts
   pub is : cmd ≡ try whole
   pub inside : state .index < components
   pub bounded : components ≤ limits .components
   pub alts : Alts
-  pub place : AltsAt s components depth 0 k p to
+  pub place : AltsAt s components depth 0 k (now .next) to
   pub listed : listOf alts ≡ place .seqs
   pub some-left : 0 < k
   pub done : List Rec
@@ -347,15 +354,12 @@ module _ (s : Bytes) (table : List ℕ) (depth : ℕ) (state : WriteState) (room
 
   module _ (v p : ℕ) (q : (v ≡ its-code .code) × (p ≡ its-code .from)) where
     -- 30
-    module _ (z : v ≡ 30) where
+    module _ (z : v ≡ runSequenceCode) where
       abbrev pub sub-at : Sub s (j .n) depth 0 (state .next) (j .place) p
       sub-at = its-sequence s (j .n) depth 0 (state .next) (j .place) its-code p (q .1) (sym (q .0) ∙ z)
 
       abbrev pub sub-head : HeadAt s p
       sub-head = string-head s (j .n) (j .place .section) depth (j .place .m + 1) (j .place .e) p (sub-at .seq) (sub-at .inside) (j .place .fits)
-
-      pub sub-fits : sub-at .inside .head .next + sub-at .inside .head .num ≤ length s
-      sub-fits = string-fits s (j .n) (j .place .section) depth (j .place .m + 1) (j .place .e) p (sub-at .seq) (sub-at .inside) (j .place .fits)
 
       pub sub-size : sizeCmd (j .place .cmd) ≡ size (sub-at .seq)
       sub-size = ap sizeCmd (sub-at .is) ∙ size-sub (sub-at .seq)
@@ -390,19 +394,23 @@ module _ (s : Bytes) (table : List ℕ) (depth : ℕ) (state : WriteState) (room
             }
 
         pub sub-wrote : (target k : ℕ) → k ≡ size (sub-at .seq) → (r : WriteState) (room′ : Bytes) →
-            Wrote (flatSeq (sub-at .seq) true (state .index) false target (state .n + k) (state .n)) (entered state from state) room r room′ →
-            CommandWrote (j .place .cmd) (j .place .to) (j .n) target state room (entered state (from + w) r) room′
-        sub-wrote target k e r room′ wrote =
+            SequenceWrote (flatSeq (sub-at .seq) true (state .index) false target (state .n + k) (state .n)) (sub-place .to) (entered state from state) room r room′ →
+            CommandWrote (j .place .cmd) (j .place .to) (j .n) target state room r room′
+        sub-wrote target k e r room′ v =
             let f : flatSeq (sub-at .seq) true (state .index) false target (state .n + k) (state .n) ≡ flatCmd (j .place .cmd) (state .index) target (state .n) =
             ap (λ (m : ℕ). flatSeq (sub-at .seq) true (state .index) false target (state .n + m) (state .n)) e
             ∙ sym (flat-sub (sub-at .seq) (state .index) target (state .n))
             ∙ ap (λ (c : Cmd). flatCmd c (state .index) target (state .n)) (sym (sub-at .is)) in
-            holds-sequences (j .place .cmd) (j .place .to) (j .n) target state room (from + w) r room′
-            (wrote-at _ (entered state from state) state room r r room′ refl refl refl refl (rw f at wrote))
-            (omega (arith, o .0, o .1, sub-at .to)) (j .inside) (λ i. rw (sub-at .is)) (λ c. rw (sub-at .is))
+            holds-sequences (j .place .cmd) (j .place .to) (j .n) target state room r room′
+            (record {
+              wrote = wrote-at _ (entered state from state) state room r r room′ refl refl refl refl (rw f at (v .wrote));
+              next = v .next ∙ sym (sub-at .to);
+              index = v .index;
+              coerce = v .coerce;
+            }) (j .inside) (λ i. rw (sub-at .is)) (λ c. rw (sub-at .is))
 
     -- any other but 15
-    module _ (z : v ≡ 30 → ⊥) (z′ : v ≡ 15 → ⊥) where
+    module _ (z : v ≡ runSequenceCode → ⊥) (z′ : v ≡ tryEachCode → ⊥) where
       abbrev pub OneAt : Type 0
       OneAt =
           (x : ArgumentAt s v p) × (x .n ≡ j .n) × (j .place .cmd ≡ one (state .next) (x .op) (x .coerce)) × (x .to ≡ j .place .to)
@@ -436,7 +444,7 @@ module _ (s : Bytes) (table : List ℕ) (depth : ℕ) (state : WriteState) (room
       leaf-wrote target r room′ w = wrote-as _ _ _ _ _ _ target state room r room′ (one-at .2) (one-at .3) (one-at .1) w
 
     -- 15
-    module _ (y : v ≡ 15) where
+    module _ (y : v ≡ tryEachCode) where
       abbrev pub tries-at : Tries s (j .n) depth 0 (state .next) (j .place) p
       tries-at = its-alternatives s (j .n) depth 0 (state .next) (j .place) its-code p (q .1) (sym (q .0) ∙ y)
 
@@ -444,7 +452,7 @@ module _ (s : Bytes) (table : List ℕ) (depth : ℕ) (state : WriteState) (room
       tries-head = try-head s (j .n) depth 0 (state .next) (j .place) p tries-at
 
       pub tries-start : (target w from z : ℕ) → (w ≡ tries-at .head .num) × (from ≡ tries-at .head .next) → (k : ℕ) → k ≡ sizeCmd (j .place .cmd) → z ≡ state .n + k →
-          AltsLoop s table depth (j .n) (j .place .cmd) (j .place .to) target state room z room w from state
+          AltsLoop s table depth (j .n) (j .place .cmd) (j .place .to) target state room z room w (entered state from state)
       tries-start target w from z o k e e′ =
           let sz : sizeCmd (j .place .cmd) ≡ sizeAlts (tries-at .alts) = ap sizeCmd (tries-at .is) ∙ size-try (tries-at .alts) in
           let wt : argSizeCmd (j .place .cmd) ≡ argSizeAlts (tries-at .alts) = ap argSizeCmd (tries-at .is) ∙ arg-size-try (tries-at .alts) in
@@ -461,7 +469,7 @@ module _ (s : Bytes) (table : List ℕ) (depth : ℕ) (state : WriteState) (room
             listed = refl;
             some-left = omega (arith, o .0, tries-at .some-of);
             done = [];
-            wrote = wrote-none state state room refl refl;
+            wrote = wrote-none state (entered state from state) room refl refl;
             goes =
                 ap (λ (c : Cmd). flatCmd c (state .index) target (state .n)) (tries-at .is)
                 ∙ flat-try (tries-at .alts) (state .index) target (state .n)
@@ -471,16 +479,13 @@ module _ (s : Bytes) (table : List ℕ) (depth : ℕ) (state : WriteState) (room
             small = j .small;
           }
 
-module _ (s : Bytes) (table : List ℕ) (depth components : ℕ) (cmd : Cmd) (to target : ℕ) (state : WriteState) (room₀ : Bytes) (z : ℕ) (room : Bytes) (k p : ℕ) (now : WriteState)
-    (l : AltsLoop s table depth components cmd to target state room₀ z room k p now) where
-  abbrev pub its-choice : Choice s components depth 0 k p to (l .place)
-  its-choice = choice s components depth 0 k p to (l .place) (l .some-left)
+module _ (s : Bytes) (table : List ℕ) (depth components : ℕ) (cmd : Cmd) (to target : ℕ) (state : WriteState) (room₀ : Bytes) (z : ℕ) (room : Bytes) (k : ℕ) (now : WriteState)
+    (l : AltsLoop s table depth components cmd to target state room₀ z room k now) where
+  abbrev pub its-choice : Choice s components depth 0 k (now .next) to (l .place)
+  its-choice = choice s components depth 0 k (now .next) to (l .place) (l .some-left)
 
-  abbrev pub choice-head : HeadAt s p
-  choice-head = string-head s components (l .place .section) depth (l .place .m) (l .place .e) p (its-choice .first) (its-choice .inside) (l .place .fits)
-
-  pub choice-fits : its-choice .inside .head .next + its-choice .inside .head .num ≤ length s
-  choice-fits = string-fits s components (l .place .section) depth (l .place .m) (l .place .e) p (its-choice .first) (its-choice .inside) (l .place .fits)
+  abbrev pub choice-head : HeadAt s (now .next)
+  choice-head = string-head s components (l .place .section) depth (l .place .m) (l .place .e) (now .next) (its-choice .first) (its-choice .inside) (l .place .fits)
 
   pub choice-size : (size (its-choice .first) ≤ sizeAlts (l .alts)) × (argSize (its-choice .first) ≤ argSizeAlts (l .alts))
   choice-size = first-fits (l .alts) (its-choice .first) (its-choice .rest .seqs) (l .listed ∙ its-choice .seqs)
@@ -497,10 +502,10 @@ module _ (s : Bytes) (table : List ℕ) (depth components : ℕ) (cmd : Cmd) (to
 
   module _ (w from : ℕ) (o : (w ≡ its-choice .inside .head .num) × (from ≡ its-choice .inside .head .next)) where
     pub choice-later : state .next < from
-    choice-later = omega (arith, l .behind, o .1, head-later s p choice-head .0)
+    choice-later = omega (arith, l .behind, o .1, head-later s (now .next) choice-head .0)
 
     abbrev pub choice-place : SequenceAt s components depth 0 from
-    choice-place = string-sequence s components (l .place .section) depth (l .place .m) (l .place .e) p (its-choice .first) (its-choice .inside) (l .place .fits) 0 from (omega arith) (o .1)
+    choice-place = string-sequence s components (l .place .section) depth (l .place .m) (l .place .e) (now .next) (its-choice .first) (its-choice .inside) (l .place .fits) 0 from (omega arith) (o .1)
 
     abbrev pub choice-here : SequenceHere s table depth from
     choice-here =
@@ -521,7 +526,7 @@ module _ (s : Bytes) (table : List ℕ) (depth components : ℕ) (cmd : Cmd) (to
 
     -- an alternative but the last
     module _ (h : 1 < k) (t : ℕ) (r : WriteState) (room′ : Bytes)
-        (wrote : Wrote (flatSeq (its-choice .first) false (state .index) false t z (now .n)) (entered state from now) room r room′) where
+        (v : SequenceWrote (flatSeq (its-choice .first) false (state .index) false t z (now .n)) (choice-place .to) (entered state from now) room r room′) where
       pub jump-room : r .to + recordSize ≤ length room′
       jump-room =
           let (b, a, _) = more h in
@@ -534,18 +539,18 @@ module _ (s : Bytes) (table : List ℕ) (depth components : ℕ) (cmd : Cmd) (to
             ap argSizeAlts a,
             p₁,
             p₂,
-            wrote .to,
+            v .wrote .to,
             bytes-seq (its-choice .first) false (state .index) false t z (now .n),
-            same-room f (entered state from now) room r room′ wrote,
+            same-room f (entered state from now) room r room′ (v .wrote),
           )
 
       pub jump-few : r .n < limits .records
       jump-few =
           let (b, a, _) = more h in
-          omega (arith, l .few, ap sizeAlts a, size-or (its-choice .first) b .0, wrote .n, length-seq (its-choice .first) false (state .index) false t z (now .n))
+          omega (arith, l .few, ap sizeAlts a, size-or (its-choice .first) b .0, v .wrote .n, length-seq (its-choice .first) false (state .index) false t z (now .n))
 
       pub tries-on : t ≡ now .n + size (its-choice .first) + 1 → (r′ : WriteState) (room″ : Bytes) → JumpWrote z r room′ r′ room″ →
-          AltsLoop s table depth components cmd to target state room₀ z room″ (k - 1) (from + w) r′
+          AltsLoop s table depth components cmd to target state room₀ z room″ (k - 1) r′
       tries-on e r′ room″ jumped =
           let (b, a, rest) = more h in
           let x : Seq = its-choice .first in
@@ -555,14 +560,14 @@ module _ (s : Bytes) (table : List ℕ) (depth components : ℕ) (cmd : Cmd) (to
           let e₂ = ap argSizeAlts a in
           let n₁ = length-seq x false (state .index) false t z (now .n) in
           let b₁ = bytes-seq x false (state .index) false t z (now .n) in
-          let g : Wrote (l .done ++ f) state room₀ r room′ = wrote-then (l .done) f state room₀ now room (entered state from now) r room′ refl refl (l .wrote) wrote in
-          let nn : r′ .n ≡ now .n + size x + 1 = omega (arith, wrote .n, jumped .wrote .n, n₁) in
-          let tt′ : r′ .to ≡ now .to + (recordSize * size x + argSize x) + recordSize = omega (arith, wrote .to, jumped .wrote .to, b₁, bytes-jump z) in
+          let g : Wrote (l .done ++ f) state room₀ r room′ = wrote-then (l .done) f state room₀ now room (entered state from now) r room′ refl refl (l .wrote) (v .wrote) in
+          let nn : r′ .n ≡ now .n + size x + 1 = omega (arith, v .wrote .n, jumped .wrote .n, n₁) in
+          let tt′ : r′ .to ≡ now .to + (recordSize * size x + argSize x) + recordSize = omega (arith, v .wrote .to, jumped .wrote .to, b₁, bytes-jump z) in
           let ll : length room″ ≡ length room =
-          same-room (jump z ∷ []) r room′ r′ room″ (jumped .wrote) ∙ same-room f (entered state from now) room r room′ wrote in
+          same-room (jump z ∷ []) r room′ r′ room″ (jumped .wrote) ∙ same-room f (entered state from now) room r room′ (v .wrote) in
           record {
             rows = l .rows;
-            behind = omega (arith, choice-later);
+            behind = omega (arith, choice-later, o .1, v .next, jumped .next);
             whole = l .whole;
             is = l .is;
             inside = l .inside;
@@ -576,7 +581,7 @@ module _ (s : Bytes) (table : List ℕ) (depth components : ℕ) (cmd : Cmd) (to
                   fits = its-choice .rest .fits;
                   seqs = its-choice .rest .seqs;
                   size = its-choice .rest .size;
-                  reads = rw (o .0, o .1) (its-choice .rest .reads);
+                  reads = rw (jumped .next ∙ v .next) (its-choice .rest .reads);
                   few = its-choice .rest .few;
                 };
             listed = sym rest;
@@ -595,9 +600,10 @@ module _ (s : Bytes) (table : List ℕ) (depth components : ℕ) (cmd : Cmd) (to
           }
 
     -- the last
-    pub tries-last : k ≡ 1 → (r : WriteState) (room′ : Bytes) → Wrote (flatSeq (its-choice .first) false (state .index) false target z (now .n)) (entered state from now) room r room′ →
-        CommandWrote cmd to components target state room₀ (entered state (from + w) r) room′
-    tries-last h r room′ wrote =
+    pub tries-last : k ≡ 1 → (r : WriteState) (room′ : Bytes) →
+        SequenceWrote (flatSeq (its-choice .first) false (state .index) false target z (now .n)) (choice-place .to) (entered state from now) room r room′ →
+        CommandWrote cmd to components target state room₀ r room′
+    tries-last h r room′ v =
         let x : Seq = its-choice .first in
         let f : List Rec = flatSeq x false (state .index) false target z (now .n) in
         let (a, none) = last-alts (l .alts) x (its-choice .rest .seqs) (l .listed ∙ its-choice .seqs) (omega (arith, h, its-choice .rest .size)) in
@@ -607,9 +613,13 @@ module _ (s : Bytes) (table : List ℕ) (depth components : ℕ) (cmd : Cmd) (to
         l .goes
         ∙ ap (λ (v : Alts). l .done ++ flatAlts v (state .index) target z (now .n)) a
         ∙ ap (λ (v : List Rec). l .done ++ v) (flat-last x (state .index) target z (now .n)) in
-        holds-sequences cmd to components target state room₀ (from + w) r room′
-        (rw g (wrote-then (l .done) f state room₀ now room (entered state from now) r room′ refl refl (l .wrote) wrote))
-        (omega (arith, o .0, o .1, ends)) (l .inside) (λ i. rw (l .is)) (λ c. rw (l .is))
+        holds-sequences cmd to components target state room₀ r room′
+        (record {
+          wrote = rw g (wrote-then (l .done) f state room₀ now room (entered state from now) r room′ refl refl (l .wrote) (v .wrote));
+          next = v .next ∙ ends;
+          index = v .index;
+          coerce = v .coerce;
+        }) (l .inside) (λ i. rw (l .is)) (λ c. rw (l .is))
       where
         no-others : (list : List Seq) → list ≡ [] → Alternatives s (sequenceAt s components (its-choice .rest .section) depth) (its-choice .rest .e)
             list (its-choice .rest .m) (its-choice .inside .head .next + its-choice .inside .head .num) to →

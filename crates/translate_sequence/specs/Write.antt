@@ -9,7 +9,7 @@ use Rattle.rules.specs.Bytes.{Bytes}
 use Rattle.rules.specs.Tables.{byNumber}
 use Rattle.rules.specs.Limits.{limits}
 use Rattle.rules.specs.ProgramFormat.{recordSize}
-use Rattle.rules.specs.Program.{size, sizeCmd, flatSeq}
+use Rattle.rules.specs.Program.{Rec, size, sizeCmd, flatSeq}
 use Rattle.rules.specs.ProgramSize.{argSize, argSizeCmd}
 use Rattle.manifest_accessors.specs.Places.{CommandAt, SequenceAt}
 use Rattle.translate_size.specs.Size.{most}
@@ -37,11 +37,18 @@ pub record CommandJob (s : Bytes) (table : List ℕ) (depth : ℕ) (state : Writ
   pub few : state .n + sizeCmd (place .cmd) ≤ limits .records
   pub small : length room ≤ most
 
+-- the records rs of a sequence that ends at `to` were written from the state on; its index and coerce are as they were
+pub record SequenceWrote (rs : List Rec) (to : ℕ) (state : WriteState) (room : Bytes) (r : WriteState) (room′ : Bytes) : Type 0 where
+  pub wrote : Wrote rs state room r room′
+  pub next : r .next ≡ to
+  pub index : r .index ≡ state .index
+  pub coerce : r .coerce ≡ state .coerce
+
 -- for every such job: the records of the sequence, and of the command, were written from the state on
 abbrev pub SequenceWrites : Lent → Lent → ℕ → Bool → ℕ → ℕ → WriteState → Lent → WriteState → Type 0
 SequenceWrites s table depth coercible target beyond state room r =
     (j : SequenceJob (was s) (was table) depth state (was room)) →
-    Wrote (flatSeq (j .place .seq) coercible (state .index) false target beyond (state .n)) state (was room) r (left room)
+    SequenceWrote (flatSeq (j .place .seq) coercible (state .index) false target beyond (state .n)) (j .place .to) state (was room) r (left room)
 
 abbrev pub CommandWrites : Lent → Lent → ℕ → ℕ → WriteState → Lent → WriteState → Type 0
 CommandWrites s table depth target state room r =

@@ -38,7 +38,7 @@ fn record_after(n: usize, records: usize) -> usize
     n + records
 }
 
-// The state at the start of the sequence at `at`: its records follow those of `now`.
+// The state at `at` with the index and coerce of `state`: the records from there follow those of `now`.
 fn enter(state: WriteState, at: usize, now: WriteState) -> WriteState
     ensures { λ r. ⌜ r ≡ record { next = at; index = state .index; coerce = state .coerce; n = now .n; to = now .to } ⌝ }
 {
@@ -79,7 +79,7 @@ pub fn write_sequence(
         now = write_command(s, table, depth - 1, t, now, room);
         left -= 1;
     }
-    now
+    enter(state, now.next, now)
 }
 
 // The command at state.next: a failed condition goes on at `target`.
@@ -100,46 +100,28 @@ fn write_command(
     if holds_sequence(kind) {
         let b = open(s, c.next);
         let inner = size_sequence(s, table, depth, b.next);
-        let r = write_sequence(
-            s,
-            table,
-            depth,
-            true,
-            target,
-            record_after(state.n, inner.records),
-            enter(state, b.next, state),
-            room,
-        );
-        return enter(state, b.next + b.value, r);
+        let z = record_after(state.n, inner.records);
+        let first = enter(state, b.next, state);
+        return write_sequence(s, table, depth, true, target, z, first, room);
     }
     if holds_alternatives(kind) {
         let whole = size_command(s, table, depth, state.next);
         let z = state.n + whole.records;
         let h = open(s, c.next);
         let mut left = h.value;
-        let mut p = h.next;
-        let mut now = state;
+        let mut now = enter(state, h.next, state);
         while 1 < left {
-            let b = open(s, p);
+            let b = open(s, now.next);
             let alternative = size_sequence(s, table, depth, b.next);
-            now = write_sequence(
-                s,
-                table,
-                depth,
-                false,
-                now.n + alternative.records + 1,
-                z,
-                enter(state, b.next, now),
-                room,
-            );
+            let after = now.n + alternative.records + 1;
+            let first = enter(state, b.next, now);
+            now = write_sequence(s, table, depth, false, after, z, first, room);
             now = put_jump(z, now, room);
-            p = b.next + b.value;
             left -= 1;
         }
-        let b = open(s, p);
+        let b = open(s, now.next);
         let last = enter(state, b.next, now);
-        let r = write_sequence(s, table, depth, false, target, z, last, room);
-        return enter(state, b.next + b.value, r);
+        return write_sequence(s, table, depth, false, target, z, last, room);
     }
     put_command(s, table, code, c.next, target, state, room)
 }

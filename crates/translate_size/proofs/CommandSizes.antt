@@ -6,6 +6,7 @@ use native.Mathlib.Omega.{arith}
 use lib.ListN.{length}
 use Rattle.rules.specs.Bytes.{Bytes}
 use Rattle.rules.specs.Limits.{limits}
+use Rattle.rules.specs.Commands.{runSequenceCode, tryEachCode}
 use Rattle.rules.specs.Tables.{byNumber}
 use Rattle.rules.specs.declared.tables.Argument.{Argument}
 use Rattle.rules_tables.specs.Kinds.{kindOf}
@@ -19,7 +20,7 @@ use Rattle.manifest_accessors.specs.Heads.{HeadAt}
 use Rattle.manifest_accessors.proofs.HeadLaws.{number-headed}
 use Rattle.manifest_accessors.proofs.PlaceLaws.{head-later, command-starts}
 use Rattle.manifest_accessors.proofs.ArgumentLaws.{command-one}
-use Rattle.manifest_accessors.proofs.CommandPlaces.{Coded, coded, Sub, its-sequence, Tries, its-alternatives, listOf, alternatives-law, string-head, string-fits, string-sequence}
+use Rattle.manifest_accessors.proofs.CommandPlaces.{Coded, coded, Sub, its-sequence, Tries, its-alternatives, listOf, alternatives-law, string-head, string-sequence}
 use Rattle.manifest_accessors.proofs.TryPlaces.{AltsAt, Choice, choice, no-choice, try-head, try-places}
 use Rattle.translate_size.specs.declared.sizes.Size.{Size}
 use Rattle.translate_size.specs.Size.{argumentSize, most, SequenceHere, CommandHere, SequenceSized, CommandSized}
@@ -57,15 +58,12 @@ module _ (s : Bytes) (table : List ℕ) (depth at : ℕ) (j : CommandHere s tabl
 
   module _ (v p : ℕ) (q : (v ≡ its-code .code) × (p ≡ its-code .from)) where
     -- 30
-    module _ (z : v ≡ 30) where
+    module _ (z : v ≡ runSequenceCode) where
       abbrev sub-at : Sub s (j .n) depth 0 at (j .place) p
       sub-at = its-sequence s (j .n) depth 0 at (j .place) its-code p (q .1) (sym (q .0) ∙ z)
 
       abbrev pub sub-head : HeadAt s p
       sub-head = string-head s (j .n) (j .place .section) depth (j .place .m + 1) (j .place .e) p (sub-at .seq) (sub-at .inside) (j .place .fits)
-
-      pub sub-fits : sub-at .inside .head .next + sub-at .inside .head .num ≤ length s
-      sub-fits = string-fits s (j .n) (j .place .section) depth (j .place .m + 1) (j .place .e) p (sub-at .seq) (sub-at .inside) (j .place .fits)
 
       sub-size : sizeCmd (j .place .cmd) ≡ size (sub-at .seq)
       unfolding size
@@ -91,17 +89,16 @@ module _ (s : Bytes) (table : List ℕ) (depth at : ℕ) (j : CommandHere s tabl
               small = sub-small;
             }
 
-        pub sub-sized : (r : Size) → SequenceSized (sub-at .seq) r →
-            CommandSized (j .place .cmd) (j .place .to) (record { next = from + w; records = r .records; arguments = r .arguments })
+        pub sub-sized : (r : Size) → SequenceSized (sub-at .seq) (sub-here .place .to) r → CommandSized (j .place .cmd) (j .place .to) r
         sub-sized r sized =
             record {
               records = sized .records ∙ sym sub-size;
               arguments = sized .arguments ∙ sym sub-weight;
-              next = omega (arith, o .0, o .1, sub-at .to);
+              next = sized .next ∙ sym (sub-at .to);
             }
 
     -- any other but 15
-    module _ (z : v ≡ 30 → ⊥) (z′ : v ≡ 15 → ⊥) where
+    module _ (z : v ≡ runSequenceCode → ⊥) (z′ : v ≡ tryEachCode → ⊥) where
       abbrev pub OneAt : Type 0
       OneAt = (x : ArgumentAt s v p) × (x .n ≡ j .n) × (j .place .cmd ≡ one at (x .op) (x .coerce)) × (x .to ≡ j .place .to) × (j .place .m < limits .commands)
 
@@ -130,7 +127,7 @@ module _ (s : Bytes) (table : List ℕ) (depth at : ℕ) (j : CommandHere s tabl
             }
 
     -- 15
-    module _ (z : v ≡ 15) where
+    module _ (z : v ≡ tryEachCode) where
       abbrev tries-at : Tries s (j .n) depth 0 at (j .place) p
       tries-at = its-alternatives s (j .n) depth 0 at (j .place) its-code p (q .1) (sym (q .0) ∙ z)
 
@@ -177,9 +174,6 @@ module _ (s : Bytes) (table : List ℕ) (depth at : ℕ) (cmd : Cmd) (to k : ℕ
     abbrev pub choice-head : HeadAt s (now .next)
     choice-head = string-head s (l .n) (l .place .section) depth (l .place .m) (l .place .e) (now .next) (its-choice .first) (its-choice .inside) (l .place .fits)
 
-    pub choice-fits : its-choice .inside .head .next + its-choice .inside .head .num ≤ length s
-    choice-fits = string-fits s (l .n) (l .place .section) depth (l .place .m) (l .place .e) (now .next) (its-choice .first) (its-choice .inside) (l .place .fits)
-
     sum : sizeAll (l .place .seqs) ≡ size (its-choice .first) + sizeAll (its-choice .rest .seqs)
     unfolding sizeAll
     sum = ap sizeAll (its-choice .seqs)
@@ -204,12 +198,12 @@ module _ (s : Bytes) (table : List ℕ) (depth at : ℕ) (cmd : Cmd) (to k : ℕ
             small = choice-small;
           }
 
-      module _ (r : Size) (sized : SequenceSized (its-choice .first) r) where
+      module _ (r : Size) (sized : SequenceSized (its-choice .first) (choice-here .place .to) r) where
         pub choices-small : (now .records + r .records ≤ most) × (now .arguments + r .arguments ≤ most)
         choices-small =
             (omega (arith, sum, l .records, l .small, sized .records), omega (arith, weight, l .arguments, l .small, sized .arguments))
 
-        pub choices-on : Choices s table depth at cmd to (k - 1) (record { next = from + w; records = now .records + r .records; arguments = now .arguments + r .arguments })
+        pub choices-on : Choices s table depth at cmd to (k - 1) (record { next = r .next; records = now .records + r .records; arguments = now .arguments + r .arguments })
         choices-on =
             let t = its-choice in
             record {
@@ -223,10 +217,10 @@ module _ (s : Bytes) (table : List ℕ) (depth at : ℕ) (cmd : Cmd) (to k : ℕ
                     fits = t .rest .fits;
                     seqs = t .rest .seqs;
                     size = t .rest .size;
-                    reads = rw (o .0, o .1) (t .rest .reads);
+                    reads = rw (sized .next) (t .rest .reads);
                     few = omega arith;
                   };
-              behind = omega (arith, choice-later);
+              behind = omega (arith, choice-later, o .1, sized .next);
               records = omega (arith, sum, l .records, sized .records);
               arguments = omega (arith, weight, l .arguments, sized .arguments);
               small = l .small;

@@ -33,7 +33,7 @@ argumentSize Alternatives a = 0
 argumentSize Parameters a = parametersSize a
 argumentSize Sequence a = 0
 
--- the largest number
+-- the largest number of 64 bits; a count up to it does not overflow
 abbrev pub most : ℕ
 most = 0xffffffffffffffff
 
@@ -50,9 +50,11 @@ pub record CommandHere (s : Bytes) (table : List ℕ) (depth at : ℕ) : Type 0 
   pub place : CommandAt s n depth 0 at
   pub small : sizeCmd (place .cmd) + argSizeCmd (place .cmd) ≤ most
 
-pub record SequenceSized (seq : Seq) (r : Size) : Type 0 where
+-- the size of the sequence or command, and the place after it
+pub record SequenceSized (seq : Seq) (to : ℕ) (r : Size) : Type 0 where
   pub records : r .records ≡ size seq
   pub arguments : r .arguments ≡ argSize seq
+  pub next : r .next ≡ to
 
 pub record CommandSized (cmd : Cmd) (to : ℕ) (r : Size) : Type 0 where
   pub records : r .records ≡ sizeCmd cmd

@@ -63,7 +63,7 @@ fn argument_size(kind: Argument, a: Args) -> usize
 // The sequence at `at`; it and those in it may be `depth` deep.
 pub fn size_sequence(s: &[u8], table: &Table, depth: usize, at: usize) -> Size
     requires { ⌜ SequenceHere (now s) (now table) depth at ⌝ }
-    ensures { λ r. ⌜ ((j : SequenceHere (was s) (was table) depth at) → SequenceSized (j .place .seq) r) ⌝ }
+    ensures { λ r. ⌜ ((j : SequenceHere (was s) (was table) depth at) → SequenceSized (j .place .seq) (j .place .to) r) ⌝ }
 {
     let h = open(s, at);
     let mut now = Size {
@@ -94,12 +94,7 @@ pub fn size_command(s: &[u8], table: &Table, depth: usize, at: usize) -> Size
     let kind = kind_of(table, code);
     if holds_sequence(kind) {
         let b = open(s, c.next);
-        let r = size_sequence(s, table, depth, b.next);
-        return Size {
-            next: b.next + b.value,
-            records: r.records,
-            arguments: r.arguments,
-        };
+        return size_sequence(s, table, depth, b.next);
     }
     if holds_alternatives(kind) {
         let h = open(s, c.next);
@@ -114,7 +109,7 @@ pub fn size_command(s: &[u8], table: &Table, depth: usize, at: usize) -> Size
             let b = open(s, now.next);
             let r = size_sequence(s, table, depth, b.next);
             now = Size {
-                next: b.next + b.value,
+                next: r.next,
                 records: now.records + r.records,
                 arguments: now.arguments + r.arguments,
             };

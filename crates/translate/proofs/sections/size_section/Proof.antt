@@ -5,7 +5,7 @@ use Rattle.translate.proofs.sections.size_section.Statement.{statement}
 use Rattle.translate.proofs.sections.size_section.Tie as tie
 
 skip : tie.Need-returns
-skip c = ((λ w. one-answer _ w (not-true _ (c .if1 .taken))), λ w. (refl, refl))
+skip c = ((λ w. one-answer _ w (not-true _ (c .if1 .taken))), λ w. refl)
 
 whole : tie.Need-returns-2
 whole c = ((λ w j. c .size-sequence .ensures j), λ w. one-answer _ (not-false _ (c .before .if1 .left)) w)

@@ -2,7 +2,6 @@ use mathlib.Core.Path.{refl}
 use borrow.Author.Needs.{needs}
 use borrow.Author.Tests.{not-true, not-false}
 use Rattle.manifest_accessors.proofs.SectionPlaces.{one-answer}
-use Rattle.translate_sequence.proofs.WriteLaws.{wrote-at}
 use Rattle.translate.proofs.sections.write_section.Statement.{statement}
 use Rattle.translate.proofs.sections.write_section.Tie as tie
 
@@ -11,7 +10,7 @@ skip c = ((λ w. one-answer _ w (not-true _ (c .if1 .taken))), λ w. (refl, refl
 
 whole : tie.Need-returns-2
 whole c = (
-  (λ w j. wrote-at _ _ _ _ _ _ _ refl refl refl refl (c .before .before .write-sequence .ensures j)),
+  (λ w j. c .before .before .write-sequence .ensures j),
   λ w. one-answer _ (not-false _ (c .before .before .before .before .if1 .left)) w,
 )
 

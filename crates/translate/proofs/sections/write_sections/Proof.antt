@@ -4,6 +4,7 @@ use native.Mathlib.Omega.{arith}
 use lib.ListN.{length}
 use borrow.Author.Needs.{needs}
 use Rattle.rules.specs.Limits.{sectionCount}
+use Rattle.manifest_accessors.specs.Arguments.{coerceFalse}
 use Rattle.translate.specs.Sections.{SectionsJob}
 use Rattle.translate.proofs.SectionLaws.{Writing, writing-starts, writing-done, writing-job, writing-on}
 use Rattle.translate.proofs.sections.write_sections.Statement.{statement}
@@ -12,7 +13,7 @@ use Rattle.translate.proofs.sections.write_sections.Tie as tie
 abbrev Inv-loop : tie.InvT-loop
 Inv-loop s table group sections to room₀ now₀ k₀ room now k =
     (length room ≡ length room₀)
-    × ((j : SectionsJob s table group sections to room₀) → Writing s table group sections (j .here) (record { next = 0; index = 0; coerce = 1; n = 0; to = to }) room₀ room k now)
+    × ((j : SectionsJob s table group sections to room₀) → Writing s table group sections (j .here) (record { next = 0; index = 0; coerce = coerceFalse; n = 0; to = to }) room₀ room k now)
 
 abbrev μ-loop : tie.MeasureT-loop
 μ-loop s table group sections to room₀ now₀ k₀ room now k = sectionCount - k

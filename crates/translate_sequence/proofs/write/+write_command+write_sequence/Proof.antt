@@ -10,9 +10,9 @@ use Rattle.manifest_accessors.proofs.PlaceLaws.{remaining}
 use Rattle.translate_size.proofs.KindTests.{runs, runs-not, tries, tries-not}
 use Rattle.translate_sequence.specs.Write.{CommandJob}
 use Rattle.translate_sequence.proofs.WriteLaws.{CommandsJob, Loop, loop-starts, loop-done, command-job, loop-goes-on, sequence-deep}
-use Rattle.translate_sequence.proofs.WriteLaws.{sequence-head, commands-later, commands-job, wrote-at, AltsLoop, starts, command-head}
-use Rattle.translate_sequence.proofs.WriteLaws.{command-here, sub-head, sub-later, sub-fits, sub-few, sub-here, sub-job, sub-wrote, leaf-job}
-use Rattle.translate_sequence.proofs.WriteLaws.{leaf-wrote, tries-head, tries-start, choice-head, choice-later, choice-fits, choice-few}
+use Rattle.translate_sequence.proofs.WriteLaws.{sequence-head, commands-later, commands-job, AltsLoop, starts, command-head}
+use Rattle.translate_sequence.proofs.WriteLaws.{command-here, sub-head, sub-later, sub-few, sub-here, sub-job, sub-wrote, leaf-job}
+use Rattle.translate_sequence.proofs.WriteLaws.{leaf-wrote, tries-head, tries-start, choice-head, choice-later, choice-few}
 use Rattle.translate_sequence.proofs.WriteLaws.{choice-here, choice-job, jump-room, jump-few, tries-on, tries-last}
 use borrow.Fn.Kinds.{In}
 use borrow.Fn.PlainCycle.{Measures, is, falls, and}
@@ -99,14 +99,14 @@ write-command-callees t = (
 
 -- what write-sequence knows of what it calls
 abbrev write-sequence-callees : ℕ → write-sequence-lts.Claims
-write-sequence-callees t = (open-reads.Asked, open-reads.Learnt, caught-reads.Asked, caught-reads.Learnt, write-command-below t, write-command.Post)
+write-sequence-callees t = (open-reads.Asked, open-reads.Learnt, caught-reads.Asked, caught-reads.Learnt, write-command-below t, write-command.Post, enter-reads.Asked, enter-reads.Learnt)
 
 abbrev write-command-Inv-loop : write-command-lts.InvT-loop
-write-command-Inv-loop s table depth target state room₀ code z left₀ p₀ now₀ room left p now =
-    (length room ≡ length room₀) × ((j : CommandJob s table depth state room₀) → AltsLoop s table depth (j .n) (j .place .cmd) (j .place .to) target state room₀ z room left p now)
+write-command-Inv-loop s table depth target state room₀ code z left₀ now₀ room left now =
+    (length room ≡ length room₀) × ((j : CommandJob s table depth state room₀) → AltsLoop s table depth (j .n) (j .place .cmd) (j .place .to) target state room₀ z room left now)
 
 abbrev write-command-μ-loop : write-command-lts.MeasureT-loop
-write-command-μ-loop s table depth target state room₀ code z left₀ p₀ now₀ room left p now = left
+write-command-μ-loop s table depth target state room₀ code z left₀ now₀ room left now = left
 
 -- back to the entry of a command, from where the command's kind was read
 abbrev to-entry :
@@ -143,19 +143,12 @@ abbrev to-sub :
     write-command-lts.After-open2 (write-command-callees t) (write-command-at t) write-command.Post write-command-Inv-loop write-command-μ-loop
 to-sub c = c .before .before .before
 
--- back to where its sequence was entered, from where its sequence was written
-abbrev to-entered :
-    {t : ℕ} →
-    write-command-lts.After-write-sequence (write-command-callees t) (write-command-at t) write-command.Post write-command-Inv-loop write-command-μ-loop →
-    write-command-lts.After-enter (write-command-callees t) (write-command-at t) write-command.Post write-command-Inv-loop write-command-μ-loop
-to-entered c = c .before .before
-
 -- back to where the whole command was sized, from the head of the loop over the alternatives
 abbrev to-sized-whole :
     {t : ℕ} →
     write-command-lts.At-loop (write-command-callees t) (write-command-at t) write-command.Post write-command-Inv-loop write-command-μ-loop →
     write-command-lts.After-size-command (write-command-callees t) (write-command-at t) write-command.Post write-command-Inv-loop write-command-μ-loop
-to-sized-whole c = c .before .before .before .before
+to-sized-whole c = c .before .before .before .before .before
 
 -- back to the head of the loop over the alternatives, from where an alternative was sized
 abbrev sized-to-turns :
@@ -170,13 +163,6 @@ abbrev entered-last-to-turns :
     write-command-lts.After-enter4 (write-command-callees t) (write-command-at t) write-command.Post write-command-Inv-loop write-command-μ-loop →
     write-command-lts.At-loop (write-command-callees t) (write-command-at t) write-command.Post write-command-Inv-loop write-command-μ-loop
 entered-last-to-turns c = c .before .before .before
-
--- back to where the last alternative was entered, from where the last alternative was written
-abbrev to-entered-last :
-    {t : ℕ} →
-    write-command-lts.After-write-sequence3 (write-command-callees t) (write-command-at t) write-command.Post write-command-Inv-loop write-command-μ-loop →
-    write-command-lts.After-enter4 (write-command-callees t) (write-command-at t) write-command.Post write-command-Inv-loop write-command-μ-loop
-to-entered-last c = c .before .before
 
 -- back to where an alternative was sized, from where an alternative was written
 abbrev to-sized :
@@ -252,27 +238,12 @@ write-command-write-sequence-requires t c κs =
     let o = sub .open2 .ensures (sub-head _ _ _ _ _ j _ _ h z) in
     rw (c .before .enter .ensures) (omega (arith, entry .pre .0, starts _ _ _ _ _ j, sub-later _ _ _ _ _ j _ _ h z _ _ o), sub-job _ _ _ _ _ j _ _ h z _ _ o)
 
-write-command-add-enter : (t : ℕ) → write-command-lts.Need-add-enter (write-command-callees t) (write-command-at t) write-command.Post write-command-Inv-loop write-command-μ-loop
-write-command-add-enter t c =
-    let sub = to-sub (to-entered (c .before .before .before)) in
-    let kinds = sub-to-kinds sub in
-    let entry = to-entry kinds in
-    let j = entry .pre .1 in
-    let h = kinds .before .before .«open» .ensures (command-head _ _ _ _ _ j) in
-    let z = runs _ _ (kinds .before .kind-of .ensures) _ (kinds .holds-sequence .ensures) (sub .before .if1 .taken) in
-    let o = sub .open2 .ensures (sub-head _ _ _ _ _ j _ _ h z) in
-    omega (arith, entry .good .0, entry .fits, sub-fits _ _ _ _ _ j _ _ h z, o .0, o .1)
-
-write-command-enter-requires-2 :
-    (t : ℕ) → write-command-lts.Need-enter-requires-2 (write-command-callees t) (write-command-at t) write-command.Post write-command-Inv-loop write-command-μ-loop
-write-command-enter-requires-2 t c κs = search needs
-
 write-command-same-length : (t : ℕ) → write-command-lts.Need-same-length (write-command-callees t) (write-command-at t) write-command.Post write-command-Inv-loop write-command-μ-loop
 write-command-same-length t c = search needs
 
 write-command-returns : (t : ℕ) → write-command-lts.Need-returns (write-command-callees t) (write-command-at t) write-command.Post write-command-Inv-loop write-command-μ-loop
 write-command-returns t c =
-    let wrote-sub = c .before .before .before .before in
+    let wrote-sub = c .before .before in
     let entered = wrote-sub .before .before in
     let sub = to-sub entered in
     let kinds = sub-to-kinds sub in
@@ -280,9 +251,8 @@ write-command-returns t c =
     let h = kinds .before .before .«open» .ensures (command-head _ _ _ _ _ j) in
     let z = runs _ _ (kinds .before .kind-of .ensures) _ (kinds .holds-sequence .ensures) (sub .before .if1 .taken) in
     let o = sub .open2 .ensures (sub-head _ _ _ _ _ j _ _ h z) in
-    rw (c .enter2 .ensures)
-    (sub-wrote _ _ _ _ _ j _ _ h z _ _ o _ _ (entered .before .before .size-sequence .ensures (sub-here _ _ _ _ _ j _ _ h z _ _ o) .records) _ _
-    ((rw (entered .enter .ensures, entered .before .record-after .ensures) at (wrote-sub .write-sequence .ensures)) (sub-job _ _ _ _ _ j _ _ h z _ _ o)))
+    sub-wrote _ _ _ _ _ j _ _ h z _ _ o _ _ (entered .before .before .size-sequence .ensures (sub-here _ _ _ _ _ j _ _ h z _ _ o) .records) _ _
+    ((rw (entered .enter .ensures, entered .before .record-after .ensures) at (wrote-sub .write-sequence .ensures)) (sub-job _ _ _ _ _ j _ _ h z _ _ o))
 
 write-command-holds-alternatives-requires :
     (t : ℕ) → write-command-lts.Need-holds-alternatives-requires (write-command-callees t) (write-command-at t) write-command.Post write-command-Inv-loop write-command-μ-loop
@@ -306,45 +276,51 @@ write-command-open-requires-3 t c κs =
     let y = tries _ _ (kinds .before .kind-of .ensures) _ (choices .holds-alternatives .ensures) (c .before .before .before .if2 .taken) in
     tries-head _ _ _ _ _ j _ _ h y
 
+write-command-enter-requires-2 :
+    (t : ℕ) → write-command-lts.Need-enter-requires-2 (write-command-callees t) (write-command-at t) write-command.Post write-command-Inv-loop write-command-μ-loop
+write-command-enter-requires-2 t c κs = search needs
+
 write-command-loop-holds : (t : ℕ) → write-command-lts.Need-loop-holds (write-command-callees t) (write-command-at t) write-command.Post write-command-Inv-loop write-command-μ-loop
 write-command-loop-holds t c =
-    let sized-whole = c .before .before .before in
+    let sized-whole = c .before .before .before .before in
     let choices = to-choices sized-whole in
     let kinds = choices-to-kinds choices in (
       refl,
       λ j.
           let h = kinds .before .before .«open» .ensures (command-head _ _ _ _ _ j) in
           let y = tries _ _ (kinds .before .kind-of .ensures) _ (choices .holds-alternatives .ensures) (sized-whole .before .if2 .taken) in
-          tries-start _ _ _ _ _ j _ _ h y _ _ _ _ (c .open3 .ensures (tries-head _ _ _ _ _ j _ _ h y)) _ (sized-whole .size-command .ensures (command-here _ _ _ _ _ j) .records) refl,
+          rw (c .enter2 .ensures)
+          (tries-start _ _ _ _ _ j _ _ h y _ _ _ _ (c .before .open3 .ensures (tries-head _ _ _ _ _ j _ _ h y)) _
+          (sized-whole .size-command .ensures (command-here _ _ _ _ _ j) .records) refl),
     )
 
 write-command-open-requires-4 : (t : ℕ) → write-command-lts.Need-open-requires-4 (write-command-callees t) (write-command-at t) write-command.Post write-command-Inv-loop write-command-μ-loop
-write-command-open-requires-4 t c κs = choice-head _ _ _ _ _ _ _ _ _ _ _ _ _ _ (c .before .loop .inv .1 (turns-to-entry (c .before) .pre .1))
+write-command-open-requires-4 t c κs = choice-head _ _ _ _ _ _ _ _ _ _ _ _ _ (c .before .loop .inv .1 (turns-to-entry (c .before) .pre .1))
 
 write-command-size-sequence-requires-2 :
     (t : ℕ) → write-command-lts.Need-size-sequence-requires-2 (write-command-callees t) (write-command-at t) write-command.Post write-command-Inv-loop write-command-μ-loop
 write-command-size-sequence-requires-2 t c κs =
     let l = c .before .before .loop .inv .1 (turns-to-entry (c .before .before) .pre .1) in
-    let o = c .open4 .ensures (choice-head _ _ _ _ _ _ _ _ _ _ _ _ _ _ l) in
-    choice-here _ _ _ _ _ _ _ _ _ _ _ _ _ _ l _ _ o
+    let o = c .open4 .ensures (choice-head _ _ _ _ _ _ _ _ _ _ _ _ _ l) in
+    choice-here _ _ _ _ _ _ _ _ _ _ _ _ _ l _ _ o
 
-write-command-add-write-sequence :
-    (t : ℕ) → write-command-lts.Need-add-write-sequence (write-command-callees t) (write-command-at t) write-command.Post write-command-Inv-loop write-command-μ-loop
-write-command-add-write-sequence t c =
+write-command-add-after :
+    (t : ℕ) → write-command-lts.Need-add-after (write-command-callees t) (write-command-at t) write-command.Post write-command-Inv-loop write-command-μ-loop
+write-command-add-after t c =
     let turns = sized-to-turns (c .before .before) in
     let l = turns .loop .inv .1 (turns-to-entry turns .pre .1) in
     let m = c .before .before .before .before .loop-test .taken in
-    let o = c .before .before .before .open4 .ensures (choice-head _ _ _ _ _ _ _ _ _ _ _ _ _ _ l) in
-    omega (arith, choice-few _ _ _ _ _ _ _ _ _ _ _ _ _ _ l m _ (c .before .before .size-sequence2 .ensures (choice-here _ _ _ _ _ _ _ _ _ _ _ _ _ _ l _ _ o) .records))
+    let o = c .before .before .before .open4 .ensures (choice-head _ _ _ _ _ _ _ _ _ _ _ _ _ l) in
+    omega (arith, choice-few _ _ _ _ _ _ _ _ _ _ _ _ _ l m _ (c .before .before .size-sequence2 .ensures (choice-here _ _ _ _ _ _ _ _ _ _ _ _ _ l _ _ o) .records))
 
-write-command-add-write-sequence-2 :
-    (t : ℕ) → write-command-lts.Need-add-write-sequence-2 (write-command-callees t) (write-command-at t) write-command.Post write-command-Inv-loop write-command-μ-loop
-write-command-add-write-sequence-2 t c =
+write-command-add-after-2 :
+    (t : ℕ) → write-command-lts.Need-add-after-2 (write-command-callees t) (write-command-at t) write-command.Post write-command-Inv-loop write-command-μ-loop
+write-command-add-after-2 t c =
     let turns = sized-to-turns (c .before .before) in
     let l = turns .loop .inv .1 (turns-to-entry turns .pre .1) in
     let m = c .before .before .before .before .loop-test .taken in
-    let o = c .before .before .before .open4 .ensures (choice-head _ _ _ _ _ _ _ _ _ _ _ _ _ _ l) in
-    omega (arith, choice-few _ _ _ _ _ _ _ _ _ _ _ _ _ _ l m _ (c .before .before .size-sequence2 .ensures (choice-here _ _ _ _ _ _ _ _ _ _ _ _ _ _ l _ _ o) .records))
+    let o = c .before .before .before .open4 .ensures (choice-head _ _ _ _ _ _ _ _ _ _ _ _ _ l) in
+    omega (arith, choice-few _ _ _ _ _ _ _ _ _ _ _ _ _ l m _ (c .before .before .size-sequence2 .ensures (choice-here _ _ _ _ _ _ _ _ _ _ _ _ _ l _ _ o) .records))
 
 write-command-enter-requires-3 :
     (t : ℕ) → write-command-lts.Need-enter-requires-3 (write-command-callees t) (write-command-at t) write-command.Post write-command-Inv-loop write-command-μ-loop
@@ -358,8 +334,8 @@ write-command-write-sequence-requires-2 t c κs =
     let entry = turns-to-entry turns in
     let j = entry .pre .1 in
     let l = turns .loop .inv .1 j in
-    let o = sized .before .open4 .ensures (choice-head _ _ _ _ _ _ _ _ _ _ _ _ _ _ l) in
-    rw (c .before .enter3 .ensures) (omega (arith, entry .pre .0, starts _ _ _ _ _ j, choice-later _ _ _ _ _ _ _ _ _ _ _ _ _ _ l _ _ o), choice-job _ _ _ _ _ _ _ _ _ _ _ _ _ _ l _ _ o)
+    let o = sized .before .open4 .ensures (choice-head _ _ _ _ _ _ _ _ _ _ _ _ _ l) in
+    rw (c .before .enter3 .ensures) (omega (arith, entry .pre .0, starts _ _ _ _ _ j, choice-later _ _ _ _ _ _ _ _ _ _ _ _ _ l _ _ o), choice-job _ _ _ _ _ _ _ _ _ _ _ _ _ l _ _ o)
 
 write-command-put-jump-requires :
     (t : ℕ) → write-command-lts.Need-put-jump-requires (write-command-callees t) (write-command-at t) write-command.Post write-command-Inv-loop write-command-μ-loop
@@ -369,18 +345,9 @@ write-command-put-jump-requires t c κs =
     let turns = sized-to-turns sized in
     let l = turns .loop .inv .1 (turns-to-entry turns .pre .1) in
     let m = sized .before .before .loop-test .taken in
-    let o = sized .before .open4 .ensures (choice-head _ _ _ _ _ _ _ _ _ _ _ _ _ _ l) in
-    let w = (rw (c .before .before .before .before .before .enter3 .ensures) at (c .before .before .before .write-sequence2 .ensures)) (choice-job _ _ _ _ _ _ _ _ _ _ _ _ _ _ l _ _ o) in
-    (jump-room _ _ _ _ _ _ _ _ _ _ _ _ _ _ l _ _ o m _ _ _ w, jump-few _ _ _ _ _ _ _ _ _ _ _ _ _ _ l _ _ o m _ _ _ w)
-
-write-command-add-p : (t : ℕ) → write-command-lts.Need-add-p (write-command-callees t) (write-command-at t) write-command.Post write-command-Inv-loop write-command-μ-loop
-write-command-add-p t c =
-    let sized = to-sized (to-wrote (c .before .before .before .before)) in
-    let turns = sized-to-turns sized in
-    let entry = turns-to-entry turns in
-    let l = turns .loop .inv .1 (entry .pre .1) in
-    let o = sized .before .open4 .ensures (choice-head _ _ _ _ _ _ _ _ _ _ _ _ _ _ l) in
-    omega (arith, entry .good .0, entry .fits, choice-fits _ _ _ _ _ _ _ _ _ _ _ _ _ _ l, o .0, o .1)
+    let o = sized .before .open4 .ensures (choice-head _ _ _ _ _ _ _ _ _ _ _ _ _ l) in
+    let w = (rw (c .before .before .before .before .before .enter3 .ensures) at (c .before .before .before .write-sequence2 .ensures)) (choice-job _ _ _ _ _ _ _ _ _ _ _ _ _ l _ _ o) in
+    (jump-room _ _ _ _ _ _ _ _ _ _ _ _ _ l _ _ o m _ _ _ w, jump-few _ _ _ _ _ _ _ _ _ _ _ _ _ l _ _ o m _ _ _ w)
 
 write-command-sub-left : (t : ℕ) → write-command-lts.Need-sub-left (write-command-callees t) (write-command-at t) write-command.Post write-command-Inv-loop write-command-μ-loop
 write-command-sub-left t c = search needs
@@ -390,23 +357,23 @@ write-command-loop-less t c = search needs
 
 write-command-loop-again : (t : ℕ) → write-command-lts.Need-loop-again (write-command-callees t) (write-command-at t) write-command.Post write-command-Inv-loop write-command-μ-loop
 write-command-loop-again t c =
-    let jumps = c .before .before .before .before in
+    let jumps = c .before .before .before in
     let wrote = jumps .before .before .before in
     let sized = to-sized wrote in
     let turns = sized-to-turns sized in (
-      omega (arith, sized-to-turns (to-sized (to-wrote (c .before .before .before .before))) .loop .inv .0),
+      omega (arith, sized-to-turns (to-sized (to-wrote (c .before .before .before))) .loop .inv .0),
       λ j.
           let l = turns .loop .inv .1 j in
           let m = sized .before .before .loop-test .taken in
-          let o = sized .before .open4 .ensures (choice-head _ _ _ _ _ _ _ _ _ _ _ _ _ _ l) in
-          tries-on _ _ _ _ _ _ _ _ _ _ _ _ _ _ l _ _ o m _ _ _ ((rw (wrote .before .before .enter3 .ensures) at (wrote .write-sequence2 .ensures))
-          (choice-job _ _ _ _ _ _ _ _ _ _ _ _ _ _ l _ _ o))
-          (omega (arith, to-sized (to-wrote (c .before .before .before .before)) .size-sequence2 .ensures (choice-here _ _ _ _ _ _ _ _ _ _ _ _ _ _ l _ _ o) .records)) _ _
-          (c .before .before .before .put-jump .ensures),
+          let o = sized .before .open4 .ensures (choice-head _ _ _ _ _ _ _ _ _ _ _ _ _ l) in
+          tries-on _ _ _ _ _ _ _ _ _ _ _ _ _ l _ _ o m _ _ _ ((rw (wrote .before .before .enter3 .ensures) at (wrote .write-sequence2 .ensures))
+          (choice-job _ _ _ _ _ _ _ _ _ _ _ _ _ l _ _ o))
+          (omega (arith, to-sized (to-wrote (c .before .before .before)) .size-sequence2 .ensures (choice-here _ _ _ _ _ _ _ _ _ _ _ _ _ l _ _ o) .records)) _ _
+          (c .before .before .put-jump .ensures),
     )
 
 write-command-open-requires-5 : (t : ℕ) → write-command-lts.Need-open-requires-5 (write-command-callees t) (write-command-at t) write-command.Post write-command-Inv-loop write-command-μ-loop
-write-command-open-requires-5 t c κs = choice-head _ _ _ _ _ _ _ _ _ _ _ _ _ _ (c .before .loop .inv .1 (turns-to-entry (c .before) .pre .1))
+write-command-open-requires-5 t c κs = choice-head _ _ _ _ _ _ _ _ _ _ _ _ _ (c .before .loop .inv .1 (turns-to-entry (c .before) .pre .1))
 
 write-command-enter-requires-4 :
     (t : ℕ) → write-command-lts.Need-enter-requires-4 (write-command-callees t) (write-command-at t) write-command.Post write-command-Inv-loop write-command-μ-loop
@@ -419,35 +386,21 @@ write-command-write-sequence-requires-3 t c κs =
     let entry = turns-to-entry turns in
     let j = entry .pre .1 in
     let l = turns .loop .inv .1 j in
-    let o = c .before .before .open5 .ensures (choice-head _ _ _ _ _ _ _ _ _ _ _ _ _ _ l) in
-    rw (c .before .enter4 .ensures) (omega (arith, entry .pre .0, starts _ _ _ _ _ j, choice-later _ _ _ _ _ _ _ _ _ _ _ _ _ _ l _ _ o), choice-job _ _ _ _ _ _ _ _ _ _ _ _ _ _ l _ _ o)
-
-write-command-add-enter-2 : (t : ℕ) → write-command-lts.Need-add-enter-2 (write-command-callees t) (write-command-at t) write-command.Post write-command-Inv-loop write-command-μ-loop
-write-command-add-enter-2 t c =
-    let entered-last = to-entered-last (c .before .before .before) in
-    let turns = entered-last-to-turns entered-last in
-    let entry = turns-to-entry turns in
-    let l = turns .loop .inv .1 (entry .pre .1) in
-    let o = entered-last .before .open5 .ensures (choice-head _ _ _ _ _ _ _ _ _ _ _ _ _ _ l) in
-    omega (arith, entry .good .0, entry .fits, choice-fits _ _ _ _ _ _ _ _ _ _ _ _ _ _ l, o .0, o .1)
-
-write-command-enter-requires-5 :
-    (t : ℕ) → write-command-lts.Need-enter-requires-5 (write-command-callees t) (write-command-at t) write-command.Post write-command-Inv-loop write-command-μ-loop
-write-command-enter-requires-5 t c κs = search needs
+    let o = c .before .before .open5 .ensures (choice-head _ _ _ _ _ _ _ _ _ _ _ _ _ l) in
+    rw (c .before .enter4 .ensures) (omega (arith, entry .pre .0, starts _ _ _ _ _ j, choice-later _ _ _ _ _ _ _ _ _ _ _ _ _ l _ _ o), choice-job _ _ _ _ _ _ _ _ _ _ _ _ _ l _ _ o)
 
 write-command-same-length-2 : (t : ℕ) → write-command-lts.Need-same-length-2 (write-command-callees t) (write-command-at t) write-command.Post write-command-Inv-loop write-command-μ-loop
 write-command-same-length-2 t c = search needs
 
 write-command-returns-2 : (t : ℕ) → write-command-lts.Need-returns-2 (write-command-callees t) (write-command-at t) write-command.Post write-command-Inv-loop write-command-μ-loop
 write-command-returns-2 t c =
-    let wrote-last = c .before .before .before .before in
+    let wrote-last = c .before .before in
     let entered-last = wrote-last .before .before in
     λ j.
     let l = entered-last-to-turns entered-last .loop .inv .1 j in
-    let o = entered-last .before .open5 .ensures (choice-head _ _ _ _ _ _ _ _ _ _ _ _ _ _ l) in
-    rw (c .enter5 .ensures)
-    (tries-last _ _ _ _ _ _ _ _ _ _ _ _ _ _ l _ _ o (omega (arith, entered-last .before .before .loop-test .left, l .some-left)) _ _
-    ((rw (entered-last .enter4 .ensures) at (wrote-last .write-sequence3 .ensures)) (choice-job _ _ _ _ _ _ _ _ _ _ _ _ _ _ l _ _ o)))
+    let o = entered-last .before .open5 .ensures (choice-head _ _ _ _ _ _ _ _ _ _ _ _ _ l) in
+    tries-last _ _ _ _ _ _ _ _ _ _ _ _ _ l _ _ o (omega (arith, entered-last .before .before .loop-test .left, l .some-left)) _ _
+    ((rw (entered-last .enter4 .ensures) at (wrote-last .write-sequence3 .ensures)) (choice-job _ _ _ _ _ _ _ _ _ _ _ _ _ l _ _ o))
 
 write-command-put-command-requires :
     (t : ℕ) → write-command-lts.Need-put-command-requires (write-command-callees t) (write-command-at t) write-command.Post write-command-Inv-loop write-command-μ-loop
@@ -473,12 +426,12 @@ write-command-returns-3 t c =
     leaf-wrote _ _ _ _ _ j _ _ h z y _ _ _ (c .before .before .put-command .ensures (leaf-job _ _ _ _ _ j _ _ h z y))
 
 abbrev write-sequence-Inv-loop : write-sequence-lts.InvT-loop
-write-sequence-Inv-loop s table depth coercible target beyond room₀ now₀ left₀ room now left =
+write-sequence-Inv-loop s table depth coercible target beyond state room₀ now₀ left₀ room now left =
     (length room ≡ length room₀) × ((x : CommandsJob s table (depth - 1) left₀ now₀ room₀) →
-    Loop s table (depth - 1) coercible target beyond (x .n) (flatSeq (x .place .cmds) coercible (now₀ .index) (isTrue (now₀ .coerce)) target beyond (now₀ .n)) now₀ room₀ room left now)
+    Loop s table (depth - 1) coercible target beyond (x .n) (x .place .to) (flatSeq (x .place .cmds) coercible (now₀ .index) (isTrue (now₀ .coerce)) target beyond (now₀ .n)) now₀ room₀ room left now)
 
 abbrev write-sequence-μ-loop : write-sequence-lts.MeasureT-loop
-write-sequence-μ-loop s table depth coercible target beyond room₀ now₀ left₀ room now left = left
+write-sequence-μ-loop s table depth coercible target beyond state room₀ now₀ left₀ room now left = left
 
 -- back to the entry of a sequence, from the head of the loop over its commands
 abbrev sequence-to-entry :
@@ -517,7 +470,7 @@ write-sequence-write-command-requires t c κs =
     let j = entry .pre .1 in
     let q = turns .before .before .«open» .ensures (sequence-head _ _ _ _ _ j) in
     let l = turns .loop .inv .1 (commands-job _ _ _ _ _ j _ _ q) in
-    (omega (arith, entry .pre .0, sequence-deep _ _ _ _ _ j, commands-later _ _ _ _ _ j _ _ q, l .behind), command-job _ _ _ _ _ _ _ _ _ _ _ _ _ l (c .before .before .loop-test .taken))
+    (omega (arith, entry .pre .0, sequence-deep _ _ _ _ _ j, commands-later _ _ _ _ _ j _ _ q, l .behind), command-job _ _ _ _ _ _ _ _ _ _ _ _ _ _ l (c .before .before .loop-test .taken))
 
 write-sequence-sub-left : (t : ℕ) → write-sequence-lts.Need-sub-left (write-sequence-callees t) (write-sequence-at t) write-sequence.Post write-sequence-Inv-loop write-sequence-μ-loop
 write-sequence-sub-left t c = search needs
@@ -532,16 +485,22 @@ write-sequence-loop-again t c =
       λ x.
           let l = sequence-to-turns target .loop .inv .1 x in
           let m = target .before .loop-test .taken in
-          loop-goes-on _ _ _ _ _ _ _ _ _ _ _ _ _ l m _ (target .caught .ensures) _ _ (c .before .before .write-command .ensures (command-job _ _ _ _ _ _ _ _ _ _ _ _ _ l m)),
+          loop-goes-on _ _ _ _ _ _ _ _ _ _ _ _ _ _ l m _ (target .caught .ensures) _ _ (c .before .before .write-command .ensures (command-job _ _ _ _ _ _ _ _ _ _ _ _ _ _ l m)),
     )
+
+write-sequence-enter-requires :
+    (t : ℕ) → write-sequence-lts.Need-enter-requires (write-sequence-callees t) (write-sequence-at t) write-sequence.Post write-sequence-Inv-loop write-sequence-μ-loop
+write-sequence-enter-requires t c κs = search needs
 
 write-sequence-same-length : (t : ℕ) → write-sequence-lts.Need-same-length (write-sequence-callees t) (write-sequence-at t) write-sequence.Post write-sequence-Inv-loop write-sequence-μ-loop
 write-sequence-same-length t c = search needs
 
 write-sequence-returns : (t : ℕ) → write-sequence-lts.Need-returns (write-sequence-callees t) (write-sequence-at t) write-sequence.Post write-sequence-Inv-loop write-sequence-μ-loop
 write-sequence-returns t c = λ j.
-    let q = c .before .before .before .«open» .ensures (sequence-head _ _ _ _ _ j) in
-    wrote-at _ _ _ _ _ _ _ refl refl refl refl (loop-done _ _ _ _ _ _ _ _ _ _ _ _ _ (c .before .loop .inv .1 (commands-job _ _ _ _ _ j _ _ q)) (omega (arith, c .loop-test .left)))
+    let turns = c .before .before in
+    let q = turns .before .before .«open» .ensures (sequence-head _ _ _ _ _ j) in
+    rw (c .enter .ensures)
+    (loop-done _ _ _ _ _ _ _ _ _ _ _ _ _ _ (turns .loop .inv .1 (commands-job _ _ _ _ _ j _ _ q)) (omega (arith, c .before .loop-test .left)) _ refl refl)
 
 pub +write-command+write-sequence-spec : {M : Type 1} → statement M
 +write-command+write-sequence-spec =
@@ -556,31 +515,27 @@ pub +write-command+write-sequence-spec : {M : Type 1} → statement M
     (write-command-record-after-requires t)
     (write-command-enter-requires t)
     (write-command-write-sequence-requires t)
-    (write-command-add-enter t)
-    (write-command-enter-requires-2 t)
     (write-command-same-length t)
     (write-command-returns t)
     (write-command-holds-alternatives-requires t)
     (write-command-size-command-requires t)
     (write-command-add-z t)
     (write-command-open-requires-3 t)
+    (write-command-enter-requires-2 t)
     (write-command-loop-holds t)
     (write-command-open-requires-4 t)
     (write-command-size-sequence-requires-2 t)
-    (write-command-add-write-sequence t)
-    (write-command-add-write-sequence-2 t)
+    (write-command-add-after t)
+    (write-command-add-after-2 t)
     (write-command-enter-requires-3 t)
     (write-command-write-sequence-requires-2 t)
     (write-command-put-jump-requires t)
-    (write-command-add-p t)
     (write-command-sub-left t)
     (write-command-loop-less t)
     (write-command-loop-again t)
     (write-command-open-requires-5 t)
     (write-command-enter-requires-4 t)
     (write-command-write-sequence-requires-3 t)
-    (write-command-add-enter-2 t)
-    (write-command-enter-requires-5 t)
     (write-command-same-length-2 t)
     (write-command-returns-2 t)
     (write-command-put-command-requires t)
@@ -597,5 +552,6 @@ pub +write-command+write-sequence-spec : {M : Type 1} → statement M
     (write-sequence-sub-left t)
     (write-sequence-loop-less t)
     (write-sequence-loop-again t)
+    (write-sequence-enter-requires t)
     (write-sequence-same-length t)
     (write-sequence-returns t)

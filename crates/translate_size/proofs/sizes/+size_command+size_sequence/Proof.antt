@@ -8,9 +8,9 @@ use Rattle.manifest_accessors.proofs.PlaceLaws.{remaining}
 use Rattle.translate_size.specs.Size.{SequenceHere, CommandHere}
 use Rattle.translate_size.proofs.KindTests.{runs, runs-not, tries, tries-not}
 use Rattle.translate_size.proofs.SequenceSizes.{Commands, sequence-head, sequence-deep, commands-start, command-here, commands-small, commands-on, commands-done}
-use Rattle.translate_size.proofs.CommandSizes.{Choices, starts, command-head, sub-head, sub-later, sub-here, sub-fits, sub-sized, one-here}
+use Rattle.translate_size.proofs.CommandSizes.{Choices, starts, command-head, sub-head, sub-later, sub-here, sub-sized, one-here}
 use Rattle.translate_size.proofs.CommandSizes.{one-small, one-sized, tries-head, tries-some, choices-start, choice-head, choice-later}
-use Rattle.translate_size.proofs.CommandSizes.{choice-here, choice-fits, choices-small, choices-on, choices-done}
+use Rattle.translate_size.proofs.CommandSizes.{choice-here, choices-small, choices-on, choices-done}
 use Rattle.translate_size.proofs.sizes.size_command.Reads as size-command
 use Rattle.translate_size.proofs.sizes.size_command.Kinds as size-command-kinds
 use Rattle.translate_size.proofs.sizes.+size_command+size_sequence.Lts-size_command as size-command-lts
@@ -106,12 +106,12 @@ abbrev to-choices :
     size-command-lts.After-holds-alternatives (size-command-callees t) (size-command-at t) size-command.Post size-command-Inv-loop size-command-μ-loop
 to-choices c = c .before .before .before .before .before
 
--- back to where the head of an alternative was read, from where the sizes so far were known
-abbrev to-opened :
+-- back to where an alternative was sized, from where the records so far were known
+abbrev to-sized :
     {t : ℕ} →
     size-command-lts.After-struct-known2 (size-command-callees t) (size-command-at t) size-command.Post size-command-Inv-loop size-command-μ-loop →
-    size-command-lts.After-open4 (size-command-callees t) (size-command-at t) size-command.Post size-command-Inv-loop size-command-μ-loop
-to-opened c = c .before .before
+    size-command-lts.After-size-sequence2 (size-command-callees t) (size-command-at t) size-command.Post size-command-Inv-loop size-command-μ-loop
+to-sized c = c .before .before
 
 size-command-open-requires : (t : ℕ) → size-command-lts.Need-open-requires (size-command-callees t) (size-command-at t) size-command.Post size-command-Inv-loop size-command-μ-loop
 size-command-open-requires t c κs = command-head _ _ _ _ (c .before .pre .1)
@@ -140,24 +140,14 @@ size-command-size-sequence-requires t c κs =
     let o = c .open2 .ensures (sub-head _ _ _ _ j _ _ h z) in
     (omega (arith, entry .pre .0, starts _ _ _ _ j, sub-later _ _ _ _ j _ _ h z _ _ o), sub-here _ _ _ _ j _ _ h z _ _ o)
 
-size-command-add-t17 : (t : ℕ) → size-command-lts.Need-add-t17 (size-command-callees t) (size-command-at t) size-command.Post size-command-Inv-loop size-command-μ-loop
-size-command-add-t17 t c =
-    let kinds = c .before .before .before .before in
-    let entry = to-entry kinds in
-    let j = entry .pre .1 in
-    let h = kinds .before .before .«open» .ensures (command-head _ _ _ _ j) in
-    let z = runs _ _ (kinds .before .kind-of .ensures) _ (kinds .holds-sequence .ensures) (c .before .before .before .if1 .taken) in
-    let o = c .before .before .open2 .ensures (sub-head _ _ _ _ j _ _ h z) in
-    omega (arith, entry .good .0, entry .fits, sub-fits _ _ _ _ j _ _ h z, o .0, o .1)
-
 size-command-returns : (t : ℕ) → size-command-lts.Need-returns (size-command-callees t) (size-command-at t) size-command.Post size-command-Inv-loop size-command-μ-loop
 size-command-returns t c =
-    let kinds = c .before .before .before .before in
+    let kinds = c .before .before .before in
     λ j.
     let h = kinds .before .before .«open» .ensures (command-head _ _ _ _ j) in
-    let z = runs _ _ (kinds .before .kind-of .ensures) _ (kinds .holds-sequence .ensures) (c .before .before .before .if1 .taken) in
-    let o = c .before .before .open2 .ensures (sub-head _ _ _ _ j _ _ h z) in
-    sub-sized _ _ _ _ j _ _ h z _ _ o _ (c .before .size-sequence .ensures (sub-here _ _ _ _ j _ _ h z _ _ o))
+    let z = runs _ _ (kinds .before .kind-of .ensures) _ (kinds .holds-sequence .ensures) (c .before .before .if1 .taken) in
+    let o = c .before .open2 .ensures (sub-head _ _ _ _ j _ _ h z) in
+    sub-sized _ _ _ _ j _ _ h z _ _ o _ (c .size-sequence .ensures (sub-here _ _ _ _ j _ _ h z _ _ o))
 
 size-command-holds-alternatives-requires :
     (t : ℕ) → size-command-lts.Need-holds-alternatives-requires (size-command-callees t) (size-command-at t) size-command.Post size-command-Inv-loop size-command-μ-loop
@@ -171,8 +161,8 @@ size-command-open-requires-3 t c κs =
     let y = tries _ _ (kinds .before .kind-of .ensures) _ (c .before .holds-alternatives .ensures) (c .if2 .taken) in
     tries-head _ _ _ _ j _ _ h y
 
-size-command-sub-t19 : (t : ℕ) → size-command-lts.Need-sub-t19 (size-command-callees t) (size-command-at t) size-command.Post size-command-Inv-loop size-command-μ-loop
-size-command-sub-t19 t c =
+size-command-sub-t17 : (t : ℕ) → size-command-lts.Need-sub-t17 (size-command-callees t) (size-command-at t) size-command.Post size-command-Inv-loop size-command-μ-loop
+size-command-sub-t17 t c =
     let kinds = to-kinds (c .before .before) in
     let j = to-entry kinds .pre .1 in
     let h = kinds .before .before .«open» .ensures (command-head _ _ _ _ j) in
@@ -205,34 +195,25 @@ size-command-size-sequence-requires-2 t c κs =
     let o = c .open4 .ensures (choice-head _ _ _ _ _ _ _ _ l m) in
     (omega (arith, entry .pre .0, starts _ _ _ _ j, choice-later _ _ _ _ _ _ _ _ l m _ _ o), choice-here _ _ _ _ _ _ _ _ l m _ _ o)
 
-size-command-add-t21 : (t : ℕ) → size-command-lts.Need-add-t21 (size-command-callees t) (size-command-at t) size-command.Post size-command-Inv-loop size-command-μ-loop
-size-command-add-t21 t c =
-    let opened = to-opened c in
-    let entry = to-entry (to-kinds (to-choices opened)) in
-    let j = entry .pre .1 in
-    let l = opened .before .before .loop .inv j in
-    let m = opened .before .loop-test .taken in
-    let o = c .before .before .open4 .ensures (choice-head _ _ _ _ _ _ _ _ l m) in
-    omega (arith, entry .good .0, entry .fits, choice-fits _ _ _ _ _ _ _ _ l m, o .0, o .1)
-
-size-command-add-t22 : (t : ℕ) → size-command-lts.Need-add-t22 (size-command-callees t) (size-command-at t) size-command.Post size-command-Inv-loop size-command-μ-loop
-size-command-add-t22 t c =
-    let opened = to-opened (c .before .before) in
+size-command-add-t19 : (t : ℕ) → size-command-lts.Need-add-t19 (size-command-callees t) (size-command-at t) size-command.Post size-command-Inv-loop size-command-μ-loop
+size-command-add-t19 t c =
+    let sized = to-sized c in
+    let opened = sized .before in
     let j = to-entry (to-kinds (to-choices opened)) .pre .1 in
     let l = opened .before .before .loop .inv j in
     let m = opened .before .loop-test .taken in
     let o = opened .open4 .ensures (choice-head _ _ _ _ _ _ _ _ l m) in
-    omega (arith, choices-small _ _ _ _ _ _ _ _ l m _ _ o _ (c .before .before .before .size-sequence2 .ensures (choice-here _ _ _ _ _ _ _ _ l m _ _ o)) .0)
+    omega (arith, choices-small _ _ _ _ _ _ _ _ l m _ _ o _ (sized .size-sequence2 .ensures (choice-here _ _ _ _ _ _ _ _ l m _ _ o)) .0)
 
-size-command-add-t23 : (t : ℕ) → size-command-lts.Need-add-t23 (size-command-callees t) (size-command-at t) size-command.Post size-command-Inv-loop size-command-μ-loop
-size-command-add-t23 t c =
-    let known = c .before .before .before .before in
-    let opened = to-opened known in
+size-command-add-t20 : (t : ℕ) → size-command-lts.Need-add-t20 (size-command-callees t) (size-command-at t) size-command.Post size-command-Inv-loop size-command-μ-loop
+size-command-add-t20 t c =
+    let sized = to-sized (c .before .before) in
+    let opened = sized .before in
     let j = to-entry (to-kinds (to-choices opened)) .pre .1 in
     let l = opened .before .before .loop .inv j in
     let m = opened .before .loop-test .taken in
     let o = opened .open4 .ensures (choice-head _ _ _ _ _ _ _ _ l m) in
-    omega (arith, choices-small _ _ _ _ _ _ _ _ l m _ _ o _ (known .before .size-sequence2 .ensures (choice-here _ _ _ _ _ _ _ _ l m _ _ o)) .1)
+    omega (arith, choices-small _ _ _ _ _ _ _ _ l m _ _ o _ (sized .size-sequence2 .ensures (choice-here _ _ _ _ _ _ _ _ l m _ _ o)) .1)
 
 size-command-sub-left : (t : ℕ) → size-command-lts.Need-sub-left (size-command-callees t) (size-command-at t) size-command.Post size-command-Inv-loop size-command-μ-loop
 size-command-sub-left t c = search needs
@@ -242,13 +223,13 @@ size-command-loop-less t c = search needs
 
 size-command-loop-again : (t : ℕ) → size-command-lts.Need-loop-again (size-command-callees t) (size-command-at t) size-command.Post size-command-Inv-loop size-command-μ-loop
 size-command-loop-again t c =
-    let known = c .before .before .before .before in
-    let opened = to-opened known in
+    let sized = to-sized (c .before .before) in
+    let opened = sized .before in
     λ j.
     let l = opened .before .before .loop .inv j in
     let m = opened .before .loop-test .taken in
     let o = opened .open4 .ensures (choice-head _ _ _ _ _ _ _ _ l m) in
-    choices-on _ _ _ _ _ _ _ _ l m _ _ o _ (known .before .size-sequence2 .ensures (choice-here _ _ _ _ _ _ _ _ l m _ _ o))
+    choices-on _ _ _ _ _ _ _ _ l m _ _ o _ (sized .size-sequence2 .ensures (choice-here _ _ _ _ _ _ _ _ l m _ _ o))
 
 size-command-returns-2 : (t : ℕ) → size-command-lts.Need-returns-2 (size-command-callees t) (size-command-at t) size-command.Post size-command-Inv-loop size-command-μ-loop
 size-command-returns-2 t c = λ j. choices-done _ _ _ _ _ _ _ _ (c .before .loop .inv j) (omega (arith, c .loop-test .left))
@@ -283,7 +264,7 @@ size-command-returns-3 t c =
     one-sized _ _ _ _ j _ _ h z y _ (c .before .read-one .ensures (one-here _ _ _ _ j _ _ h z y)) _ (kinds .before .kind-of .ensures) _ (c .argument-size .ensures)
 
 abbrev size-sequence-Inv-loop : size-sequence-lts.InvT-loop
-size-sequence-Inv-loop s table depth at now₀ left₀ now left = (j : SequenceHere s table depth at) → Commands s table (depth - 1) at (j .place .seq) left now
+size-sequence-Inv-loop s table depth at now₀ left₀ now left = (j : SequenceHere s table depth at) → Commands s table (depth - 1) at (j .place .seq) (j .place .to) left now
 
 abbrev size-sequence-μ-loop : size-sequence-lts.MeasureT-loop
 size-sequence-μ-loop s table depth at now₀ left₀ now left = left
@@ -317,14 +298,14 @@ size-sequence-size-command-requires :
 size-sequence-size-command-requires t c κs =
     let l = c .before .loop .inv (c .before .before .before .before .before .pre .1) in
     let m = c .loop-test .taken in
-    (omega (arith, c .before .before .before .before .before .pre .0, sequence-deep _ _ _ _ (c .before .before .before .before .before .pre .1), l .behind), command-here _ _ _ _ _ _ _ l m)
+    (omega (arith, c .before .before .before .before .before .pre .0, sequence-deep _ _ _ _ (c .before .before .before .before .before .pre .1), l .behind), command-here _ _ _ _ _ _ _ _ l m)
 
 size-sequence-add-t10 : (t : ℕ) → size-sequence-lts.Need-add-t10 (size-sequence-callees t) (size-sequence-at t) size-sequence.Post size-sequence-Inv-loop size-sequence-μ-loop
 size-sequence-add-t10 t c =
     let turns = sequence-to-turns (c .before .before) in
     let l = turns .loop .inv (sequence-to-entry turns .pre .1) in
     let m = c .before .before .before .loop-test .taken in
-    omega (arith, commands-small _ _ _ _ _ _ _ l m _ (c .before .before .size-command .ensures (command-here _ _ _ _ _ _ _ l m)) .0)
+    omega (arith, commands-small _ _ _ _ _ _ _ _ l m _ (c .before .before .size-command .ensures (command-here _ _ _ _ _ _ _ _ l m)) .0)
 
 size-sequence-add-t11 : (t : ℕ) → size-sequence-lts.Need-add-t11 (size-sequence-callees t) (size-sequence-at t) size-sequence.Post size-sequence-Inv-loop size-sequence-μ-loop
 size-sequence-add-t11 t c =
@@ -332,7 +313,7 @@ size-sequence-add-t11 t c =
     let turns = sequence-to-turns sized in
     let l = turns .loop .inv (sequence-to-entry turns .pre .1) in
     let m = sized .before .loop-test .taken in
-    omega (arith, commands-small _ _ _ _ _ _ _ l m _ (sized .size-command .ensures (command-here _ _ _ _ _ _ _ l m)) .1)
+    omega (arith, commands-small _ _ _ _ _ _ _ _ l m _ (sized .size-command .ensures (command-here _ _ _ _ _ _ _ _ l m)) .1)
 
 size-sequence-sub-left : (t : ℕ) → size-sequence-lts.Need-sub-left (size-sequence-callees t) (size-sequence-at t) size-sequence.Post size-sequence-Inv-loop size-sequence-μ-loop
 size-sequence-sub-left t c = search needs
@@ -346,10 +327,10 @@ size-sequence-loop-again t c =
     λ j.
     let l = sequence-to-turns sized .loop .inv (j) in
     let m = sized .before .loop-test .taken in
-    commands-on _ _ _ _ _ _ _ l m _ (sized .size-command .ensures (command-here _ _ _ _ _ _ _ l m))
+    commands-on _ _ _ _ _ _ _ _ l m _ (sized .size-command .ensures (command-here _ _ _ _ _ _ _ _ l m))
 
 size-sequence-returns : (t : ℕ) → size-sequence-lts.Need-returns (size-sequence-callees t) (size-sequence-at t) size-sequence.Post size-sequence-Inv-loop size-sequence-μ-loop
-size-sequence-returns t c = λ j. commands-done _ _ _ _ _ _ _ (c .before .loop .inv j) (omega (arith, c .loop-test .left))
+size-sequence-returns t c = λ j. commands-done _ _ _ _ _ _ _ _ (c .before .loop .inv j) (omega (arith, c .loop-test .left))
 
 pub +size-command+size-sequence-spec : {M : Type 1} → statement M
 +size-command+size-sequence-spec =
@@ -361,17 +342,15 @@ pub +size-command+size-sequence-spec : {M : Type 1} → statement M
     (size-command-holds-sequence-requires t)
     (size-command-open-requires-2 t)
     (size-command-size-sequence-requires t)
-    (size-command-add-t17 t)
     (size-command-returns t)
     (size-command-holds-alternatives-requires t)
     (size-command-open-requires-3 t)
-    (size-command-sub-t19 t)
+    (size-command-sub-t17 t)
     (size-command-loop-holds t)
     (size-command-open-requires-4 t)
     (size-command-size-sequence-requires-2 t)
-    (size-command-add-t21 t)
-    (size-command-add-t22 t)
-    (size-command-add-t23 t)
+    (size-command-add-t19 t)
+    (size-command-add-t20 t)
     (size-command-sub-left t)
     (size-command-loop-less t)
     (size-command-loop-again t)
