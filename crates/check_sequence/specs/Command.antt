@@ -2,13 +2,12 @@
 use Prim.Native.Nat.{ℕ}
 use mathlib.Core.Path.{_≡_}
 use mathlib.Core.Bool.{true}
-use mathlib.Core.List.{[], _∷_}
 use lib.Dec.{ltb}
 use Rattle.rules.specs.declared.answers.Refusal.the-variants.{UnknownCommand, NotAllowed, TooManyCommands}
 use Rattle.rules.specs.Limits.{limits}
 use Rattle.rules.specs.Bytes.{Bytes}
 use Rattle.rules.specs.Got.{Got, need, found, _>>=_}
-use Rattle.rules.specs.Commands.{COMMON, PAYLOAD_FETCH, INSTALL, VALIDATE, LOAD, RUN, commands, rowOf, isAllowed, among}
+use Rattle.rules.specs.Commands.{allSections, commands, rowOf, isAllowed, among}
 use Rattle.rules.specs.Tables.{kindOf}
 use Rattle.rules.specs.Manifest.{Cmd}
 use Rattle.rules.specs.Check.{number, command, sequenceAt}
@@ -30,4 +29,4 @@ module _ (s : Bytes) where
 
 -- the key of a section, or of common for its sequence
 abbrev pub Section : ℕ → Type 0
-Section k = among k (COMMON ∷ PAYLOAD_FETCH ∷ INSTALL ∷ VALIDATE ∷ LOAD ∷ RUN ∷ []) ≡ true
+Section k = among k allSections ≡ true

@@ -7,7 +7,7 @@ use native.Mathlib.Numerals.{add-one}
 use native.Mathlib.Nat.{add-zero}
 use lib.ListN.{length, getD, drop, length-take, length-drop}
 use lib.Seq.{take-suc, getD-drop, drop-cons}
-use Rattle.rules.specs.Bytes.{Bytes, part, num, numFrom}
+use Rattle.rules.specs.Bytes.{Bytes, part, num, numFrom, twoAt, fourAt}
 
 pub length-part : (s : Bytes) (at k : ℕ) → at + k ≤ length s → length (part s at k) ≡ k
 length-part s at k h = simp (length-take, length-drop) (omega arith)
@@ -33,8 +33,8 @@ module _ (s : Bytes) (at : ℕ) where
   pub num-1 : at + 1 ≤ length s → num (part s at 1) ≡ getD s at 0
   num-1 h = omega (arith, simp add-zero at (num-more s at 0 (omega arith)))
 
-  pub num-2 : at + 2 ≤ length s → num (part s at 2) ≡ getD s at 0 * 256 + getD s (at + 1) 0
+  pub num-2 : at + 2 ≤ length s → num (part s at 2) ≡ twoAt s at
   num-2 h = omega (arith, num-1 (omega arith), num-more s at 1 (omega arith))
 
-  pub num-4 : at + 4 ≤ length s → num (part s at 4) ≡ ((getD s at 0 * 256 + getD s (at + 1) 0) * 256 + getD s (at + 2) 0) * 256 + getD s (at + 3) 0
+  pub num-4 : at + 4 ≤ length s → num (part s at 4) ≡ fourAt s at
   num-4 h = omega (arith, num-2 (omega arith), num-more s at 2 (omega arith), num-more s at 3 (omega arith))

@@ -1,5 +1,5 @@
 -- What the first byte of a head says, and the ways in which `head` and `item` answer, one law for each.
-use Prim.Native.Nat.{ℕ, _+_, _*_, _/_, _%_, _≤_, _<_}
+use Prim.Native.Nat.{ℕ, _+_, _/_, _%_, _≤_, _<_}
 use mathlib.Core.Path.{_≡_, refl, sym, _∙_}
 use mathlib.Core.Bool.{Bool, true, false, _&&_, cond}
 use mathlib.Core.Logic.{_⊎_, inl, inr}
@@ -8,7 +8,7 @@ use lib.Dec.{ltb, leb, eqb}
 use lib.ListN.{length, getD}
 use borrow.Author.Tests.{lt-ltb, le-ltb, le-leb, lt-leb, eq-eqb, ne-eqb, ltb-false, leb-true, leb-false}
 use Rattle.rules.specs.Base.{Refusal, NotCbor, Malformed}
-use Rattle.rules.specs.Bytes.{Bytes, num, part}
+use Rattle.rules.specs.Bytes.{Bytes, num, part, twoAt, fourAt}
 use Rattle.rules.specs.Got.{Got, refused, got}
 use Rattle.rules.specs.Cbor.{BYTES, TEXT, Head, head, known, more, least, value, kindOf, after, whole, item, oneOf}
 use Rattle.rules.proofs.BytesLaws.{num-1, num-2, num-4}
@@ -85,12 +85,10 @@ module _ (s : Bytes) (at kind n : ℕ) where
   pub starts-1 : First (getD s at 0) kind 1 → (at + 1 < length s) × (getD s (at + 1) 0 ≡ n) → Starts s at kind n 1
   starts-1 f (l, q) = starts 1 f (omega arith) (num-1 s (at + 1) (omega arith) ∙ q)
 
-  pub starts-2 : First (getD s at 0) kind 2 → (at + 2 < length s) × (getD s (at + 1) 0 * 256 + getD s (at + 1 + 1) 0 ≡ n) → Starts s at kind n 2
+  pub starts-2 : First (getD s at 0) kind 2 → (at + 2 < length s) × (twoAt s (at + 1) ≡ n) → Starts s at kind n 2
   starts-2 f (l, q) = starts 2 f (omega arith) (num-2 s (at + 1) (omega arith) ∙ q)
 
-  pub starts-4 : First (getD s at 0) kind 4 →
-      (at + 4 < length s) × (((getD s (at + 1) 0 * 256 + getD s (at + 1 + 1) 0) * 256 + getD s (at + 1 + 2) 0) * 256 + getD s (at + 1 + 3) 0 ≡ n) →
-      Starts s at kind n 4
+  pub starts-4 : First (getD s at 0) kind 4 → (at + 4 < length s) × (fourAt s (at + 1) ≡ n) → Starts s at kind n 4
   starts-4 f (l, q) = starts 4 f (omega arith) (num-4 s (at + 1) (omega arith) ∙ q)
 
 module _ (s : Bytes) (e at : ℕ) where

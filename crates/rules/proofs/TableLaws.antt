@@ -9,7 +9,7 @@ use borrow.Author.Tests.{eqb-true}
 use lib.Dec.{eqb}
 use Rattle.rules.specs.declared.tables.Command.{Command}
 use Rattle.rules.specs.declared.tables.Listed.the-variants as L
-use Rattle.rules.specs.Commands.{COMMON, PAYLOAD_FETCH, INSTALL, VALIDATE, LOAD, RUN, Row, commands, rowOf, among, isAllowed}
+use Rattle.rules.specs.Commands.{allSections, Row, commands, rowOf, among, isAllowed}
 use Rattle.rules.specs.Tables.{weightOf, setOf, asCommand, listed}
 use Rattle.rules.proofs.GotLaws.{and-true}
 
@@ -30,7 +30,7 @@ row-of p (x ∷ xs) c r t e = let (h, hs) = both p x xs t in go (eqb c (x .numbe
     go true h next q = let s : x ≡ r = cc in rw (← s) h
     go false h next q = next q
 
-one-of : (p : ℕ → Bool) (ks : List ℕ) (k : ℕ) → all p ks ≡ true → among k ks ≡ true → p k ≡ true
+pub one-of : (p : ℕ → Bool) (ks : List ℕ) (k : ℕ) → all p ks ≡ true → among k ks ≡ true → p k ≡ true
 one-of p [] k t e = let z : _≡_ {A = ℕ} 0 1 = cc in absurd (omega arith)
 one-of p (x ∷ xs) k t e = let (h, hs) = both p x xs t in go (eqb k x) refl h (one-of p xs k hs) e
   where
@@ -81,11 +81,8 @@ listed-none none e = refl
 listed-none (some r) e = let z : _≡_ {A = ℕ} 0 1 = cc in absurd (omega arith)
 
 -- a row's set of sections as a number has the bit of each section that the row allows
-abbrev pub sections : List ℕ
-sections = COMMON ∷ PAYLOAD_FETCH ∷ INSTALL ∷ VALIDATE ∷ LOAD ∷ RUN ∷ []
-
-pub allowed-bit : (c k : ℕ) (r : Row) → rowOf c commands ≡ some r → among k sections ≡ true →
+pub allowed-bit : (c k : ℕ) (r : Row) → rowOf c commands ≡ some r → among k allSections ≡ true →
     isAllowed k (r .allowed) ≡ eqb (setOf (r .allowed) / weightOf k % 2) 1
 allowed-bit c k r e h =
     let bit : Row → ℕ → Bool = λ x n. same (isAllowed n (x .allowed)) (eqb (setOf (x .allowed) / weightOf n % 2) 1) in
-    same-true _ _ (one-of (bit r) sections k (row-of (λ x. all (bit x) sections) commands c r refl e) h)
+    same-true _ _ (one-of (bit r) allSections k (row-of (λ x. all (bit x) allSections) commands c r refl e) h)

@@ -27,6 +27,10 @@ give c u k d n = record { coerce = c; params = record { uri = u; source = k; dig
 abbrev pub nothing : Given
 nothing = give none none none none none
 
+-- what v gives, and what g gives beside it
+abbrev pub overGiven : Given → Given → Given
+overGiven v g = record { coerce = orElse (v .coerce) (g .coerce); params = over (v .params) (g .params) }
+
 module _ (s : Bytes) where
   unfoldable pub number : Read ℕ
   number e at = do
@@ -103,7 +107,7 @@ module _ (s : Bytes) where
     _ ← need (leb low name) Malformed at
     what ← found (paramOf name params) UnknownParameter at
     (v, q) ← parameter n what e p
-    entries n k (name + 1) (record { coerce = orElse (v .coerce) (g .coerce); params = over (v .params) (g .params) }) e q
+    entries n k (name + 1) (overGiven v g) e q
 
   -- k + 1 sequences, each in a byte string, after m commands; `deeper` reads a sequence
   unfoldable pub alternativesAt : (ℕ → Read Seq) → ℕ → ℕ → Read Alts

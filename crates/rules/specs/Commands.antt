@@ -150,6 +150,9 @@ LOAD = 11
 abbrev pub RUN : ℕ
 RUN = 12
 
+abbrev pub allSections : List ℕ
+allSections = COMMON ∷ PAYLOAD_FETCH ∷ INSTALL ∷ VALIDATE ∷ LOAD ∷ RUN ∷ []
+
 -- where a command is allowed: by the keys of the sections
 pub data Allowed : Type 0 where
   anywhere : Allowed

@@ -112,9 +112,13 @@ admit group number ids x = do
 abbrev pub isFinished : End → Bool
 isFinished e = eqb (endNumber e) 0
 
+-- the place in the last of that many events of a trace
+abbrev pub lastPlace : ℕ → Bytes → ℕ
+lastPlace events trace = num (part trace (eventBytes * events - (eventBytes - eventPlace)) 2)
+
 -- 'with the last event's place (0 if finished)'
 abbrev pub endPlace : End → State → ℕ
-endPlace e st = cond (isFinished e) 0 (num (part (st .trace) (eventBytes * st .events - (eventBytes - eventPlace)) 2))
+endPlace e st = cond (isFinished e) 0 (lastPlace (st .events) (st .trace))
 
 -- 'The device takes the manifest's sequence number exactly when install finishes'
 abbrev pub numberAfter : Group → End → ℕ → ℕ → ℕ
