@@ -28,18 +28,15 @@ abbrev pub pieces : Bytes → ℕ → ℕ → List Bytes → Bytes
 pieces s at k [] = s
 pieces s at k (b ∷ bs) = pieces (put s (at + k) b) at (k + length b) bs
 
-pieces-append : (s : Bytes) (at : ℕ) (a : Bytes) (bs : List Bytes) → pieces (put s at a) at (length a) bs ≡ put s at (a ++ flat bs)
-pieces-append s at a [] = rw (append-nil a)
-pieces-append s at a (b ∷ bs) =
-    rw (put-append s at a b, ← length-append a b, pieces-append s at (a ++ b) bs, append-assoc a b (flat bs))
+-- stores in a row, the first of them at `at`
+pub in-a-row : (s : Bytes) (at : ℕ) (a : Bytes) (bs : List Bytes) → pieces (put s at a) at (length a) bs ≡ put s at (flat (a ∷ bs))
+in-a-row s at a [] = rw (append-nil a)
+in-a-row s at a (b ∷ bs) =
+    rw (put-append s at a b, ← length-append a b, in-a-row s at (a ++ b) bs, append-assoc a b (flat bs))
 
 pieces-length : (s : Bytes) (at k : ℕ) (bs : List Bytes) → length (pieces s at k bs) ≡ length s
 pieces-length s at k [] = refl
 pieces-length s at k (b ∷ bs) = pieces-length (put s (at + k) b) at (k + length b) bs ∙ length-sets s (at + k) b
-
--- stores in a row, the first of them at `at`
-pub in-a-row : (s : Bytes) (at : ℕ) (a : Bytes) (bs : List Bytes) → pieces (put s at a) at (length a) bs ≡ put s at (flat (a ∷ bs))
-in-a-row s at a bs = pieces-append s at a bs
 
 pub row-length : (s : Bytes) (at : ℕ) (a : Bytes) (bs : List Bytes) → length (pieces (put s at a) at (length a) bs) ≡ length s
 row-length s at a bs = pieces-length (put s at a) at (length a) bs ∙ length-sets s at a

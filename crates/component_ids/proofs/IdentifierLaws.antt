@@ -92,12 +92,6 @@ span-in (p ∷ ps) t (suc i) h =
 pub span-laid : (ps : List Span) (a : List ℕ) (i : ℕ) → i < length ps → spanAt (laid ps a) i ≡ getD ps i none
 span-laid ps a i h = span-in ps (drop (2 * length ps) a) i h
 
-getD-before : (ps qs : List Span) (i : ℕ) → i < length ps → getD (ps ++ qs) i none ≡ getD ps i none
-getD-before ps qs i h = List·getD-append ps qs none i h
-
-getD-at-end : (ps : List Span) (q : Span) (qs : List Span) → getD (ps ++ q ∷ qs) (length ps) none ≡ q
-getD-at-end ps q qs = getD-append-seam ps q qs none
-
 module _ (s : Bytes) (a : List ℕ) where
   -- the identifiers ys stand in the array from number i on
   abbrev Stand : List Span → ℕ → Type 0
@@ -122,8 +116,8 @@ module _ (s : Bytes) (a : List ℕ) where
   search-law before (x ∷ xs) end h =
       let j : ℕ = length before in
       let all : length (before ++ x ∷ xs) ≡ j + suc (length xs) = length-append before (x ∷ xs) in
-      let here : spanAt a j ≡ x = rw zero-add at (h j (omega arith)) ∙ getD-at-end before x xs in
-      let earlier : Stand before 0 = λ t l. h t (omega arith) ∙ getD-before before (x ∷ xs) t l in
+      let here : spanAt a j ≡ x = rw zero-add at (h j (omega arith)) ∙ getD-append-seam before x xs none in
+      let earlier : Stand before 0 = λ t l. h t (omega arith) ∙ List·getD-append before (x ∷ xs) none t l in
       let m : among s a j 0 j ≡ member (bytesAt s x) (map (bytesAt s) before) =
       among-law j before 0 earlier ∙ ap (λ (p : Span). member (bytesAt s p) (map (bytesAt s) before)) here in
       let joined : (before ++ (x ∷ [])) ++ xs ≡ before ++ x ∷ xs = append-assoc before (x ∷ []) xs in
@@ -300,7 +294,7 @@ listing-in s (suc n) e at h i l = go (plain s e at) refl (λ next b. listing-in 
     go (got next) q ih zero l = let (u, f) = plain-law s e at next q in (omega arith, f)
     go (got next) q ih (suc j) l = ih next (plain-law s e at next q .1) j (omega arith)
 
-pub in-bytes : (s : Bytes) (n e at : ℕ) (a : List ℕ) → at ≤ e → e ≤ length s → InBytes (laid (listing s n e at .ids) a) (length (listing s n e at .ids)) (length s)
+in-bytes : (s : Bytes) (n e at : ℕ) (a : List ℕ) → at ≤ e → e ≤ length s → InBytes (laid (listing s n e at .ids) a) (length (listing s n e at .ids)) (length s)
 in-bytes s n e at a h g i l =
     let (u, f) = listing-in s n e at h i l in
     subst (λ (p : Span). (p .from ≤ p .to) × (p .to ≤ length s)) (sym (span-laid (listing s n e at .ids) a i l)) (u, omega arith)
@@ -395,6 +389,16 @@ read-all s e at ids p g =
     let l = listing s (h .num) e (h .next) in
     let a = laid (l .ids) [] in
     rw q (sym (outcome-ids s a (repeated s a (length (l .ids))) (l .ids) (l .end) ids p (sym (identifiers-law s (h .num) e (h .next) []) ∙ g′)))
+
+-- and they lie in the bytes
+pub ids-inside : (s : Bytes) (e at : ℕ) (ids : List Span) (p : ℕ) (a : List ℕ) → e ≤ length s → components s e at ≡ got (ids, p) →
+    InBytes (laid ids a) (length ids) (length s)
+unfolding components idsRead
+ids-inside s e at ids p a f g =
+    split _ (item ARRAY 1 (limits .components) s e at) _ (ids, p) g λ h q g′.
+    let i : Item s ARRAY 1 (limits .components) e at h = item-law s ARRAY 1 (limits .components) e at h q in
+    let w : listing s (h .num) e (h .next) .ids ≡ ids = rw q at (read-all s e at ids p g) in
+    subst (λ (x : List Span). InBytes (laid x a) (length x) (length s)) w (in-bytes s (h .num) e (h .next) a (omega (arith, i .mid, i .fits)) f)
 
 -- the component list by its head, as the code read it
 module _ (s : Bytes) (e at : ℕ) (h : Reading) (q : h ≡ headReading (item ARRAY 1 (limits .components) s e at)) where
