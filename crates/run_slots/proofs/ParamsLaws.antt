@@ -1,5 +1,5 @@
 -- Parameters as numbers mean what the rules say of parameters: one law for each thing that is done with them.
-use Prim.Native.Nat.{ℕ, zero, suc, _+_, _-_, _*_, _≤_, _<_}
+use Prim.Native.Nat.{ℕ, zero, suc, _+_, _-_, _≤_, _<_}
 use mathlib.Core.Path.{_≡_, refl, ap, _∙_}
 use mathlib.Core.List.{List, [], _∷_, map}
 use mathlib.Core.Bool.{Bool, true, false, cond}
@@ -16,7 +16,7 @@ use Rattle.rules.specs.Commands as Rules
 use Rattle.rules.specs.Slots.{numbers}
 use Rattle.run_slots.proofs.NumbersLaws.{getD-numbers, set-numbers}
 use Rattle.run_slots.specs.declared.params.Params.{Params}
-use Rattle.run_slots.specs.Params.{paramsAt, stored, optional, meaning, overParams, Unset, SlotsKept, paramsIn, Fit, FitAll}
+use Rattle.run_slots.specs.Params.{paramsFrom, paramsAt, stored, optional, meaning, overParams, Unset, SlotsKept, paramsIn, Fit, FitAll}
 
 -- a parameter of two numbers, of which the first tells whether it is set
 choose : {A : Type 0} (f : ℕ → ℕ → A) (x x′ y y′ : ℕ) (t : Bool) → eqb x 0 ≡ t →
@@ -57,28 +57,26 @@ module _ (w : List ℕ) (i : ℕ) (p : Params) where
   five = p .uri ∷ p .length ∷ p .source ∷ p .digest ∷ p .size ∷ []
 
   module _ (n : length w ≡ memoryNumbers) (h : i < limits .components) where
-    among : (k : ℕ) → k < paramNumbers → getD (sets w (limits .components + paramNumbers * i) five) (limits .components + paramNumbers * i + k) 0 ≡ getD five k 0
-    among k l = getD-among w (limits .components + paramNumbers * i) five k l (omega arith)
+    among : (k : ℕ) → k < paramNumbers → getD (sets w (paramsFrom i) five) (paramsFrom i + k) 0 ≡ getD five k 0
+    among k l = getD-among w (paramsFrom i) five k l (omega arith)
 
     pub params-same : paramsAt (stored w i p) i ≡ p
     unfolding stored
     params-same =
-        rw (rw (add-zero (limits .components + paramNumbers * i)) at (among 0 (omega arith)), among 1 (omega arith), among 2 (omega arith), among 3 (omega arith), among 4 (omega arith))
+        rw (rw (add-zero (paramsFrom i)) at (among 0 (omega arith)), among 1 (omega arith), among 2 (omega arith), among 3 (omega arith), among 4 (omega arith))
 
   module _ (j : ℕ) (d : j ≡ i → ⊥) where
-    beside : (k : ℕ) → k < paramNumbers → getD (sets w (limits .components + paramNumbers * i) five) (limits .components + paramNumbers * j + k) 0 ≡
-        getD w (limits .components + paramNumbers * j + k) 0
-    beside k l = getD-beside w (limits .components + paramNumbers * i) five (limits .components + paramNumbers * j + k) (go (ltb j i) refl)
+    beside : (k : ℕ) → k < paramNumbers → getD (sets w (paramsFrom i) five) (paramsFrom j + k) 0 ≡ getD w (paramsFrom j + k) 0
+    beside k l = getD-beside w (paramsFrom i) five (paramsFrom j + k) (go (ltb j i) refl)
       where
-        go : (t : Bool) → ltb j i ≡ t → (limits .components + paramNumbers * j + k < limits .components + paramNumbers * i)
-            ⊎ (limits .components + paramNumbers * i + paramNumbers ≤ limits .components + paramNumbers * j + k)
+        go : (t : Bool) → ltb j i ≡ t → (paramsFrom j + k < paramsFrom i) ⊎ (paramsFrom i + paramNumbers ≤ paramsFrom j + k)
         go true e = let m : j < i = ltb-true j i e in inl (omega arith)
         go false e = let m : i < j = omega (arith, ltb-false j i e, d) in inr (omega arith)
 
     pub params-other : paramsAt (stored w i p) j ≡ paramsAt w j
     unfolding stored
     params-other =
-        rw (rw (add-zero (limits .components + paramNumbers * j)) at (beside 0 (omega arith)), beside 1 (omega arith), beside 2 (omega arith), beside 3 (omega arith), beside 4 (omega arith))
+        rw (rw (add-zero (paramsFrom j)) at (beside 0 (omega arith)), beside 1 (omega arith), beside 2 (omega arith), beside 3 (omega arith), beside 4 (omega arith))
 
 pub params-stored : (s : Bytes) (w : List ℕ) (n i : ℕ) (p : Params) → length w ≡ memoryNumbers → n ≤ limits .components → i < n →
     paramsIn s (stored w i p) n ≡ set (paramsIn s w n) i (meaning s p)
@@ -116,14 +114,14 @@ zeros (suc m) (suc j) = zeros m j
 -- the numbers of slots are kept
 pub stored-kept : (w : List ℕ) (i : ℕ) (p : Params) → SlotsKept w (stored w i p)
 unfolding stored
-stored-kept w i p j h = getD-beside w (limits .components + paramNumbers * i) (five w i p) j (inl (omega arith))
+stored-kept w i p j h = getD-beside w (paramsFrom i) (five w i p) j (inl (omega arith))
 
 -- nothing is set
 module _ (w : List ℕ) (u : Unset w) where
   unset-at : (i : ℕ) → paramsAt w i ≡ record { uri = 0; length = 0; source = 0; digest = 0; size = 0 }
-  unset-at i = rw (u (limits .components + paramNumbers * i) (omega arith), u _ (at 1), u _ (at 2), u _ (at 3), u _ (at 4))
+  unset-at i = rw (u (paramsFrom i) (omega arith), u _ (at 1), u _ (at 2), u _ (at 3), u _ (at 4))
     where
-      at : (k : ℕ) → limits .components ≤ limits .components + paramNumbers * i + k
+      at : (k : ℕ) → limits .components ≤ paramsFrom i + k
       at k = omega arith
 
   meaning-start : (s : Bytes) (i : ℕ) → meaning s (paramsAt w i) ≡ Rules.unset

@@ -13,19 +13,23 @@ use Rattle.rules.specs.Commands as Rules
 use Rattle.rules.specs.Slots.{numbers}
 use Rattle.run_slots.specs.declared.params.Params.{Params}
 
--- those of component i in a run's memory w stand behind the numbers of the components' slots
+-- where those of component i stand in a run's memory: behind the numbers of the components' slots
+abbrev pub paramsFrom : ℕ → ℕ
+paramsFrom i = limits .components + paramNumbers * i
+
+-- those of component i in the memory w
 abbrev pub paramsAt : List ℕ → ℕ → Params
 paramsAt w i =
     record {
-      uri = getD w (limits .components + paramNumbers * i) 0;
-      length = getD w (limits .components + paramNumbers * i + 1) 0;
-      source = getD w (limits .components + paramNumbers * i + 2) 0;
-      digest = getD w (limits .components + paramNumbers * i + 3) 0;
-      size = getD w (limits .components + paramNumbers * i + 4) 0;
+      uri = getD w (paramsFrom i) 0;
+      length = getD w (paramsFrom i + 1) 0;
+      source = getD w (paramsFrom i + 2) 0;
+      digest = getD w (paramsFrom i + 3) 0;
+      size = getD w (paramsFrom i + 4) 0;
     }
 
 unfoldable pub stored : List ℕ → ℕ → Params → List ℕ
-stored w i p = sets w (limits .components + paramNumbers * i) (p .uri ∷ p .length ∷ p .source ∷ p .digest ∷ p .size ∷ [])
+stored w i p = sets w (paramsFrom i) (p .uri ∷ p .length ∷ p .source ∷ p .digest ∷ p .size ∷ [])
 
 -- no parameter is set
 abbrev pub Unset : List ℕ → Type 0

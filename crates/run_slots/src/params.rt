@@ -1,12 +1,12 @@
 // The parameters of components, as numbers in lent memory: a string as its place in the bytes that the commands stand in.
 ghost use mathlib.Core.Path.{_≡_};
-ghost use Prim.Native.Nat.{_+_, _*_, _≤_, _<_};
+ghost use Prim.Native.Nat.{_+_, _≤_, _<_};
 ghost use mathlib.Core.Bool.{cond};
 ghost use lib.Dec.{eqb};
 ghost use lib.ListN.{length};
 ghost use Rattle.rules.specs.Lent.{was, left};
 ghost use Rattle.rules.specs.Limits.{limits, paramNumbers};
-ghost use Rattle.run_slots.specs.Params.{paramsAt, stored, overParams};
+ghost use Rattle.run_slots.specs.Params.{paramsFrom, paramsAt, stored, overParams};
 use rules::controller::Controller;
 use rules::controller::Memory;
 use rules::controller::PARAMETER_NUMBERS;
@@ -35,7 +35,7 @@ pub fn load(memory: &Memory, i: usize) -> Params
 }
 
 pub fn store(memory: &mut [usize], i: usize, p: Params)
-    requires { ⌜ limits .components + paramNumbers * i + paramNumbers ≤ length (now memory) ⌝ }
+    requires { ⌜ paramsFrom i + paramNumbers ≤ length (now memory) ⌝ }
     ensures { λ _. ⌜ left memory ≡ stored (was memory) i p ⌝ }
 {
     let at = Controller::COMPONENTS + PARAMETER_NUMBERS * i;

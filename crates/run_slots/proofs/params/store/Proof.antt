@@ -1,11 +1,9 @@
-use Prim.Native.Nat.{_+_, _*_}
 use mathlib.Core.List.{[], _∷_}
 use native.Mathlib.Omega.{arith}
 use lib.ListN.{length-set}
 use borrow.Author.Needs.{needs}
-use Rattle.rules.specs.Limits.{limits, paramNumbers}
 use Rattle.byte_buffer.proofs.PutLaws.{in-a-row}
-use Rattle.run_slots.specs.Params.{stored}
+use Rattle.run_slots.specs.Params.{paramsFrom, stored}
 use Rattle.run_slots.proofs.params.store.Statement.{statement}
 use Rattle.run_slots.proofs.params.store.Tie as tie
 
@@ -13,7 +11,7 @@ returns : tie.Need-returns
 unfolding stored
 returns c =
     let a = c .args in
-    in-a-row (a .memory .now) (limits .components + paramNumbers * a .i) (a .p .uri ∷ [])
+    in-a-row (a .memory .now) (paramsFrom (a .i)) (a .p .uri ∷ [])
     ((a .p .length ∷ []) ∷ (a .p .source ∷ []) ∷ (a .p .digest ∷ []) ∷ (a .p .size ∷ []) ∷ [])
 
 pub store-spec : {M : Type 1} → statement M
