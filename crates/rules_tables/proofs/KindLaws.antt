@@ -1,5 +1,5 @@
 -- The codes of each kind of argument. What holds of each row is one computed test over the table.
-use Prim.Native.Nat.{ℕ, _≤_}
+use Prim.Native.Nat.{ℕ, _≤_, _<_}
 use mathlib.Core.Path.{_≡_, refl, sym, subst, _∙_}
 use mathlib.Core.List.{List, [], _∷_}
 use mathlib.Core.Bool.{Bool, true, false, not, _||_}
@@ -17,13 +17,13 @@ use Rattle.rules_tables.specs.Kinds.{kindOf}
 
 -- the codes with sixteen bytes, those with parameters, and neither
 abbrev sixteens : List ℕ
-sixteens = 1 ∷ 2 ∷ []
+sixteens = vendorCode ∷ classCode ∷ []
 
 abbrev parameterised : List ℕ
-parameterised = 19 ∷ 20 ∷ []
+parameterised = setParametersCode ∷ overrideCode ∷ []
 
 abbrev pub Other : ℕ → Type 0
-Other c = (1 ≤ c → 3 ≤ c) × (19 ≤ c → 21 ≤ c)
+Other c = (vendorCode ≤ c → classCode < c) × (setParametersCode ≤ c → overrideCode < c)
 
 abbrev other : ℕ → Bool
 other c = not (among c sixteens || among c parameterised)
@@ -63,7 +63,7 @@ tested c = go (rowOf c commands) refl
     go (some r) e =
         let f : test (r .number) (Tables.kindOf (r .form)) ≡ true = rows-agree (λ x. test (x .number) (Tables.kindOf (x .form))) (λ x. true) c r refl e in
         rw e (subst (λ (k : ℕ). test k (Tables.kindOf (r .form)) ≡ true) (row-number c r e) f)
-    go none e = rw (e, not-listed 1 _ refl e, not-listed 2 _ refl e, not-listed 19 _ refl e, not-listed 20 _ refl e)
+    go none e = rw (e, not-listed vendorCode _ refl e, not-listed classCode _ refl e, not-listed setParametersCode _ refl e, not-listed overrideCode _ refl e)
 
 either : (c j k : ℕ) → among c (j ∷ k ∷ []) ≡ true → (c ≡ j) ⊎ (c ≡ k)
 either c j k e = go (eqb c j) (eqb c k) refl refl e
@@ -74,17 +74,20 @@ either c j k e = go (eqb c j) (eqb c k) refl refl e
     go false false p q h = absurd (no (sym h))
 
 neither : (c : ℕ) → other c ≡ true → Other c
-neither c h = (λ l. omega (arith, is-not 1 (λ e. rw e), is-not 2 (λ e. rw e)), λ l. omega (arith, is-not 19 (λ e. rw e), is-not 20 (λ e. rw e)))
+neither c h = (
+  λ l. omega (arith, is-not vendorCode (λ e. rw e), is-not classCode (λ e. rw e)),
+  λ l. omega (arith, is-not setParametersCode (λ e. rw e), is-not overrideCode (λ e. rw e)),
+)
   where
     is-not : (k : ℕ) → (c ≡ k → other c ≡ false) → c ≡ k → ⊥
     is-not k f e = no (sym h ∙ f e)
 
 module _ (c : ℕ) where
   pub sixteen-codes : kindOf c ≡ Sixteen → (c ≡ vendorCode) ⊎ (c ≡ classCode)
-  sixteen-codes e = either c 1 2 (rw e at (tested c))
+  sixteen-codes e = either c vendorCode classCode (rw e at (tested c))
 
   pub parameter-codes : kindOf c ≡ Parameters → (c ≡ setParametersCode) ⊎ (c ≡ overrideCode)
-  parameter-codes e = either c 19 20 (rw e at (tested c))
+  parameter-codes e = either c setParametersCode overrideCode (rw e at (tested c))
 
   pub nil-codes : kindOf c ≡ Nil → Other c
   nil-codes e = neither c (rw e at (tested c))

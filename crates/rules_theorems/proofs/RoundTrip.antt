@@ -16,7 +16,7 @@ use Rattle.rules.specs.Answers.{groupNumber}
 use Rattle.rules.specs.Limits.{limits}
 use Rattle.rules.specs.Bytes.{Bytes, num, be2, be4, flat, repeats}
 use Rattle.rules.specs.Got.{got}
-use Rattle.rules.specs.Commands.{Op, vendor, class, imageMatch, setIndex, abort, setParams, overrideParams, fetch, copy, run, swap, Params, component, sourceKey, digestKey, sizeKey}
+use Rattle.rules.specs.Commands.{Op, vendor, class, imageMatch, setIndex, abort, setParams, overrideParams, fetch, copy, run, swap, Params, component, uriKey, sourceKey, digestKey, sizeKey}
 use Rattle.rules.specs.Program.{Rec, does, jump, Program, targetOf, argBytes, paramBytes, recBytes, idBytes, programBytes, entry}
 use Rattle.rules.specs.ProgramFormat.{NONE, recordSize, startSize, nameSize, sourceBytes, sizeBytes}
 use Rattle.rules.specs.ProgramTest.{optional, paramsIn, opIn, recordIn, recordsIn, groupAllows, isBelow, idsIn, groupIn, programIn, nonJumps}
@@ -105,15 +105,16 @@ params-law n p f =
     let p₂ : Bytes = entry digestKey (λ b. b) (p .digest) ++ p₃ in
     let p₁ : Bytes = entry sourceKey (λ k. k ∷ []) (p .source) ++ p₂ in
     rw (
-      optional-law 6 1 (limits .uri) (λ b. b) (λ b. b) (p .uri) p₁
-          (later 6 10 (λ k. k ∷ []) (p .source) p₂ (omega arith) (later 6 11 (λ b. b) (p .digest) p₃ (omega arith) (later 6 12 be4 (p .size) [] (omega arith) tt)))
+      optional-law uriKey 1 (limits .uri) (λ b. b) (λ b. b) (p .uri) p₁
+          (later uriKey sourceKey (λ k. k ∷ []) (p .source) p₂ (omega arith)
+          (later uriKey digestKey (λ b. b) (p .digest) p₃ (omega arith) (later uriKey sizeKey be4 (p .size) [] (omega arith) tt)))
           (λ b e. (f .uri b e .0, f .uri b e .1, refl)),
-      optional-law 10 sourceBytes sourceBytes (λ k. k ∷ []) num (p .source) p₂
-          (later 10 11 (λ b. b) (p .digest) p₃ (omega arith) (later 10 12 be4 (p .size) [] (omega arith) tt))
+      optional-law sourceKey sourceBytes sourceBytes (λ k. k ∷ []) num (p .source) p₂
+          (later sourceKey digestKey (λ b. b) (p .digest) p₃ (omega arith) (later sourceKey sizeKey be4 (p .size) [] (omega arith) tt))
           (λ k e. (omega arith, omega arith, omega arith)),
-      optional-law 11 (limits .digest) (limits .digest) (λ b. b) (λ b. b) (p .digest) p₃ (later 11 12 be4 (p .size) [] (omega arith) tt)
+      optional-law digestKey (limits .digest) (limits .digest) (λ b. b) (λ b. b) (p .digest) p₃ (later digestKey sizeKey be4 (p .size) [] (omega arith) tt)
           (λ b e. (omega (arith, f .digest b e), omega (arith, f .digest b e), refl)),
-      optional-law 12 sizeBytes sizeBytes be4 num (p .size) [] tt (λ k e. (omega arith, omega arith, num-be4 k (omega (arith, f .size k e)))),
+      optional-law sizeKey sizeBytes sizeBytes be4 num (p .size) [] tt (λ k e. (omega arith, omega arith, num-be4 k (omega (arith, f .size k e)))),
       below-law (p .source) n (f .source),
     )
 
