@@ -1,30 +1,38 @@
 -- What check's report says of an envelope: what it accepted, or its refusal.
 use Prim.Native.Nat.{ℕ, _≤_, _<_}
-use mathlib.Core.Path.{_≡_, refl, sym, ap, _∙_, subst}
+use mathlib.Core.Path.{_≡_, refl, sym, ap, _∙_}
 use mathlib.Core.List.{List}
 use native.Mathlib.Omega.{arith}
-use lib.Dec.{leb}
 use lib.ListN.{length, getD, replicate, length-map}
-use borrow.Author.Tests.{leb-true}
 use Rattle.rules.specs.declared.answers.Refusal.{Refusal}
-use Rattle.rules.specs.declared.answers.Refusal.the-variants.{EnvelopeTooLong}
 use Rattle.rules.specs.Limits.{limits, places}
-use Rattle.rules.specs.Bytes.{Bytes, Span, span, bytesAt, spanAt, InBytes}
+use Rattle.rules.specs.Bytes.{Bytes, span, bytesAt, spanAt, InBytes}
 use Rattle.rules.specs.Got.{Got, refused, got}
 use Rattle.rules.specs.Manifest.{Manifest, names}
-use Rattle.rules.specs.Check.{check}
-use Rattle.rules.proofs.GotLaws.{passed}
+use Rattle.rules.specs.Check.{components, check}
+use Rattle.rules.proofs.CheckLaws.{inBytes-law}
+use Rattle.rules.proofs.ManifestParts.{common-parts, common-in, manifest-parts, held}
 use Rattle.rules_theorems.proofs.ManifestLaws.{Sound, sound}
 use Rattle.check_envelope.specs.declared.report.Checked.{Checked}
 use Rattle.check_envelope.specs.declared.report.Checked.the-variants as The
 use Rattle.check_envelope.specs.declared.report.Report.{Report}
 use Rattle.check_envelope.specs.Report.{reportOf}
 use Rattle.check_envelope.proofs.EnvelopeLaws.{differ}
-use Rattle.component_ids.proofs.IdentifierLaws.{span-laid}
+use Rattle.component_ids.specs.Identifiers.{laid}
+use Rattle.component_ids.proofs.IdentifierLaws.{span-laid, ids-inside}
 use Rattle.run_slots.specs.Slot.{namesAt}
 use Rattle.run_slot_search.proofs.SearchLaws.{names-laid}
 use Rattle.manifest_accessors.specs.Accepted.{Accepted}
-use Rattle.manifest_accessors.proofs.IdentifiersRead.{In, ids-in}
+
+-- the identifiers of a checked manifest lie in the envelope
+ids-in : (s : Bytes) (m : Manifest) (a : List ℕ) → check s ≡ got m → InBytes (laid (m .ids) a) (length (m .ids)) (length s)
+ids-in s m a q =
+    let h = held s m q in
+    let x = manifest-parts s (h .to) (h .from) m (h .to) (h .reads) in
+    let j = common-in s (h .to) (x .start) (x .common) (x .place) (x .held) in
+    let y = common-parts s (x .place .to) (x .place .from) (x .common) (x .place .to) (j .reads) in
+    let i = inBytes-law s (components s) (x .place .to) (y .list) (x .common .0) (y .place) (y .ids) in
+    rw (x .is) (ids-inside s (y .place .to) (y .place .from) (x .common .0) (y .place .to) a (omega (arith, i .fits, j .fits, h .fits)) (i .reads))
 
 module _ (s : Bytes) (number n : ℕ) (ids sections : List ℕ) (a : Accepted s number n ids sections) where
   pub known : Sound s (a .manifest)
@@ -34,8 +42,7 @@ module _ (s : Bytes) (number n : ℕ) (ids sections : List ℕ) (a : Accepted s 
   counted = length-map (a .manifest .ids) (bytesAt s) ∙ sym (a .count)
 
   pub envelope-short : length s ≤ limits .envelope
-  unfolding check
-  envelope-short = leb-true _ _ (passed (leb (length s) (limits .envelope)) EnvelopeTooLong 0 _ (a .manifest) (a .checks) .0)
+  envelope-short = held s (a .manifest) (a .checks) .short
 
   pub few : n ≤ limits .components
   few = omega (arith, counted, known .some-ids)
@@ -47,9 +54,7 @@ module _ (s : Bytes) (number n : ℕ) (ids sections : List ℕ) (a : Accepted s 
   spans k h = ap (λ (l : List ℕ). spanAt l k) (a .names) ∙ span-laid (a .manifest .ids) (replicate places 0) k h
 
   pub inside : InBytes ids n (length s)
-  inside k h =
-      let l : k < length (a .manifest .ids) = omega (arith, a .count) in
-      subst (λ (p : Span). In s p) (sym (spans k l)) (ids-in s (a .manifest) (a .checks) k l)
+  inside k h = rw (a .names) (ids-in s (a .manifest) (replicate places 0) (a .checks) k (omega (arith, a .count)))
 
   pub named : namesAt s ids n ≡ names s (a .manifest)
   named = ap (namesAt s ids) (a .count) ∙ names-laid s (a .manifest .ids) ids spans

@@ -17,14 +17,14 @@ use Rattle.rules.specs.Bytes.{Bytes, part}
 use Rattle.rules.specs.Got.{got, found}
 use Rattle.rules.specs.Cbor.{BYTES, TEXT, FALSE, TRUE, Head, after, item, oneOf}
 use Rattle.rules.specs.Commands.{ParamRow, params, paramOf, coerceKey, uriKey, sourceKey, digestKey}
-use Rattle.rules.specs.Check.{Given, give, nothing, number, parameter, entries}
+use Rattle.rules.specs.Check.{Given, give, nothing, overGiven, number, parameter, entries}
 use Rattle.rules.proofs.GotLaws.{passed, both, split, split₂, found-is}
 use Rattle.rules.proofs.TableLaws.{_&_}
 use Rattle.rules.proofs.CheckLaws.{item-law, number-law, one-of-kind, bytes-after, text-after}
 use Rattle.manifest_accessors.specs.declared.arguments.Args.{Args}
 use Rattle.run_slots.specs.Params.{meaning, Fit}
 use Rattle.manifest_accessors.specs.Heads.{HeadAt}
-use Rattle.manifest_accessors.specs.Arguments.{paramsOf, coerceTrue, coerceFalse, coerceOf, trueByte, flagOf, givenOf, Within, bareAt, overGiven, EntryAt, EntryPut}
+use Rattle.manifest_accessors.specs.Arguments.{coerceTrue, coerceFalse, coerceOf, trueByte, flagOf, givenOf, Within, bareAt, EntryAt, EntryPut}
 use Rattle.manifest_accessors.proofs.HeadLaws.{one-of-whole, item-headed, number-headed, flag-at}
 
 -- what holds of each parameter and its key holds of the parameter of a key
@@ -54,7 +54,7 @@ module _ (s : Bytes) (n e at : ℕ) (f : e ≤ length s) (v : Given) (q : ℕ) w
       let t : eqb (h .kind) TRUE ≡ eqb (getD s at 0) trueByte = rw b kind in
       (omega arith, sym eq ∙ m, sym ev ∙ (rw t))
     where
-      go : (h : Head) → (h .kind ≡ FALSE) ⊎ (h .kind ≡ TRUE) → (20 ≤ h .kind) × (eqb (h .kind) TRUE ≡ eqb (0xe0 + h .kind) trueByte)
+      go : (h : Head) → (h .kind ≡ FALSE) ⊎ (h .kind ≡ TRUE) → (FALSE ≤ h .kind) × (eqb (h .kind) TRUE ≡ eqb (0xe0 + h .kind) trueByte)
       go h (inl i) = (omega arith, rw i)
       go h (inr i) = (omega arith, rw i)
 
@@ -134,12 +134,12 @@ module _ (s : Bytes) (n e at : ℕ) (f : e ≤ length s) (v : Given) (q : ℕ) w
 
   headed-read : (key : ℕ) (what : Parameter) → paramOf key params ≡ some what → (key ≡ coerceKey → ⊥) → parameter s n what e at ≡ got (v, q) → HeadAt s at
   headed-read key what =
-      param-of (λ k x. (k ≡ 2 → ⊥) → parameter s n x e at ≡ got (v, q) → HeadAt s at) params key what
+      param-of (λ k x. (k ≡ coerceKey → ⊥) → parameter s n x e at ≡ got (v, q) → HeadAt s at) params key what
       ((λ n q. absurd (n refl)) & (λ n q. uri-read q .headed) & (λ n q. source-read q .headed) & (λ n q. digest-read q .headed) & (λ n q. size-read q .headed) & tt)
 
 is-size : (key : ℕ) (what : Parameter) → paramOf key params ≡ some what → (key ≡ coerceKey → ⊥) → (key ≡ uriKey → ⊥) → (key ≡ sourceKey → ⊥) → (key ≡ digestKey → ⊥) → what ≡ Size
 is-size key what =
-    param-of (λ k x. (k ≡ 2 → ⊥) → (k ≡ 6 → ⊥) → (k ≡ 10 → ⊥) → (k ≡ 11 → ⊥) → x ≡ Size) params key what
+    param-of (λ k x. (k ≡ coerceKey → ⊥) → (k ≡ uriKey → ⊥) → (k ≡ sourceKey → ⊥) → (k ≡ digestKey → ⊥) → x ≡ Size) params key what
     ((λ a b c d. absurd (a refl)) & (λ a b c d. absurd (b refl)) & (λ a b c d. absurd (c refl)) & (λ a b c d. absurd (d refl)) & (λ a b c d. refl) & tt)
 
 what-is : (k : ℕ) (x y : Parameter) → paramOf k params ≡ some x → paramOf k params ≡ some y → x ≡ y
@@ -268,8 +268,8 @@ module _ (s : Bytes) (key at : ℕ) (x : EntryAt s key at) (a : Args) where
           next = next;
         })
     unfolding meaning
-    put-size n₂ n₆ n₁₀ n₁₁ =
-        let y = entry-size s key at x n₂ n₆ n₁₀ n₁₁ in
+    put-size n₁ n₂ n₃ n₄ =
+        let y = entry-size s key at x n₁ n₂ n₃ n₄ in
         let (ev, en) = o (y .headed) in
         let m : value + 1 - 1 ≡ value = omega arith in
         record {
@@ -335,10 +335,10 @@ module _ (s : Bytes) (n k : ℕ) (g : Given) (e at : ℕ) (given : Given) (to : 
         reads = rw j (t .reads);
       }
 
-pub fit-bare : (s : Bytes) (n : ℕ) → Fit s n (paramsOf (bareAt 0 0))
+pub fit-bare : (s : Bytes) (n : ℕ) → Fit s n (bareAt 0 0 .params)
 fit-bare s n = record { source = omega arith; digest = λ l. absurd (omega arith) }
 
-pub within-bare : (s : Bytes) → Within s (paramsOf (bareAt 0 0))
+pub within-bare : (s : Bytes) → Within s (bareAt 0 0 .params)
 within-bare s = record { inside = λ l. absurd (omega arith); short = omega arith }
 
 pub given-bare : (s : Bytes) → givenOf s (bareAt 0 0) ≡ nothing

@@ -1,5 +1,5 @@
 -- What the head of an accepted item tells of the bytes at its place.
-use Prim.Native.Nat.{ℕ, zero, suc, _+_, _-_, _*_, _/_, _%_, _≤_, _<_}
+use Prim.Native.Nat.{ℕ, zero, suc, _+_, _-_, _/_, _%_, _≤_, _<_}
 use mathlib.Core.Path.{_≡_, refl, _∙_}
 use mathlib.Core.Bool.{Bool, true, false, _&&_, _||_, cond}
 use native.Mathlib.Omega.{arith}
@@ -8,7 +8,7 @@ use lib.ListN.{length, getD}
 use borrow.Author.Tests.{lt-ltb, le-leb, lt-leb, ne-eqb, ltb-true, ltb-false, leb-true}
 use Rattle.rules.specs.declared.answers.Refusal.the-variants.{NotCbor, Malformed}
 use Rattle.rules.specs.Limits.{limits}
-use Rattle.rules.specs.Bytes.{Bytes, num, part}
+use Rattle.rules.specs.Bytes.{Bytes, num, part, twoAt, fourAt}
 use Rattle.rules.specs.Got.{Got, got}
 use Rattle.rules.specs.Cbor.{NUMBER, BYTES, Head, head, known, more, least, value, kindOf, after, whole, item, oneOf}
 use Rattle.rules.specs.Check.{number, strings}
@@ -136,14 +136,14 @@ module _ (s : Bytes) (at : ℕ) (x : HeadAt s at) where
       let (n, f) = wide-next 1 m in
       (wide-num 1 m (omega arith) ∙ num-1 s (at + 1) (omega arith), omega arith, omega arith)
 
-  pub headed-2 : getD s at 0 % 32 ≡ 25 → (x .head .num ≡ getD s (at + 1) 0 * 256 + getD s (at + 1 + 1) 0) × (x .head .next ≡ at + 3) × (at + 3 ≤ length s)
+  pub headed-2 : getD s at 0 % 32 ≡ 25 → (x .head .num ≡ twoAt s (at + 1)) × (x .head .next ≡ at + 3) × (at + 3 ≤ length s)
   headed-2 l =
       let m : more (getD s at 0) ≡ 2 = rw (lt-ltb (getD s at 0) 0xe0 (x .plain), l) in
       let (n, f) = wide-next 2 m in
       (wide-num 2 m (omega arith) ∙ num-2 s (at + 1) (omega arith), omega arith, omega arith)
 
   pub headed-4 : (getD s at 0 % 32 < 24 → ⊥) → (getD s at 0 % 32 ≡ 24 → ⊥) → (getD s at 0 % 32 ≡ 25 → ⊥) →
-      (x .head .num ≡ ((getD s (at + 1) 0 * 256 + getD s (at + 1 + 1) 0) * 256 + getD s (at + 1 + 2) 0) * 256 + getD s (at + 1 + 3) 0) × (x .head .next ≡ at + 5) × (at + 5 ≤ length s)
+      (x .head .num ≡ fourAt s (at + 1)) × (x .head .next ≡ at + 5) × (at + 5 ≤ length s)
   headed-4 a b c =
       let m : more (getD s at 0) ≡ 4 =
       rw (lt-ltb (getD s at 0) 0xe0 (x .plain), le-leb 24 (getD s at 0 % 32) (omega arith), ne-eqb (getD s at 0 % 32) 24 b, ne-eqb (getD s at 0 % 32) 25 c) in

@@ -11,7 +11,7 @@ use Rattle.rules.proofs.TableLaws.{each-row, _&_}
 
 abbrev pub CodesOf : Form → ℕ → Type 0
 CodesOf (sixteen op) c = (c ≡ vendorCode) ⊎ (c ≡ classCode)
-CodesOf (nil op) c = among c (1 ∷ 2 ∷ 12 ∷ 15 ∷ 19 ∷ 20 ∷ 30 ∷ []) ≡ false
+CodesOf (nil op) c = among c (vendorCode ∷ classCode ∷ setIndexCode ∷ tryEachCode ∷ setParametersCode ∷ overrideCode ∷ runSequenceCode ∷ []) ≡ false
 CodesOf (below op) c = c ≡ setIndexCode
 CodesOf alternatives c = c ≡ tryEachCode
 CodesOf (parameters op) c = (c ≡ setParametersCode) ⊎ (c ≡ overrideCode)

@@ -7,7 +7,6 @@ pub mod CommandPlaces
 pub mod SequencePlaces
 pub mod TryPlaces
 pub mod PlaceLaws
-pub mod IdentifiersRead
 pub mod SectionsRead
 pub mod SectionPlaces
 pub mod AcceptedLaws

@@ -21,10 +21,10 @@ use Rattle.rules.proofs.GotLaws.{passed, both, split, split₂}
 use Rattle.rules.proofs.CheckLaws.{item-law, bytes-after}
 use Rattle.manifest_accessors.specs.declared.arguments.Args.{Args}
 use Rattle.run_slots.specs.declared.params.Params as Words
-use Rattle.run_slots.specs.Params.{meaning, Fit}
+use Rattle.run_slots.specs.Params.{meaning}
 use Rattle.run_commands.specs.Op.{opOf}
 use Rattle.manifest_accessors.specs.Heads.{HeadAt}
-use Rattle.manifest_accessors.specs.Arguments.{paramsOf, isTrue, coerceOf, givenOf, Within, bareAt, Entries, ArgumentAt, ArgumentRead}
+use Rattle.manifest_accessors.specs.Arguments.{isTrue, coerceOf, bareAt, Entries, EntriesRead, ArgumentAt, ArgumentRead}
 use Rattle.rules.proofs.TableLaws.{each-row, _&_}
 use Rattle.manifest_accessors.proofs.ArgumentLaws.{form-of}
 use Rattle.manifest_accessors.proofs.EntryLaws.{Opens, fit-bare, within-bare}
@@ -343,7 +343,7 @@ module _ (s : Bytes) (c at : ℕ) (x : ArgumentAt s c at) where
         }
 
     pub read-map : (k : (c ≡ setParametersCode) ⊎ (c ≡ overrideCode)) (a : Args) →
-        (givenOf s a ≡ map-entries k .given) × (a .next ≡ x .to) × Fit s (x .n) (paramsOf a) × Within s (paramsOf a) → ArgumentRead s c at x a
+        EntriesRead s value next (map-entries k) a → ArgumentRead s c at x a
     read-map k a (g, n, f, w) =
         let y = one-map k in
         let new : New (a .value) = λ j. absurd (⊎-elim (λ i. omega arith) (λ i. omega arith) k) in

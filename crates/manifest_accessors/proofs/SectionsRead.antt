@@ -18,6 +18,7 @@ use Rattle.rules.specs.Check.{key, inBytes, sequenceAt, sectionAt, commonSeq, s
 use Rattle.rules.proofs.GotLaws.{both, split, split₂}
 use Rattle.rules.proofs.CheckLaws.{item-law, inBytes-law}
 use Rattle.check_manifest.specs.Sections.{sectionNo, placedOne, placed}
+use Rattle.run_slots.proofs.ParamsLaws.{zeros}
 use Rattle.manifest_accessors.specs.Sections.{keyOf}
 use Rattle.rules.proofs.ManifestParts.{common-parts, common-in, manifest-parts, held}
 
@@ -171,11 +172,6 @@ module _ (s : Bytes) (n : ℕ) where
         stands = h;
         read = rw e at (sections-of s m q);
       }
-    where
-      zeros : (k i : ℕ) → _≡_ {A = ℕ} (getD (replicate k 0) i 0) 0
-      zeros zero i = refl
-      zeros (suc k) zero = refl
-      zeros (suc k) (suc i) = zeros k i
 
   pub rest-end : (places : List ℕ) (k m : ℕ) (rest : List Section) → sectionCount ≤ k → Rest s n places k m rest → rest ≡ []
   rest-end places k m [] h r = refl

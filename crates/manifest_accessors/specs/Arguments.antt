@@ -9,9 +9,9 @@ use Rattle.rules.specs.Bytes.{Bytes}
 use Rattle.rules.specs.Got.{got}
 use Rattle.rules.specs.Cbor.{TRUE}
 use Rattle.rules.specs.declared.tables.Parameter.{Parameter}
-use Rattle.rules.specs.Commands.{Op, setIndex, code, component, Row, rowOf, commands, orElse, over, params, paramOf}
+use Rattle.rules.specs.Commands.{Op, setIndex, code, component, Row, rowOf, commands, params, paramOf}
 use Rattle.rules.specs.Manifest.{Seq, one}
-use Rattle.rules.specs.Check.{Read, Given, parameter, entries, nothing, argument}
+use Rattle.rules.specs.Check.{Read, Given, nothing, overGiven, parameter, entries, argument}
 use Rattle.manifest_accessors.specs.declared.arguments.Args.{Args}
 use Rattle.run_slots.specs.declared.params.Params.{Params}
 use Rattle.run_slots.specs.Params.{optional, meaning, Fit}
@@ -41,7 +41,7 @@ abbrev pub coerceOf : ℕ → Option Bool
 coerceOf n = optional n (isTrue n)
 
 abbrev pub givenOf : Bytes → Args → Given
-givenOf s a = record { coerce = coerceOf (a .coerce); params = meaning s (paramsOf a) }
+givenOf s a = record { coerce = coerceOf (a .coerce); params = meaning s (a .params) }
 
 -- a URI lies in the bytes s, and its length fits in one
 pub record Within (s : Bytes) (p : Params) : Type 0 where
@@ -51,10 +51,6 @@ pub record Within (s : Bytes) (p : Params) : Type 0 where
 -- no parameters
 abbrev pub bareAt : ℕ → ℕ → Args
 bareAt value next = record { value = value; params = record { uri = 0; length = 0; source = 0; digest = 0; size = 0 }; coerce = 0; next = next }
-
--- what v gives, and what g gives beside it
-abbrev pub overGiven : Given → Given → Given
-overGiven v g = record { coerce = orElse (v .coerce) (g .coerce); params = over (v .params) (g .params) }
 
 -- the value at `at` of the parameter under a key, which check has accepted
 pub record EntryAt (s : Bytes) (key at : ℕ) : Type 0 where
@@ -71,8 +67,8 @@ pub record EntryAt (s : Bytes) (key at : ℕ) : Type 0 where
 pub record EntryPut (s : Bytes) (key at : ℕ) (x : EntryAt s key at) (a r : Args) : Type 0 where
   pub given : givenOf s r ≡ overGiven (x .given) (givenOf s a)
   pub next : r .next ≡ x .to
-  pub fit : Fit s (x .n) (paramsOf a) → Fit s (x .n) (paramsOf r)
-  pub within : Within s (paramsOf a) → Within s (paramsOf r)
+  pub fit : Fit s (x .n) (a .params) → Fit s (x .n) (r .params)
+  pub within : Within s (a .params) → Within s (r .params)
 
 -- k entries of a map of parameters, which check has accepted
 pub record Entries (s : Bytes) (k at : ℕ) : Type 0 where
@@ -85,7 +81,7 @@ pub record Entries (s : Bytes) (k at : ℕ) : Type 0 where
 
 -- they were read
 abbrev pub EntriesRead : (s : Bytes) (k at : ℕ) → Entries s k at → Args → Type 0
-EntriesRead s k at x a = (givenOf s a ≡ x .given) × (a .next ≡ x .to) × Fit s (x .n) (paramsOf a) × Within s (paramsOf a)
+EntriesRead s k at x a = (givenOf s a ≡ x .given) × (a .next ≡ x .to) × Fit s (x .n) (a .params) × Within s (a .params)
 
 -- the argument at `at` of a command of code c, which check has accepted
 pub record ArgumentAt (s : Bytes) (c at : ℕ) : Type 0 where
@@ -108,11 +104,11 @@ componentOf c value index = cond (eqb c (code (setIndex value))) value index
 
 -- it was read
 pub record ArgumentRead (s : Bytes) (c at : ℕ) (x : ArgumentAt s c at) (a : Args) : Type 0 where
-  pub op : opOf s c (a .value) (paramsOf a) ≡ x .op
+  pub op : opOf s c (a .value) (a .params) ≡ x .op
   pub coerce : coerceOf (a .coerce) ≡ x .coerce
   pub next : a .next ≡ x .to
-  pub fit : Fit s (x .n) (paramsOf a)
-  pub within : Within s (paramsOf a)
+  pub fit : Fit s (x .n) (a .params)
+  pub within : Within s (a .params)
   pub sixteen : SixteenAt s c (a .value)
   pub inside : (i : ℕ) → i < x .n → component (x .op) i < x .n
   pub component : (i : ℕ) → component (x .op) i ≡ componentOf c (a .value) i

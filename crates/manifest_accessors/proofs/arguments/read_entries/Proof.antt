@@ -5,7 +5,7 @@ use borrow.Author.Needs.{needs}
 use Rattle.rules.specs.Got.{got}
 use Rattle.rules.specs.Check.{entries}
 use Rattle.run_slots.specs.Params.{Fit}
-use Rattle.manifest_accessors.specs.Arguments.{paramsOf, givenOf, Within, Entries}
+use Rattle.manifest_accessors.specs.Arguments.{givenOf, Within, Entries}
 use Rattle.manifest_accessors.proofs.EntryLaws.{entries-step, entries-none, step-headed, step-entry, fit-bare, within-bare, given-bare}
 use Rattle.manifest_accessors.proofs.arguments.read_entries.Statement.{statement}
 use Rattle.manifest_accessors.proofs.arguments.read_entries.Tie as tie
@@ -13,7 +13,7 @@ use Rattle.manifest_accessors.proofs.arguments.read_entries.Tie as tie
 -- what was to be read is what was read and what is left
 abbrev Inv-loop : tie.InvT-loop
 Inv-loop s k at a₀ left₀ a left =
-    (x : Entries s k at) → (low : ℕ) × (entries s (x .n) left low (givenOf s a) (x .e) (a .next) ≡ got (x .given, x .to)) × Fit s (x .n) (paramsOf a) × Within s (paramsOf a)
+    (x : Entries s k at) → (low : ℕ) × (entries s (x .n) left low (givenOf s a) (x .e) (a .next) ≡ got (x .given, x .to)) × Fit s (x .n) (a .params) × Within s (a .params)
 
 abbrev μ-loop : tie.MeasureT-loop
 μ-loop s k at a₀ left₀ a left = left
