@@ -1,16 +1,17 @@
 -- What a run hands back, and what it leaves in lent memory.
-use Prim.Native.Nat.{ℕ, _-_, _*_}
+use Prim.Native.Nat.{ℕ, _*_, _≤_, _<_}
 use mathlib.Core.List.{List, [], _∷_}
 use mathlib.Core.Path.{_≡_}
 use mathlib.Core.Bool.{Bool, cond}
 use lib.Dec.{eqb}
+use lib.ListN.{length}
 use Rattle.rules.specs.declared.controller.Controller.{Controller}
 use Rattle.rules.specs.Answers.{refusalNumber, endNumber, endOf}
-use Rattle.rules.specs.Bytes.{Bytes, num, part}
+use Rattle.rules.specs.Bytes.{Bytes}
 use Rattle.rules.specs.Lent.{Lent, was, left}
 use Rattle.rules.specs.Got.{Got, refused, got}
-use Rattle.rules.specs.Step.{eventBytes, eventPlace}
-use Rattle.rules.specs.Run.{Input, Ran}
+use Rattle.rules.specs.Step.{eventBytes}
+use Rattle.rules.specs.Run.{Input, Ran, lastPlace}
 use Rattle.run_admission.specs.declared.answer.Answer as The
 use Rattle.run_admission.specs.declared.answer.Answer.the-variants as Answer
 use Rattle.run_admission.specs.declared.answer.Ending.{Ending}
@@ -67,12 +68,16 @@ abbrev pub refusalIn : {A : Type 0} → Got A → ℕ
 refusalIn (refused r p) = refusalNumber r
 refusalIn (got a) = 0
 
+-- the trace holds that many events, and one at least unless the run finished
+abbrev pub LastEvent : ℕ → ℕ → Bytes → Type 0
+LastEvent end events trace = (0 < end → 0 < events) × (eventBytes * events ≤ length trace)
+
 -- how a run ended, by the number of its end and its trace
 abbrev pub endingOf : ℕ → ℕ → ℕ → Bytes → Ending
 endingOf end events used trace =
     record {
       end = endOf end;
-      place = cond (eqb end 0) 0 (num (part trace (eventBytes * events - (eventBytes - eventPlace)) 2));
+      place = cond (eqb end 0) 0 (lastPlace events trace);
       events = events;
       used = used;
     }

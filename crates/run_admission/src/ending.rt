@@ -1,15 +1,11 @@
 // How a run ended, and the device's number after it.
 ghost use mathlib.Core.Path.{_≡_};
 ghost use mathlib.Core.Bool.{cond};
-ghost use Prim.Native.Nat.{_-_, _*_, _≤_, _<_};
 ghost use lib.Dec.{eqb};
-ghost use lib.ListN.{length};
 ghost use Rattle.rules.specs.Lent.{was};
 ghost use Rattle.rules.specs.Answers.{endOf};
-ghost use Rattle.rules.specs.Bytes.{num, part};
-ghost use Rattle.rules.specs.Run.{numberAfter};
-ghost use Rattle.rules.specs.Step.{eventBytes, eventPlace};
-ghost use Rattle.run_admission.specs.Answer.{endingOf};
+ghost use Rattle.rules.specs.Run.{lastPlace, numberAfter};
+ghost use Rattle.run_admission.specs.Answer.{LastEvent, endingOf};
 use crate::answer::Ending;
 use byte_buffer::two;
 use rules::answers::End;
@@ -22,8 +18,8 @@ const FROM_PLACE: usize = EVENT_BYTES - PLACE;
 
 // The place of the last event, 0 where the run finished.
 fn last_place(end: usize, events: usize, trace: &[u8]) -> usize
-    requires { ⌜ (0 < end → 0 < events) × (eventBytes * events ≤ length (now trace)) ⌝ }
-    ensures { λ r. ⌜ r ≡ cond (eqb end 0) 0 (num (part (was trace) (eventBytes * events - (eventBytes - eventPlace)) 2)) ⌝ }
+    requires { ⌜ LastEvent end events (now trace) ⌝ }
+    ensures { λ r. ⌜ r ≡ cond (eqb end 0) 0 (lastPlace events (was trace)) ⌝ }
 {
     if end == End::FINISHED {
         return 0;
@@ -33,7 +29,7 @@ fn last_place(end: usize, events: usize, trace: &[u8]) -> usize
 
 // How a run ended, by the number of its end.
 pub fn ended(end: usize, events: usize, used: usize, trace: &[u8]) -> Ending
-    requires { ⌜ (0 < end → 0 < events) × (eventBytes * events ≤ length (now trace)) ⌝ }
+    requires { ⌜ LastEvent end events (now trace) ⌝ }
     ensures { λ r. ⌜ r ≡ endingOf end events used (was trace) ⌝ }
 {
     Ending {

@@ -1,24 +1,27 @@
-use Prim.Native.Nat.{ℕ, _+_, _-_, _*_, _≤_, _<_}
+use Prim.Native.Nat.{ℕ, _-_, _*_, _<_}
 use mathlib.Core.Path.{_≡_, sym, _∙_}
 use mathlib.Core.Bool.{cond}
 use lib.Dec.{eqb}
-use lib.ListN.{length, getD}
 use native.Mathlib.Omega.{arith}
 use borrow.Author.Needs.{needs}
 use borrow.Author.Tests.{eq-eqb, ne-eqb}
-use Rattle.rules.specs.Bytes.{Bytes, num, part}
+use Rattle.rules.specs.Bytes.{Bytes, twoAt}
+use Rattle.rules.specs.Run.{lastPlace}
 use Rattle.rules.specs.Step.{eventBytes, eventPlace}
 use Rattle.rules.proofs.BytesLaws.{num-2}
+use Rattle.run_admission.specs.Answer.{LastEvent}
 use Rattle.run_admission.proofs.ending.last_place.Statement.{statement}
 use Rattle.run_admission.proofs.ending.last_place.Tie as tie
 
 finished : tie.Need-returns
 finished c = rw (eq-eqb _ 0 (c .if1 .taken))
 
-last-law : (s : Bytes) (end events r : ℕ) → (end ≡ 0 → ⊥) → (0 < end → 0 < events) × (eventBytes * events ≤ length s) →
-    r ≡ getD s (eventBytes * events - (eventBytes - eventPlace)) 0 * 256 + getD s (eventBytes * events - (eventBytes - eventPlace) + 1) 0 →
-    r ≡ cond (eqb end 0) 0 (num (part s (eventBytes * events - (eventBytes - eventPlace)) 2))
-last-law s end events r d (l, f) e = let g : 0 < events = l (omega arith) in rw (ne-eqb end 0 d) (e ∙ sym (num-2 s (eventBytes * events - (eventBytes - eventPlace)) (omega arith)))
+-- where the place of the last of that many events stands
+abbrev at : ℕ → ℕ
+at events = eventBytes * events - (eventBytes - eventPlace)
+
+last-law : (s : Bytes) (end events r : ℕ) → (end ≡ 0 → ⊥) → LastEvent end events s → r ≡ twoAt s (at events) → r ≡ cond (eqb end 0) 0 (lastPlace events s)
+last-law s end events r d (l, f) e = let g : 0 < events = l (omega arith) in rw (ne-eqb end 0 d) (e ∙ sym (num-2 s (at events) (omega arith)))
 
 last : tie.Need-returns-2
 last c = last-law _ _ _ _ (c .before .if1 .left) (c .before .before .before .pre) (c .two .ensures .0)
