@@ -1,5 +1,5 @@
 -- A parameter that may stand at a place, by the tests that its reading makes.
-use Prim.Native.Nat.{ℕ, suc, _+_, _-_, _*_, _≤_, _<_}
+use Prim.Native.Nat.{ℕ, _+_, _-_, _≤_, _<_}
 use mathlib.Core.Path.{_≡_, refl, sym, _∙_}
 use mathlib.Core.List.{[], _∷_}
 use mathlib.Core.Bool.{Bool, true, false}
@@ -9,13 +9,13 @@ use native.Mathlib.Omega.{arith}
 use lib.Dec.{eqb, leb}
 use lib.ListN.{length, getD}
 use borrow.Author.Tests.{eq-eqb, ne-eqb, le-leb, lt-leb, eqb-true, eqb-false, leb-true, leb-false}
-use Rattle.rules.specs.Bytes.{Bytes, part}
+use Rattle.rules.specs.Bytes.{Bytes, part, fourAt}
 use Rattle.rules.specs.Got.{Got, got}
 use Rattle.rules.specs.ProgramFormat.{entrySize, sourceBytes, sizeBytes}
 use Rattle.rules.specs.ProgramTest.{bad, optional}
-use Rattle.rules.proofs.BytesLaws.{num-1, num-4}
+use Rattle.rules.proofs.BytesLaws.{part-cons, num-1, num-4}
 use Rattle.program_parameters.specs.Entries.{nextIn, valueIn, sourceIn, sizeIn}
-use Rattle.program_parameters.proofs.PartLaws.{part-none, part-cons, take-part, drop-part, length-to}
+use Rattle.program_parameters.proofs.PartLaws.{part-none, take-part, drop-part, length-to}
 
 module _ (p : Bytes) (at to key lo hi : ℕ) where
   abbrev pub reading : Got (Option Bytes × Bytes)
@@ -30,13 +30,13 @@ module _ (p : Bytes) (at to key lo hi : ℕ) where
 
   module _ (o : at ≤ to) (l : to ≤ length p) where
     first : at < to → part p at (to - at) ≡ getD p at 0 ∷ part p (at + 1) (to - (at + 1))
-    first h = let e : to - at ≡ suc (to - (at + 1)) = omega arith in rw e (part-cons p at (to - (at + 1)) (omega arith))
+    first h = let e : to - at - 1 ≡ to - (at + 1) = omega arith in rw (part-cons p at (to - at) (omega arith) (omega arith), e)
 
     two : at + 1 < to → part p at (to - at) ≡ getD p at 0 ∷ getD p (at + 1) 0 ∷ part p (at + entrySize) (to - (at + entrySize))
     two h =
-        let e : to - (at + 1) ≡ suc (to - (at + entrySize)) = omega arith in
+        let e : to - (at + 1) - 1 ≡ to - (at + entrySize) = omega arith in
         let f : at + 1 + 1 ≡ at + entrySize = omega arith in
-        rw (first (omega arith), e, part-cons p (at + 1) (to - (at + entrySize)) (omega arith), f)
+        rw (first (omega arith), part-cons p (at + 1) (to - (at + 1)) (omega arith) (omega arith), e, f)
 
     reading-end : at ≡ to → reading ≡ got (none, part p at (to - at))
     unfolding optional
@@ -169,8 +169,7 @@ module _ (p : Bytes) (at next : ℕ) (s : at ≡ next → ⊥) where
   pub source-set : (x : ℕ) → at + entrySize + sourceBytes ≤ length p → x ≡ getD p (at + entrySize) 0 → x + 1 ≡ sourceIn p at next
   source-set x l e = rw (ne-eqb at next s) (omega (arith, num-1 p (at + entrySize) (omega arith)))
 
-  pub size-set : (x : ℕ) → at + entrySize + sizeBytes ≤ length p →
-      x ≡ ((getD p (at + entrySize) 0 * 256 + getD p (at + entrySize + 1) 0) * 256 + getD p (at + entrySize + 2) 0) * 256 + getD p (at + entrySize + 3) 0 → x + 1 ≡ sizeIn p at next
+  pub size-set : (x : ℕ) → at + entrySize + sizeBytes ≤ length p → x ≡ fourAt p (at + entrySize) → x + 1 ≡ sizeIn p at next
   size-set x l e = rw (ne-eqb at next s) (omega (arith, num-4 p (at + entrySize) (omega arith)))
 
 module _ (p : Bytes) (at to key lo hi r : ℕ) (s : Step p at to key lo hi r) where

@@ -1,5 +1,5 @@
 -- The parameters of a command, by the places where the reading of each ended.
-use Prim.Native.Nat.{ℕ, suc, _+_, _-_, _≤_, _<_}
+use Prim.Native.Nat.{ℕ, _+_, _-_, _≤_, _<_}
 use mathlib.Core.Path.{_≡_, refl, ap, _∙_}
 use mathlib.Core.List.{[], _∷_}
 use mathlib.Core.Bool.{Bool, true, false, _&&_, cond}
@@ -14,11 +14,12 @@ use Rattle.rules.specs.Commands as Rules
 use Rattle.rules.specs.Got.{Got, refused, got, _>>=_}
 use Rattle.rules.specs.ProgramFormat.{entrySize, sourceBytes, sizeBytes}
 use Rattle.rules.specs.ProgramTest.{bad, need, optional, isBelow, paramsIn}
+use Rattle.rules.proofs.SameLaws.{same-lengths}
 use Rattle.run_slots.specs.Params.{meaning}
 use Rattle.run_slots.specs.Params as Words
 use Rattle.program_parameters.specs.declared.Entries.{Entries}
 use Rattle.program_parameters.specs.Entries.{nextIn, valueIn, placeIn, lengthIn, sourceIn, sizeIn, noEntries, entriesAt, endAt, uriEnd, sourceEnd, digestEnd, ParamsAre}
-use Rattle.program_parameters.proofs.PartLaws.{part-none, part-cons}
+use Rattle.program_parameters.proofs.PartLaws.{part-none, length-to}
 use Rattle.program_parameters.proofs.EntryLaws.{reading, Step, was-bad, was-step}
 
 -- what is made of a parameter's bytes does not change how they are read
@@ -50,29 +51,29 @@ module _ (p : Bytes) (n from to : ℕ) where
   abbrev answer : Got Rules.Params
   answer = paramsIn n (part p from (to - from))
 
-  params-1 : reading p from to 6 1 (limits .uri) ≡ bad → answer ≡ bad
+  params-1 : reading p from to Rules.uriKey 1 (limits .uri) ≡ bad → answer ≡ bad
   unfolding paramsIn
   params-1 q = rw q
 
-  module _ (a : ℕ) (x : Step p from to 6 1 (limits .uri) a) where
-    params-2 : reading p a to 10 sourceBytes sourceBytes ≡ bad → answer ≡ bad
+  module _ (a : ℕ) (x : Step p from to Rules.uriKey 1 (limits .uri) a) where
+    params-2 : reading p a to Rules.sourceKey sourceBytes sourceBytes ≡ bad → answer ≡ bad
     unfolding paramsIn
-    params-2 q = rw (x .reads, by-bytes 10 sourceBytes sourceBytes num, q)
+    params-2 q = rw (x .reads, by-bytes Rules.sourceKey sourceBytes sourceBytes num, q)
 
-    module _ (b : ℕ) (y : Step p a to 10 sourceBytes sourceBytes b) where
-      params-3 : reading p b to 11 (limits .digest) (limits .digest) ≡ bad → answer ≡ bad
+    module _ (b : ℕ) (y : Step p a to Rules.sourceKey sourceBytes sourceBytes b) where
+      params-3 : reading p b to Rules.digestKey (limits .digest) (limits .digest) ≡ bad → answer ≡ bad
       unfolding paramsIn
-      params-3 q = rw (x .reads, by-bytes 10 sourceBytes sourceBytes num, y .reads, q)
+      params-3 q = rw (x .reads, by-bytes Rules.sourceKey sourceBytes sourceBytes num, y .reads, q)
 
-      module _ (c : ℕ) (z : Step p b to 11 (limits .digest) (limits .digest) c) where
-        params-4 : reading p c to 12 sizeBytes sizeBytes ≡ bad → answer ≡ bad
+      module _ (c : ℕ) (z : Step p b to Rules.digestKey (limits .digest) (limits .digest) c) where
+        params-4 : reading p c to Rules.sizeKey sizeBytes sizeBytes ≡ bad → answer ≡ bad
         unfolding paramsIn
-        params-4 q = rw (x .reads, by-bytes 10 sourceBytes sourceBytes num, y .reads, z .reads, by-bytes 12 sizeBytes sizeBytes num, q)
+        params-4 q = rw (x .reads, by-bytes Rules.sourceKey sourceBytes sourceBytes num, y .reads, z .reads, by-bytes Rules.sizeKey sizeBytes sizeBytes num, q)
 
-        params-5 : (d : ℕ) → Step p c to 12 sizeBytes sizeBytes d →
+        params-5 : (d : ℕ) → Step p c to Rules.sizeKey sizeBytes sizeBytes d →
             answer ≡ (need (same (part p d (to - d)) []) >>= λ _. need (isBelow (Option·map num (valueIn p a b)) n) >>= λ _. got (given p from a b c d))
         unfolding paramsIn
-        params-5 d w = rw (x .reads, by-bytes 10 sourceBytes sourceBytes num, y .reads, z .reads, by-bytes 12 sizeBytes sizeBytes num, w .reads)
+        params-5 d w = rw (x .reads, by-bytes Rules.sourceKey sourceBytes sourceBytes num, y .reads, z .reads, by-bytes Rules.sizeKey sizeBytes sizeBytes num, w .reads)
 
 -- the numbers of a parameter mean its value
 module _ (p : Bytes) (at r : ℕ) where
@@ -129,53 +130,49 @@ module _ (p : Bytes) (at r : ℕ) where
 refuses : (p : Bytes) (n from to : ℕ) (x : Got Rules.Params) (e : Entries) → x ≡ bad → e ≡ noEntries → ParamsAre p n from to x e
 refuses p n from to x e q g = rw q g
 
-not-empty : (p : Bytes) (d to : ℕ) → d < to → to ≤ length p → same (part p d (to - d)) [] ≡ false
-not-empty p d to h l =
-    let e : to - d ≡ suc (to - d - 1) = omega arith in
-    rw (e, part-cons p d (to - d - 1) (omega arith))
-
-module _ (p : Bytes) (n from to : ℕ) (pre : (0 < from) × (from ≤ to) × (to ≤ length p)) (a : ℕ) (qa : a ≡ nextIn to (reading p from to 6 1 (limits .uri))) where
+module _ (p : Bytes) (n from to : ℕ) (pre : (0 < from) × (from ≤ to) × (to ≤ length p)) (a : ℕ) (qa : a ≡ nextIn to (reading p from to Rules.uriKey 1 (limits .uri))) where
   pub no-uri : a ≡ 0 → (e : Entries) → e ≡ noEntries → ParamsAre p n from to (answer p n from to) e
-  no-uri z e g = refuses p n from to _ e (params-1 p n from to (was-bad p from to 6 1 (limits .uri) (pre .1) (pre .2) a (pre .0) qa z)) g
+  no-uri z e g = refuses p n from to _ e (params-1 p n from to (was-bad p from to Rules.uriKey 1 (limits .uri) (pre .1) (pre .2) a (pre .0) qa z)) g
 
   module _ (ha : a ≡ 0 → ⊥) where
-    pub uri-step : Step p from to 6 1 (limits .uri) a
-    uri-step = was-step p from to 6 1 (limits .uri) (pre .1) (pre .2) a (pre .0) qa ha
+    pub uri-step : Step p from to Rules.uriKey 1 (limits .uri) a
+    uri-step = was-step p from to Rules.uriKey 1 (limits .uri) (pre .1) (pre .2) a (pre .0) qa ha
 
     pub source-pre : (0 < a) × (a ≤ to) × (to ≤ length p)
     source-pre = (omega (arith, ha), uri-step .fits, pre .2)
 
-    module _ (b : ℕ) (qb : b ≡ nextIn to (reading p a to 10 sourceBytes sourceBytes)) where
+    module _ (b : ℕ) (qb : b ≡ nextIn to (reading p a to Rules.sourceKey sourceBytes sourceBytes)) where
       pub no-source : b ≡ 0 → (e : Entries) → e ≡ noEntries → ParamsAre p n from to (answer p n from to) e
       no-source z e g =
-          refuses p n from to _ e (params-2 p n from to a uri-step (was-bad p a to 10 sourceBytes sourceBytes (source-pre .1) (source-pre .2) b (source-pre .0) qb z)) g
+          refuses p n from to _ e (params-2 p n from to a uri-step (was-bad p a to Rules.sourceKey sourceBytes sourceBytes (source-pre .1) (source-pre .2) b (source-pre .0) qb z)) g
 
       module _ (hb : b ≡ 0 → ⊥) where
-        pub source-step : Step p a to 10 sourceBytes sourceBytes b
-        source-step = was-step p a to 10 sourceBytes sourceBytes (source-pre .1) (source-pre .2) b (source-pre .0) qb hb
+        pub source-step : Step p a to Rules.sourceKey sourceBytes sourceBytes b
+        source-step = was-step p a to Rules.sourceKey sourceBytes sourceBytes (source-pre .1) (source-pre .2) b (source-pre .0) qb hb
 
         pub digest-pre : (0 < b) × (b ≤ to) × (to ≤ length p)
         digest-pre = (omega (arith, hb), source-step .fits, pre .2)
 
-        module _ (c : ℕ) (qc : c ≡ nextIn to (reading p b to 11 (limits .digest) (limits .digest))) where
+        module _ (c : ℕ) (qc : c ≡ nextIn to (reading p b to Rules.digestKey (limits .digest) (limits .digest))) where
           pub no-digest : c ≡ 0 → (e : Entries) → e ≡ noEntries → ParamsAre p n from to (answer p n from to) e
           no-digest z e g =
-              refuses p n from to _ e (params-3 p n from to a uri-step b source-step (was-bad p b to 11 (limits .digest) (limits .digest) (digest-pre .1) (digest-pre .2) c (digest-pre .0) qc z)) g
+              refuses p n from to _ e
+              (params-3 p n from to a uri-step b source-step (was-bad p b to Rules.digestKey (limits .digest) (limits .digest) (digest-pre .1) (digest-pre .2) c (digest-pre .0) qc z)) g
 
           module _ (hc : c ≡ 0 → ⊥) where
-            pub digest-step : Step p b to 11 (limits .digest) (limits .digest) c
-            digest-step = was-step p b to 11 (limits .digest) (limits .digest) (digest-pre .1) (digest-pre .2) c (digest-pre .0) qc hc
+            pub digest-step : Step p b to Rules.digestKey (limits .digest) (limits .digest) c
+            digest-step = was-step p b to Rules.digestKey (limits .digest) (limits .digest) (digest-pre .1) (digest-pre .2) c (digest-pre .0) qc hc
 
             pub size-pre : (0 < c) × (c ≤ to) × (to ≤ length p)
             size-pre = (omega (arith, hc), digest-step .fits, pre .2)
 
-            module _ (d : ℕ) (qd : d ≡ nextIn to (reading p c to 12 sizeBytes sizeBytes)) where
+            module _ (d : ℕ) (qd : d ≡ nextIn to (reading p c to Rules.sizeKey sizeBytes sizeBytes)) where
               no-size : d ≡ 0 → answer p n from to ≡ bad
               no-size z =
-                  params-4 p n from to a uri-step b source-step c digest-step (was-bad p c to 12 sizeBytes sizeBytes (size-pre .1) (size-pre .2) d (size-pre .0) qd z)
+                  params-4 p n from to a uri-step b source-step c digest-step (was-bad p c to Rules.sizeKey sizeBytes sizeBytes (size-pre .1) (size-pre .2) d (size-pre .0) qd z)
 
-              some-step : (d ≡ 0 → ⊥) → Step p c to 12 sizeBytes sizeBytes d
-              some-step hd = was-step p c to 12 sizeBytes sizeBytes (size-pre .1) (size-pre .2) d (size-pre .0) qd hd
+              some-step : (d ≡ 0 → ⊥) → Step p c to Rules.sizeKey sizeBytes sizeBytes d
+              some-step hd = was-step p c to Rules.sizeKey sizeBytes sizeBytes (size-pre .1) (size-pre .2) d (size-pre .0) qd hd
 
               -- a fourth that is not well formed, or bytes after it
               pub not-all : (d ≡ to → ⊥) → (e : Entries) → e ≡ noEntries → ParamsAre p n from to (answer p n from to) e
@@ -184,12 +181,12 @@ module _ (p : Bytes) (n from to : ℕ) (pre : (0 < from) × (from ≤ to) × (to
                   go : (t : Bool) → eqb d 0 ≡ t → answer p n from to ≡ bad
                   go true z = no-size (eqb-true d 0 z)
                   go false z =
-                      let w : Step p c to 12 sizeBytes sizeBytes d = some-step (eqb-false d 0 z) in
+                      let w : Step p c to Rules.sizeKey sizeBytes sizeBytes d = some-step (eqb-false d 0 z) in
                       params-5 p n from to a uri-step b source-step c digest-step d w
-                      ∙ rw (not-empty p d to (omega (arith, h, w .fits)) (pre .2))
+                      ∙ rw (same-lengths (part p d (to - d)) [] (λ q. h (omega (arith, w .fits, length-to p d to (w .fits) (pre .2)))))
 
               module _ (hd : d ≡ to) where
-                pub size-step : Step p c to 12 sizeBytes sizeBytes d
+                pub size-step : Step p c to Rules.sizeKey sizeBytes sizeBytes d
                 size-step = some-step (λ z. omega arith)
 
                 whole : answer p n from to ≡ (need (isBelow (Option·map num (valueIn p a b)) n) >>= λ _. got (given p from a b c d))
@@ -203,8 +200,8 @@ module _ (p : Bytes) (n from to : ℕ) (pre : (0 < from) × (from ≤ to) × (to
                 -- these places are those of the contract
                 placed : entriesAt p from a b c d ≡ entriesAt p from (uriEnd p from to) (sourceEnd p from to) (digestEnd p from to) to
                 placed =
-                    let eb : b ≡ sourceEnd p from to = qb ∙ ap (endAt p to 10 sourceBytes sourceBytes) qa in
-                    let ec : c ≡ digestEnd p from to = qc ∙ ap (endAt p to 11 (limits .digest) (limits .digest)) eb in
+                    let eb : b ≡ sourceEnd p from to = qb ∙ ap (endAt p to Rules.sourceKey sourceBytes sourceBytes) qa in
+                    let ec : c ≡ digestEnd p from to = qc ∙ ap (endAt p to Rules.digestKey (limits .digest) (limits .digest)) eb in
                     ap (λ (x : ℕ). entriesAt p from x b c d) qa
                     ∙ ap (λ (x : ℕ). entriesAt p from (uriEnd p from to) x c d) eb
                     ∙ ap (λ (x : ℕ). entriesAt p from (uriEnd p from to) (sourceEnd p from to) x d) ec

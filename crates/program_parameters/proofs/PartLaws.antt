@@ -1,13 +1,13 @@
 -- Bytes that are left, by their place.
-use Prim.Native.Nat.{ℕ, zero, suc, _+_, _-_, _≤_, _<_}
+use Prim.Native.Nat.{ℕ, zero, suc, _+_, _-_, _≤_}
 use mathlib.Core.Path.{_≡_, refl, ap, _∙_}
 use mathlib.Core.List.{[], _∷_}
 use mathlib.Core.Bool.{true, _&&_}
 use native.Mathlib.Omega.{arith}
-use native.Mathlib.Numerals.{add-one, unary-clauses}
+use native.Mathlib.Numerals.{unary-clauses}
 use lib.Dec.{eqb}
 use lib.ListN.{length, getD, take, drop, length-drop}
-use lib.Seq.{drop-drop, drop-cons, take-take, take-nil}
+use lib.Seq.{drop-drop, take-take, take-nil}
 use Rattle.rules.specs.Bytes.{Bytes, part, same}
 use Rattle.rules.proofs.BytesLaws.{length-part}
 
@@ -21,9 +21,6 @@ module _ (p : Bytes) (at : ℕ) where
 
   pub part-none : (n : ℕ) → n ≡ 0 → part p at n ≡ []
   part-none n z = rw z
-
-  pub part-cons : (n : ℕ) → at < length p → part p at (suc n) ≡ getD p at 0 ∷ part p (at + 1) n
-  part-cons n h = rw (drop-cons p at 0 h, add-one)
 
   pub take-part : (k n : ℕ) → k ≤ n → take k (part p at n) ≡ part p at k
   take-part k n h = take-take k n (drop at p) h

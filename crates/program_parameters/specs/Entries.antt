@@ -52,13 +52,13 @@ abbrev pub endAt : Bytes → ℕ → ℕ → ℕ → ℕ → ℕ → ℕ
 endAt p to key lo hi at = nextIn to (optional key lo hi (λ b. b) (part p at (to - at)))
 
 abbrev pub uriEnd : Bytes → ℕ → ℕ → ℕ
-uriEnd p from to = endAt p to 6 1 (limits .uri) from
+uriEnd p from to = endAt p to Rules.uriKey 1 (limits .uri) from
 
 abbrev pub sourceEnd : Bytes → ℕ → ℕ → ℕ
-sourceEnd p from to = endAt p to 10 sourceBytes sourceBytes (uriEnd p from to)
+sourceEnd p from to = endAt p to Rules.sourceKey sourceBytes sourceBytes (uriEnd p from to)
 
 abbrev pub digestEnd : Bytes → ℕ → ℕ → ℕ
-digestEnd p from to = endAt p to 11 (limits .digest) (limits .digest) (sourceEnd p from to)
+digestEnd p from to = endAt p to Rules.digestKey (limits .digest) (limits .digest) (sourceEnd p from to)
 
 -- what stands from `from` to `to`, for n components and over the bytes p: nothing where it is refused; else the places, and they mean
 -- the parameters that were read

@@ -1,5 +1,5 @@
 -- One record of a program, by its place.
-use Prim.Native.Nat.{ℕ, _+_, _-_, _*_, _≤_, _<_}
+use Prim.Native.Nat.{ℕ, _+_, _-_, _≤_, _<_}
 use mathlib.Core.Path.{_≡_, refl, sym, ap, _∙_}
 use mathlib.Core.Bool.{Bool, true, false, not, _&&_, _||_}
 use mathlib.Core.Option.{Option, some, none}
@@ -13,7 +13,7 @@ use Rattle.rules.specs.declared.answers.Group.{Group}
 use Rattle.rules.specs.declared.answers.Refusal.the-variants.{BadProgram}
 use Rattle.rules.specs.declared.tables.Command.{Command}
 use Rattle.rules.specs.declared.tables.Listed.the-variants as L
-use Rattle.rules.specs.Bytes.{Bytes, part, num, same}
+use Rattle.rules.specs.Bytes.{Bytes, part, num, twoAt, same}
 use Rattle.rules.specs.Commands.{Op, isCondition, Form, Row, rowOf, commands}
 use Rattle.rules.specs.Tables.{kindOf, asCommand, listed}
 use Rattle.rules.specs.Got.{Got, refused, got, found, _>>=_}
@@ -143,7 +143,7 @@ module _ (g : Group) (comps total n : ℕ) (p : Bytes) (at : ℕ) where
       fits false e = rw (short p at (leb-false _ _ e), e)
 
 -- two bytes, as the code reads them
-pub two-is : (p : Bytes) (at k x : ℕ) → at + k + 2 ≤ length p → x ≡ getD p (at + k) 0 * 256 + getD p (at + k + 1) 0 → x ≡ num (part p (at + k) 2)
+pub two-is : (p : Bytes) (at k x : ℕ) → at + k + 2 ≤ length p → x ≡ twoAt p (at + k) → x ≡ num (part p (at + k) 2)
 two-is p at k x l e = e ∙ sym (num-2 p (at + k) l)
 
 module _ (p : Bytes) (at size total n : ℕ) where

@@ -59,6 +59,7 @@ recordAt g comps total n p at = do
       got (does op (getD p (at + componentFrom) 0) (num (part p (at + placeFrom) 2)) target, drop next p)
   ]
 
+-- where a reading up to `to` ended, and how many commands it read; both 0 where it was refused
 abbrev pub recordsAre : ℕ → Got (List Rec × Bytes) → Records
 recordsAre to (refused r p) = record { next = 0; commands = 0 }
 recordsAre to (got a) = record { next = to - length (a .1); commands = nonJumps (a .0) }

@@ -1,5 +1,5 @@
 -- The program test: the start, then the identifiers, then the records.
-use Prim.Native.Nat.{ℕ, _+_, _-_, _*_, _≤_, _<_}
+use Prim.Native.Nat.{ℕ, _-_, _≤_, _<_}
 use mathlib.Core.Path.{_≡_, refl, sym, ap, _∙_}
 use mathlib.Core.List.{List, [], _∷_}
 use mathlib.Core.Bool.{Bool, true, false, _&&_, not}
@@ -12,13 +12,14 @@ use Rattle.rules.specs.declared.answers.Group.{Group}
 use Rattle.rules.specs.declared.answers.Group.the-variants.{Install, Boot}
 use Rattle.rules.specs.declared.answers.Refusal.{Refusal}
 use Rattle.rules.specs.Limits.{limits}
-use Rattle.rules.specs.Bytes.{Bytes, part, num, same, repeats}
+use Rattle.rules.specs.Bytes.{Bytes, part, num, twoAt, fourAt, same, repeats}
 use Rattle.rules.specs.Got.{Got, refused, got, _>>=_}
 use Rattle.rules.specs.Program.{Rec, Program}
 use Rattle.rules.specs.ProgramFormat.{START, codeFrom, groupFrom, numberFrom, componentsFrom, recordsFrom, startSize}
 use Rattle.rules.specs.ProgramTest.{need, bad, marked, idsIn, recordsIn, nonJumps, groupIn, programIn}
 use Rattle.rules.proofs.BytesLaws.{num-2, num-4}
 use Rattle.rules.proofs.GotLaws.{and-true}
+use Rattle.rules.proofs.SameLaws.{same-lengths}
 use Rattle.run_slots.specs.Slot.{namesAt}
 use Rattle.component_ids.specs.declared.Repeat.{Repeat}
 use Rattle.component_ids.specs.declared.Repeat.the-variants.{At, Nothing}
@@ -94,7 +95,7 @@ module _ (p : Bytes) where
                 pub start-many : limits .components < n → false ≡ startFits p
                 start-many l = sym (start-left ∙ rw (le-leb 1 (getD p componentsFrom 0) (omega arith), lt-leb (getD p componentsFrom 0) (limits .components) (omega arith)))
 
-                pub start-last : n ≤ limits .components → (m : ℕ) → m ≡ getD p recordsFrom 0 * 256 + getD p (recordsFrom + 1) 0 → leb m (limits .records) ≡ startFits p
+                pub start-last : n ≤ limits .components → (m : ℕ) → m ≡ twoAt p recordsFrom → leb m (limits .records) ≡ startFits p
                 start-last l m e =
                     let k : m ≡ num (part p recordsFrom 2) = e ∙ sym (num-2 p recordsFrom (omega arith)) in
                     sym (start-left ∙ rw (le-leb 1 (getD p componentsFrom 0) (omega arith), le-leb (getD p componentsFrom 0) (limits .components) (omega arith), k))
@@ -120,7 +121,7 @@ module _ (p : Bytes) where
     pub numbers : counts ≡ true
     pub least : 1 ≤ getD p componentsFrom 0
     pub most : getD p componentsFrom 0 ≤ limits .components
-    pub records : getD p recordsFrom 0 * 256 + getD p (recordsFrom + 1) 0 ≤ limits .records
+    pub records : twoAt p recordsFrom ≤ limits .records
 
   pub start-good : startFits p ≡ true → Started
   unfolding startFits
@@ -167,11 +168,6 @@ reject p x r k e h = rw e h
 pub start-refused : (p : Bytes) (x : Tested) → startFits p ≡ false → x ≡ noProgram → TestedAs p (programIn p) x
 start-refused p x e h = rw (start-bad p e) h
 
--- a list that is not empty, or is
-unlike : (q : Bytes) → (length q ≡ 0 → ⊥) → same q [] ≡ false
-unlike [] d = absurd (d refl)
-unlike (x ∷ q) d = refl
-
 empty : (q : Bytes) → length q ≡ 0 → q ≡ []
 empty [] z = refl
 empty (x ∷ q) z = absurd (omega arith)
@@ -181,7 +177,7 @@ pub record Front (p : Bytes) (g : Group) (n m : ℕ) : Type 0 where
   pub start : Started p
   pub group : groupIn (getD p groupFrom 0) ≡ some g
   pub components : n ≡ getD p componentsFrom 0
-  pub records : m ≡ getD p recordsFrom 0 * 256 + getD p (recordsFrom + 1) 0
+  pub records : m ≡ twoAt p recordsFrom
 
 -- the test after the start, as the code makes it
 module _ (p : Bytes) (g : Group) (n m : ℕ) (h : Front p g n m) where
@@ -237,7 +233,7 @@ module _ (p : Bytes) (g : Group) (n m : ℕ) (h : Front p g n m) where
             records-refused x c b =
                 either x b λ y l i.
                 let nonempty : length (y .1) ≡ 0 → ⊥ = λ z. c (ap (λ (y : Records). y .next) i ∙ omega arith) in
-                go y (leb (nonJumps (y .0)) (limits .commands)) refl (unlike (y .1) nonempty)
+                go y (leb (nonJumps (y .0)) (limits .commands)) refl (same-lengths (y .1) [] nonempty)
               where
                 go : (y : List Rec × Bytes) (b : Bool) → leb (nonJumps (y .0)) (limits .commands) ≡ b → same (y .1) [] ≡ false → finish p g ids y ≡ bad
                 go y true f₁ f₂ = rw (f₁, f₂)
@@ -250,8 +246,7 @@ module _ (p : Bytes) (g : Group) (n m : ℕ) (h : Front p g n m) where
                 lt-leb (nonJumps (y .0)) (limits .commands) (omega (arith, ap (λ (y : Records). y .commands) i)) in
                 rw f₁
 
-            pub program-good : (k : ℕ) → (k ≡ ((getD p numberFrom 0 * 256 + getD p (numberFrom + 1) 0) * 256 + getD p (numberFrom + 2) 0) * 256 + getD p (numberFrom + 3) 0)
-                × (k < 4294967296) → r .next ≡ length p → r .commands ≤ limits .commands →
+            pub program-good : (k : ℕ) → (k ≡ fourAt p numberFrom) × (k < 4294967296) → r .next ≡ length p → r .commands ≤ limits .commands →
                 Answer (record { good = true; group = g; number = k; components = n; records = m; from = from; ids = a })
             program-good k b c few = go records refl
               where
