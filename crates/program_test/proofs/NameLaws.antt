@@ -49,10 +49,10 @@ module _ (p : Bytes) (at : ℕ) where
   abbrev one : Got (List Bytes × Bytes)
   one = idsIn 1 (drop at p)
 
-  bad-one : tests ≡ false → 0 ≡ nextIn (length p) one
+  bad-one : tests ≡ false → 0 ≡ nameEnd p at
   bad-one e = let g : one ≡ bad = ids-turn 0 ∙ rw e in sym (ap (nextIn (length p)) g)
 
-  good-one : tests ≡ true → at + nameSize + size ≤ length p → at + nameSize + size ≡ nextIn (length p) one
+  good-one : tests ≡ true → at + nameSize + size ≤ length p → at + nameSize + size ≡ nameEnd p at
   unfolding idsIn
   good-one e h =
       let g : one ≡ got (part p (at + nameSize) size ∷ [], drop (at + nameSize + size) p) = ids-turn 0 ∙ rw e in
@@ -62,7 +62,7 @@ module _ (p : Bytes) (at : ℕ) where
   fits e = omega (arith, leb-true (nameSize + size) (length p - at) (and-true (leb nameSize (length p - at) && marked NAME (drop at p) && leb 1 size && leb size (limits .identifier)) _ e .1))
 
   -- an identifier, as the code reads it
-  pub name-short : length p - at < nameSize → 0 ≡ nextIn (length p) one
+  pub name-short : length p - at < nameSize → 0 ≡ nameEnd p at
   name-short l = bad-one (rw (lt-leb _ _ l))
 
   module _ (h : nameSize ≤ length p - at) where
@@ -71,15 +71,15 @@ module _ (p : Bytes) (at : ℕ) where
         (limits .identifier) && leb (nameSize + size) (length p - at))
     tests-are = rw (le-leb _ _ h, marked-at p at NAME (omega arith))
 
-    pub name-first : (getD p at 0 ≡ mark₁ → ⊥) → 0 ≡ nextIn (length p) one
+    pub name-first : (getD p at 0 ≡ mark₁ → ⊥) → 0 ≡ nameEnd p at
     name-first d = bad-one (tests-are ∙ rw (ne-eqb _ _ d))
 
     module _ (a : getD p at 0 ≡ mark₁) where
-      pub name-second : (getD p (at + 1) 0 ≡ mark₂ → ⊥) → 0 ≡ nextIn (length p) one
+      pub name-second : (getD p (at + 1) 0 ≡ mark₂ → ⊥) → 0 ≡ nameEnd p at
       name-second d = bad-one (tests-are ∙ rw (eq-eqb _ _ a, ne-eqb _ _ d))
 
       module _ (b : getD p (at + 1) 0 ≡ mark₂) where
-        pub name-third : (getD p (at + codeFrom) 0 ≡ NAME → ⊥) → 0 ≡ nextIn (length p) one
+        pub name-third : (getD p (at + codeFrom) 0 ≡ NAME → ⊥) → 0 ≡ nameEnd p at
         name-third d = bad-one (tests-are ∙ rw (eq-eqb _ _ a, eq-eqb _ _ b, ne-eqb _ _ d))
 
         module _ (c : getD p (at + codeFrom) 0 ≡ NAME) where
@@ -87,25 +87,25 @@ module _ (p : Bytes) (at : ℕ) where
           tests-left = tests-are ∙ rw (eq-eqb _ _ a, eq-eqb _ _ b, eq-eqb _ _ c)
 
           module _ (n : ℕ) (q : n ≡ size) where
-            pub name-empty : n < 1 → 0 ≡ nextIn (length p) one
+            pub name-empty : n < 1 → 0 ≡ nameEnd p at
             name-empty l = bad-one (tests-left ∙ rw (lt-leb 1 size (omega arith)))
 
             module _ (m : 1 ≤ n) where
-              pub name-long : limits .identifier < n → 0 ≡ nextIn (length p) one
+              pub name-long : limits .identifier < n → 0 ≡ nameEnd p at
               name-long l = bad-one (tests-left ∙ rw (le-leb 1 size (omega arith), lt-leb size (limits .identifier) (omega arith)))
 
               module _ (s : n ≤ limits .identifier) where
-                pub name-cut : length p - at - nameSize < n → 0 ≡ nextIn (length p) one
+                pub name-cut : length p - at - nameSize < n → 0 ≡ nameEnd p at
                 name-cut l =
                     bad-one (tests-left ∙ rw (le-leb 1 size (omega arith), le-leb size (limits .identifier) (omega arith), lt-leb (nameSize + size) (length p - at) (omega arith)))
 
-                pub name-good : n ≤ length p - at - nameSize → at + nameSize + n ≡ nextIn (length p) one
+                pub name-good : n ≤ length p - at - nameSize → at + nameSize + n ≡ nameEnd p at
                 name-good l =
                     let t : tests ≡ true = tests-left ∙ rw (le-leb 1 size (omega arith), le-leb size (limits .identifier) (omega arith), le-leb (nameSize + size) (length p - at) (omega arith)) in
                     ap (λ (x : ℕ). at + nameSize + x) q ∙ good-one t (fits t)
 
   -- the identifiers after it
-  module _ (k r : ℕ) (q : r ≡ nextIn (length p) one) where
+  module _ (k r : ℕ) (q : r ≡ nameEnd p at) where
     pub names-stop : r ≡ 0 → idsIn (suc k) (drop at p) ≡ bad
     names-stop z = go tests refl
       where
@@ -113,15 +113,15 @@ module _ (p : Bytes) (at : ℕ) where
         go true e = absurd (omega (arith, good-one e (fits e)))
         go false e = ids-turn k ∙ rw e
 
-    pub names-on : (r ≡ 0 → ⊥) → (at + nameSize ≤ r) × (r ≤ length p) × (r ≡ nameEnd p at) × (idsIn (suc k) (drop at p) ≡ onto (part p (at + nameSize) (r - (at + nameSize))) (idsIn k (drop r p)))
+    pub names-on : (r ≡ 0 → ⊥) → (at + nameSize ≤ r) × (r ≤ length p) × (idsIn (suc k) (drop at p) ≡ onto (part p (at + nameSize) (r - (at + nameSize))) (idsIn k (drop r p)))
     names-on d = go tests refl
       where
-        go : (b : Bool) → tests ≡ b → (at + nameSize ≤ r) × (r ≤ length p) × (r ≡ nameEnd p at) × (idsIn (suc k) (drop at p) ≡ onto (part p (at + nameSize) (r - (at + nameSize))) (idsIn k (drop r p)))
+        go : (b : Bool) → tests ≡ b → (at + nameSize ≤ r) × (r ≤ length p) × (idsIn (suc k) (drop at p) ≡ onto (part p (at + nameSize) (r - (at + nameSize))) (idsIn k (drop r p)))
         go true e =
             let f : at + nameSize + size ≤ length p = fits e in
             let g : r ≡ at + nameSize + size = q ∙ sym (good-one e f) in
             let n : r - (at + nameSize) ≡ size = omega arith in
-            (omega arith, omega arith, g, ids-turn k ∙ rw (e, n, g))
+            (omega arith, omega arith, ids-turn k ∙ rw (e, n, g))
         go false e = absurd (d (q ∙ sym (bad-one e)))
 
 -- what they leave starts at a place after them
@@ -164,10 +164,14 @@ Lies p x = (x .from ≤ x .to) × (x .to ≤ length p)
 abbrev zeros : List ℕ
 zeros = replicate Limits.places 0
 
-places-turn : (p : Bytes) (m k at r : ℕ) (a : List ℕ) → r ≡ nameEnd p at →
-    placesFrom p m (k + 1) r (set (set a (2 * k) (at + nameSize)) (2 * k + 1) r) ≡ placesFrom p (suc m) k at a
-unfolding placesFrom
-places-turn p m k at r a e = rw e
+module _ (p : Bytes) (m k at r : ℕ) (a : List ℕ) (e : r ≡ nameEnd p at) where
+  places-stop : r ≡ 0 → a ≡ placesFrom p (suc m) k at a
+  unfolding placesFrom
+  places-stop z = rw (← e, eq-eqb r 0 z)
+
+  places-turn : (r ≡ 0 → ⊥) → placesFrom p m (k + 1) r (set (set a (2 * k) (at + nameSize)) (2 * k + 1) r) ≡ placesFrom p (suc m) k at a
+  unfolding placesFrom
+  places-turn d = rw (← e, ne-eqb r 0 d)
 
 -- k of the n identifiers from `at` on were read, and `next` is the place after them
 pub record Sofar (p : Bytes) (at n : ℕ) (places : List ℕ) (next k : ℕ) : Type 0 where
@@ -194,18 +198,21 @@ module _ (p : Bytes) (at n : ℕ) (places : List ℕ) where
         let g : idsIn n (drop at p) ≡ got (namesAt p places n, drop next p) = f .all ∙ rw (z, q, append-nil) in
         rw g (sym (rest-at p next (f .here)), (rw z at (f .left), refl, rw (← q) (f .within)))
 
-    module _ (l : k < n) (r : ℕ) (q : r ≡ nextIn (length p) (idsIn 1 (drop next p))) where
+    module _ (l : k < n) (r : ℕ) (q : r ≡ nameEnd p next) where
       left : n - k ≡ suc (n - (k + 1))
       left = omega arith
+
+      rest : placesFrom p (suc (n - (k + 1))) k next places ≡ placesFrom p n 0 at zeros
+      rest = ap (λ (x : ℕ). placesFrom p x k next places) (sym left) ∙ f .left
 
       pub sofar-stop : r ≡ 0 → Answers 0 places
       sofar-stop z =
           let g : idsIn n (drop at p) ≡ bad = f .all ∙ rw (left, names-stop p next (n - (k + 1)) r q z) in
-          rw g (refl, tt)
+          rw g (refl, places-stop p (n - (k + 1)) k next r places q z ∙ rest)
 
       pub sofar-next : (r ≡ 0 → ⊥) → 2 * k + 1 < length places → Sofar p at n (set (set places (2 * k) (next + nameSize)) (2 * k + 1) r) r (k + 1)
       sofar-next d room =
-          let (u, v, to-is, g) = names-on p next (n - (k + 1)) r q d in
+          let (u, v, g) = names-on p next (n - (k + 1)) r q d in
           let inner : List ℕ = set places (2 * k) (next + nameSize) in
           let new : List ℕ = set inner (2 * k + 1) r in
           let w : length inner ≡ length places = length-set places (2 * k) (next + nameSize) in
@@ -219,7 +226,7 @@ module _ (p : Bytes) (at n : ℕ) (places : List ℕ) where
           ∙ ap (λ (x : Span). namesAt p places k ++ (bytesAt p x ∷ [])) here in
           record {
             all = f .all ∙ rw (left, g, names) (after-more (namesAt p places k) (part p (next + nameSize) (r - (next + nameSize))) (idsIn (n - (k + 1)) (drop r p)));
-            left = places-turn p (n - (k + 1)) k next r places to-is ∙ ap (λ (x : ℕ). placesFrom p x k next places) (sym left) ∙ f .left;
+            left = places-turn p (n - (k + 1)) k next r places q d ∙ rest;
             here = v;
             within =
                 below-more (λ j. Lies p (spanAt new j)) k (λ j h. subst (Lies p) (sym (kept j h)) (f .within j h)) (omega arith, omega arith);

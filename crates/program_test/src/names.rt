@@ -6,7 +6,7 @@ ghost use Rattle.rules.specs.Lent.{was, left};
 ghost use Rattle.rules.specs.Limits.{limits, places};
 ghost use Rattle.rules.specs.ProgramTest as Rule;
 ghost use Rattle.program_parameters.specs.Entries.{nextIn};
-ghost use Rattle.program_test.specs.Test.{NamesAre};
+ghost use Rattle.program_test.specs.Test.{nameEnd, NamesAre};
 use byte_buffer::wide;
 use rules::controller::Controller;
 use rules::controller::Places;
@@ -22,7 +22,7 @@ const NAME_CODE: u8 = NAME as u8;
 // The place after the identifier at `at`; 0 if it is not well formed.
 fn test_name(p: &[u8], at: usize) -> usize
     requires { ⌜ at ≤ length (now p) ⌝ }
-    ensures { λ r. ⌜ r ≡ nextIn (length (was p)) (Rule.idsIn 1 (drop at (was p))) ⌝ }
+    ensures { λ r. ⌜ r ≡ nameEnd (was p) at ⌝ }
 {
     let left = p.len() - at;
     if left < NAME_BYTES {
