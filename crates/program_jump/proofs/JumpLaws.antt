@@ -8,14 +8,14 @@ use native.Mathlib.Nat.{add-zero, add-suc, suc-add}
 use lib.ListN.{length, getD, drop}
 use lib.Seq.{drop-drop, drop-nil}
 use Rattle.rules.specs.declared.answers.Group.{Group}
-use Rattle.rules.specs.Bytes.{Bytes}
+use Rattle.rules.specs.Bytes.{Bytes, twoAt}
 use Rattle.rules.specs.Program.{Rec, does, jump}
 use Rattle.rules.specs.ProgramFormat.{JUMP, codeFrom, targetFrom, argumentFrom, recordSize}
 use Rattle.rules.specs.ProgramRun.{exec}
 use Rattle.rules.specs.ProgramTest.{nonJumps}
 use Rattle.rules.specs.Step.{Env, State}
 use Rattle.program_jump.specs.Jump.{RecordsAt, AdvanceJob, Advanced, Reached}
-use Rattle.program_jump.proofs.FirstRecord.{numberAt, First, first-of}
+use Rattle.program_jump.proofs.FirstRecord.{First, first-of}
 use Rattle.program_records.proofs.ReadRecord.{Jumps}
 
 module _ (env : Env) where
@@ -49,10 +49,10 @@ module _ (p : Bytes) (g : Group) (comps total n at : ℕ) (x : RecordsAt p g com
     abbrev here : First p g comps total k next (a .place)
     here = first-of p g comps total k next (a .place) l
 
-    pub advance-room : next + recordSize + numberAt p (next + argumentFrom) ≤ length p
+    pub advance-room : next + recordSize + twoAt p (next + argumentFrom) ≤ length p
     advance-room = here .room
 
-    pub advance-next : n ≤ k → Advanced p g comps total n at x (k + 1) (next + recordSize + numberAt p (next + argumentFrom))
+    pub advance-next : n ≤ k → Advanced p g comps total n at x (k + 1) (next + recordSize + twoAt p (next + argumentFrom))
     advance-next h =
         let e : k + 1 - n ≡ k - n + 1 = omega arith in
         let q : drop (k - n) (x .records) ≡ here .first ∷ here .others .records = sym (a .records) ∙ here .records in
@@ -70,8 +70,8 @@ module _ (p : Bytes) (g : Group) (comps total n at : ℕ) (x : RecordsAt p g com
     pub reach-room : next + recordSize ≤ length p
     reach-room = omega (arith, jumper .room)
 
-    module _ (code target : ℕ) (ec : code ≡ getD p (next + codeFrom) 0) (c : code ≡ JUMP) (et : target ≡ numberAt p (next + targetFrom)) where
-      pub jumps : Jumps g comps total k (jumper .first) (numberAt p (next + targetFrom)) (numberAt p (next + argumentFrom))
+    module _ (code target : ℕ) (ec : code ≡ getD p (next + codeFrom) 0) (c : code ≡ JUMP) (et : target ≡ twoAt p (next + targetFrom)) where
+      pub jumps : Jumps g comps total k (jumper .first) (twoAt p (next + targetFrom)) (twoAt p (next + argumentFrom))
       jumps = jumper .kind .jumps (sym ec ∙ c)
 
       pub reach-far : (k < target) × (target ≤ total)
@@ -79,7 +79,7 @@ module _ (p : Bytes) (g : Group) (comps total n at : ℕ) (x : RecordsAt p g com
 
       abbrev pub jump-job : AdvanceJob p (next + recordSize) (k + 1) target
       jump-job =
-          let z : next + recordSize + numberAt p (next + argumentFrom) ≡ next + recordSize = omega (arith, jumps .none) in
+          let z : next + recordSize + twoAt p (next + argumentFrom) ≡ next + recordSize = omega (arith, jumps .none) in
           let o = jumper .others in
           record {
             group = g;

@@ -29,10 +29,12 @@ pub record AdvanceJob (p : Bytes) (at n t : ℕ) : Type 0 where
   pub forward : n ≤ t
   pub within : t ≤ total
 
+-- it is at r, where those of x from it on stand
 pub record Advanced (p : Bytes) (group : Group) (components total n at : ℕ) (x : RecordsAt p group components total n at) (t r : ℕ) : Type 0 where
   pub place : RecordsAt p group components total t r
   pub records : place .records ≡ drop (t - n) (x .records)
 
+-- the first command from record n on, or the end
 pub record LandJob (p : Bytes) (at n total : ℕ) : Type 0 where
   pub group : Group
   pub components : ℕ

@@ -6,7 +6,7 @@ use native.Mathlib.Omega.{arith}
 use lib.ListN.{length, getD}
 use borrow.Author.Tests.{ne-eqb}
 use Rattle.rules.specs.Answers.{endOf}
-use Rattle.rules.specs.Bytes.{Bytes, part}
+use Rattle.rules.specs.Bytes.{Bytes, part, twoAt}
 use Rattle.rules.specs.Limits.{limits}
 use Rattle.rules.specs.Program.{Rec, does}
 use Rattle.rules.specs.ProgramFormat.{codeFrom, componentFrom, placeFrom, targetFrom, argumentFrom, recordSize}
@@ -21,7 +21,7 @@ use Rattle.run_commands.specs.Op.{opOf, IsCode, SixteenAt}
 use Rattle.run_commands.proofs.LentLaws.{moves-step, lent-after}
 use Rattle.program_run.specs.declared.step.ProgramState.{ProgramState}
 use Rattle.program_run.specs.Step.{ArgumentAt, valueOf, GivenAs, OnwardJob, Onward, stateOf, ExecJob, Executed}
-use Rattle.program_jump.proofs.FirstRecord.{numberAt, First, first-of}
+use Rattle.program_jump.proofs.FirstRecord.{First, first-of}
 use Rattle.program_arguments.proofs.FormLaws.{op-code}
 use Rattle.program_records.proofs.ReadRecord.{Commands}
 use Rattle.program_run.proofs.GivenLaws.{argument-sixteen}
@@ -37,11 +37,11 @@ module _ (p : Bytes) (components : ℕ) (current : ProgramState) (vendor class a
   here = first-of p (j .group) components (j .total) (current .n) at (j .ready .place) (j .before)
 
   abbrev command : Commands (j .group) components (j .total) (current .n) (here .first) (getD p (at + codeFrom) 0) (getD p (at + componentFrom) 0)
-      (numberAt p (at + placeFrom)) (numberAt p (at + targetFrom))
-      (part p (at + recordSize) (numberAt p (at + argumentFrom)))
+      (twoAt p (at + placeFrom)) (twoAt p (at + targetFrom))
+      (part p (at + recordSize) (twoAt p (at + argumentFrom)))
   command = here .kind .does (j .stands)
 
-  pub execute-room : at + recordSize + numberAt p (at + argumentFrom) ≤ length p
+  pub execute-room : at + recordSize + twoAt p (at + argumentFrom) ≤ length p
   execute-room = here .room
 
   pub execute-number : current .n < limits .records
@@ -50,7 +50,7 @@ module _ (p : Bytes) (components : ℕ) (current : ProgramState) (vendor class a
   pub execute-fit : FitAll p (limits .components) memory
   execute-fit k h = record { source = omega (arith, j .ready .lent .fit k h .source, j .ready .lent .host .few); digest = j .ready .lent .fit k h .digest }
 
-  records-are : j .ready .place .records ≡ does (command .op) (getD p (at + componentFrom) 0) (numberAt p (at + placeFrom)) (numberAt p (at + targetFrom)) ∷ here .others .records
+  records-are : j .ready .place .records ≡ does (command .op) (getD p (at + componentFrom) 0) (twoAt p (at + placeFrom)) (twoAt p (at + targetFrom)) ∷ here .others .records
   records-are = here .records ∙ ap (λ (r : Rec). r ∷ here .others .records) (command .is)
 
   -- an event of this command
@@ -60,10 +60,10 @@ module _ (p : Bytes) (components : ℕ) (current : ProgramState) (vendor class a
   pub execute-space : eventBytes * current .events + eventBytes ≤ length trace
   execute-space = omega (arith, event-more, j .ready .few, j .ready .lent .room)
 
-  module _ (code i size : ℕ) (ec : code ≡ getD p (at + codeFrom) 0) (ei : i ≡ getD p (at + componentFrom) 0) (es : size ≡ numberAt p (at + argumentFrom)) where
+  module _ (code i size : ℕ) (ec : code ≡ getD p (at + codeFrom) 0) (ei : i ≡ getD p (at + componentFrom) 0) (es : size ≡ twoAt p (at + argumentFrom)) where
     abbrev pub argument-here : ArgumentAt p components code (at + recordSize) (at + recordSize + size)
     argument-here =
-        let z : at + recordSize + size - (at + recordSize) ≡ numberAt p (at + argumentFrom) = omega arith in
+        let z : at + recordSize + size - (at + recordSize) ≡ twoAt p (at + argumentFrom) = omega arith in
         record {
           i = i;
           row = command .row;
@@ -78,7 +78,7 @@ module _ (p : Bytes) (components : ℕ) (current : ProgramState) (vendor class a
     pub execute-inside : i < length (j .env .ids)
     execute-inside = omega (arith, command .inside, j .ready .among)
 
-    abbrev pub onward-here : (target : ℕ) → target ≡ numberAt p (at + targetFrom) → OnwardJob p (at + recordSize + size) (current .n + 1) target
+    abbrev pub onward-here : (target : ℕ) → target ≡ twoAt p (at + targetFrom) → OnwardJob p (at + recordSize + size) (current .n + 1) target
     onward-here target et =
         let o = here .others in
         record {
@@ -98,7 +98,7 @@ module _ (p : Bytes) (components : ℕ) (current : ProgramState) (vendor class a
       pub execute-code : IsCode p code v w
       execute-code = rw (ev, g .op) (op-code components i _ (command .op) code (command .row) (argument-here .listed) (argument-here .reads))
 
-      module _ (place : ℕ) (ep : place ≡ numberAt p (at + placeFrom)) (target : ℕ) (et : target ≡ numberAt p (at + targetFrom)) (d : Progress) (slots′ : Bytes) (memory′ : List ℕ) (trace′ : Bytes)
+      module _ (place : ℕ) (ep : place ≡ twoAt p (at + placeFrom)) (target : ℕ) (et : target ≡ twoAt p (at + targetFrom)) (d : Progress) (slots′ : Bytes) (memory′ : List ℕ) (trace′ : Bytes)
           (counted : d .events ≡ current .events + 1)
           (goes : outAt p (length (j .env .ids)) memory′ slots′ trace′ d
           ≡ step (j .env) (opOf p code v w) i place (stateAt p (length (j .env .ids)) memory slots trace (current .events) (current .used)))
@@ -110,14 +110,14 @@ module _ (p : Bytes) (components : ℕ) (current : ProgramState) (vendor class a
         abbrev st′ : State
         st′ = stateOf p components memory′ slots′ trace′ r
 
-        stepped : step (j .env) (command .op) (getD p (at + componentFrom) 0) (numberAt p (at + placeFrom)) st ≡ out (endOf (d .end)) st′
+        stepped : step (j .env) (command .op) (getD p (at + componentFrom) 0) (twoAt p (at + placeFrom)) st ≡ out (endOf (d .end)) st′
         stepped = rw (o .events, o .used) (sym (rw (j .ready .among, ev, g .op, ei, ep) at goes))
 
         base : exec (j .env) (j .ready .place .records) (current .n) 0 st ≡ resume (j .env) (here .others .records) (current .n + 1) target (out (endOf (d .end)) st′)
         base =
             ap (λ (rs : List Rec). exec (j .env) rs (current .n) 0 st) records-are
-            ∙ exec-does (j .env) (command .op) (getD p (at + componentFrom) 0) (numberAt p (at + placeFrom)) (numberAt p (at + targetFrom)) (current .n) (here .others .records) st
-            ∙ ap (λ (x : Out). resume (j .env) (here .others .records) (current .n + 1) (numberAt p (at + targetFrom)) x) stepped
+            ∙ exec-does (j .env) (command .op) (getD p (at + componentFrom) 0) (twoAt p (at + placeFrom)) (twoAt p (at + targetFrom)) (current .n) (here .others .records) st
+            ∙ ap (λ (x : Out). resume (j .env) (here .others .records) (current .n + 1) (twoAt p (at + targetFrom)) x) stepped
             ∙ ap (λ (t : ℕ). resume (j .env) (here .others .records) (current .n + 1) t (out (endOf (d .end)) st′)) (sym et)
 
         pub executed : Executed p components current vendor class answers slots memory trace j r slots′ memory′ trace′

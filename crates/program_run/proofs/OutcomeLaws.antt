@@ -1,5 +1,5 @@
 -- The answer of a run of a program, by the rule.
-use Prim.Native.Nat.{ℕ, _-_, _*_, _≤_, _<_}
+use Prim.Native.Nat.{ℕ, _-_, _≤_}
 use mathlib.Core.Path.{_≡_, refl, sym, ap, _∙_}
 use mathlib.Core.List.{List}
 use mathlib.Core.Bool.{Bool, true, false}
@@ -19,7 +19,7 @@ use Rattle.run_slots.specs.Slot.{namesAt, Found}
 use Rattle.run_commands.specs.Machine.{stateAt}
 use Rattle.run_admission.specs.declared.answer.Answer.the-variants as The
 use Rattle.run_admission.specs.declared.answer.Ending.{Ending}
-use Rattle.run_admission.specs.Answer.{refusalIn, endingOf, Settles}
+use Rattle.run_admission.specs.Answer.{refusalIn, LastEvent, endingOf, Settles}
 use Rattle.run_admission.proofs.FrameLaws.{trace-room, lent-start, state-start, settles-refused}
 use Rattle.run_admission.proofs.FrameLaws as Frame
 use Rattle.program_run.specs.declared.step.ProgramState.{ProgramState}
@@ -27,7 +27,7 @@ use Rattle.program_test.specs.declared.test.Tested.{Tested}
 use Rattle.program_test.specs.Test.{TestedAs}
 use Rattle.program_run.specs.Known.{Known}
 use Rattle.program_run.specs.Step.{StepJob, stateOf, startAt, Ran}
-use Rattle.rules.specs.Step.{out, eventBytes}
+use Rattle.rules.specs.Step.{out}
 use Rattle.rules_theorems.proofs.Effects.{program-effects}
 use Rattle.rules_theorems.proofs.ProgramFaults.{Only97, program97}
 use Rattle.run_slot_search.proofs.SearchLaws.{names-count}
@@ -48,11 +48,11 @@ module _ (p : Bytes) (t : Tested) (a : Known p t) where
   pub number-small : t .number ≤ limits .largest
   number-small = a .stands .small
 
-  counted : length (a .program .ids) ≡ t .components
+  pub counted : length (a .program .ids) ≡ t .components
   counted = ap length (sym (a .stands .names)) ∙ names-count p (t .ids) (t .components)
 
   module _ (x : Input) (refusal : ℕ) (e : refusal ≡ refusalIn (admit (t .group) (t .number) (namesAt p (t .ids) (t .components)) x)) where
-    stops : refusal ≡ refusalIn (admit (a .program .group) (a .program .number) (a .program .ids) x)
+    pub stops : refusal ≡ refusalIn (admit (a .program .group) (a .program .number) (a .program .ids) x)
     stops = rw (← group, ← number, ← a .stands .names) e
 
     is-run : runProgram p x ≡ runOf (a .program .group) (a .program .number) (a .program .ids) (λ env st. exec env (a .program .records) 0 0 st) x
@@ -64,8 +64,8 @@ module _ (p : Bytes) (t : Tested) (a : Known p t) where
     refused-answer = Frame.refused-answer (a .program .group) (a .program .number) (a .program .ids) x _ (runProgram p x) is-run refusal stops
 
     module _ (z : refusal ≡ 0) (memory : List ℕ) (f : Found (namesAt p (t .ids) (t .components)) (x .slots) (replicate memoryNumbers 0) memory) where
-      unfoldable whole : StepJob p (t .components) (t .records) (startAt (t .from)) (x .device .vendor) (x .device .class) (x .answers) (x .slots) memory (x .trace)
-      whole =
+      unfoldable pub job : StepJob p (t .components) (t .records) (startAt (t .from)) (x .device .vendor) (x .device .class) (x .answers) (x .slots) memory (x .trace)
+      job =
           record {
             env = envOf (a .program .ids) x;
             group = a .program .group;
@@ -86,24 +86,21 @@ module _ (p : Bytes) (t : Tested) (a : Known p t) where
             going = refl;
           }
 
-      pub job : StepJob p (t .components) (t .records) (startAt (t .from)) (x .device .vendor) (x .device .class) (x .answers) (x .slots) memory (x .trace)
-      job = whole
-
       module _ (r : ProgramState) (slots′ : Bytes) (memory′ : List ℕ) (trace′ : Bytes)
           (d : (j : StepJob p (t .components) (t .records) (startAt (t .from)) (x .device .vendor) (x .device .class) (x .answers) (x .slots) memory (x .trace)) →
           Ran p (t .components) (t .records) (t .from) (x .device .vendor) (x .device .class) (x .answers) (x .slots) memory (x .trace) j r slots′ memory′ trace′) where
-        ran : Ran p (t .components) (t .records) (t .from) (x .device .vendor) (x .device .class) (x .answers) (x .slots) memory (x .trace) whole r slots′ memory′ trace′
-        ran = d whole
+        ran : Ran p (t .components) (t .records) (t .from) (x .device .vendor) (x .device .class) (x .answers) (x .slots) memory (x .trace) job r slots′ memory′ trace′
+        ran = d job
 
         done : out (endOf (r .end)) (stateOf p (t .components) memory′ slots′ trace′ r) ≡ exec (envOf (a .program .ids) x) (a .program .records) 0 0 (startState (a .program .ids) x)
-        unfolding whole
+        unfolding job
         done =
             ran .goes
             ∙ ap (λ (n : ℕ). exec (envOf (a .program .ids) x) (a .program .records) 0 0 (stateAt p n memory (x .slots) (x .trace) 0 0)) (sym counted)
             ∙ ap (exec (envOf (a .program .ids) x) (a .program .records) 0 0)
             (state-start (a .program .group) (a .program .number) (a .program .ids) x refusal stops z (omega (arith, few, counted)) memory (rw (a .stands .names) at f) p)
 
-        pub last-event : (0 < r .end → 0 < r .events) × (eventBytes * r .events ≤ length trace′)
+        pub last-event : LastEvent (r .end) (r .events) trace′
         unfolding report
         last-event =
             let f = program-effects p (a .program) x _ (a .tests)

@@ -42,6 +42,7 @@ pub record ArgumentAt (p : Bytes) (components code from to : ℕ) : Type 0 where
 abbrev pub valueOf : ℕ → ℕ → ℕ → ℕ
 valueOf c i from = cond (eqb c (code (setIndex i))) i from
 
+-- it was read: the parameters r, which fit
 pub record GivenAs (p : Bytes) (components code from to : ℕ) (x : ArgumentAt p components code from to) (r : Params) : Type 0 where
   pub op : opOf p code (valueOf code (x .i) from) r ≡ x .op
   pub fit : Fit p components r
@@ -103,6 +104,7 @@ pub record Executed (p : Bytes) (components : ℕ) (current : ProgramState) (ven
   pub wrote : r .events ≡ current .events + 1
   pub further : current .n < r .n
 
+-- at a record or at the end of them, with no end yet
 pub record StepJob (p : Bytes) (components total : ℕ) (current : ProgramState) (vendor class answers slots : Bytes) (memory : List ℕ) (trace : Bytes) : Type 0 where
   pub env : Env
   pub group : Group
@@ -122,6 +124,7 @@ pub record Stepped (p : Bytes) (components total : ℕ) (current : ProgramState)
 abbrev pub startAt : ℕ → ProgramState
 startAt from = record { at = from; n = 0; events = 0; used = 0; end = endNumber Finished }
 
+-- the run from the first record ended at r, as the rule says
 pub record Ran (p : Bytes) (components total from : ℕ) (vendor class answers slots : Bytes) (memory : List ℕ) (trace : Bytes)
     (j : StepJob p components total (startAt from) vendor class answers slots memory trace) (r : ProgramState) (slots′ : Bytes) (memory′ : List ℕ) (trace′ : Bytes) : Type 0 where
   pub goes : out (endOf (r .end)) (stateOf p components memory′ slots′ trace′ r) ≡ exec (j .env) (j .ready .place .records) 0 0 (stateAt p components memory slots trace 0 0)
