@@ -20,7 +20,7 @@ use Rattle.check_envelope.specs.Report.{reportOf}
 use Rattle.check_envelope.proofs.EnvelopeLaws.{differ}
 use Rattle.component_ids.specs.Identifiers.{laid}
 use Rattle.component_ids.proofs.IdentifierLaws.{span-laid, ids-inside}
-use Rattle.run_slots.specs.Slot.{namesAt}
+use Rattle.run_slot_search.specs.Search.{namesAt}
 use Rattle.run_slot_search.proofs.SearchLaws.{names-laid}
 use Rattle.manifest_accessors.specs.Accepted.{Accepted}
 

@@ -15,7 +15,7 @@ use Rattle.rules.specs.Program.{Program}
 use Rattle.rules.specs.ProgramTest.{programIn}
 use Rattle.rules.specs.ProgramRun.{exec, runProgram}
 use Rattle.rules.specs.Run.{Input, admit, numberAfter, report, startState, envOf, runOf}
-use Rattle.run_slots.specs.Slot.{namesAt, Found}
+use Rattle.run_slot_search.specs.Search.{namesAt, Found}
 use Rattle.run_commands.specs.Machine.{stateAt}
 use Rattle.run_admission.specs.declared.answer.Answer.the-variants as The
 use Rattle.run_admission.specs.declared.answer.Ending.{Ending}

@@ -19,7 +19,7 @@ use Rattle.rules.specs.Got.{Got, refused, got, _>>=_}
 use Rattle.rules.specs.ProgramFormat.{NAME, codeFrom, lengthFrom, nameSize}
 use Rattle.rules.specs.ProgramTest.{need, bad, marked, idsIn}
 use Rattle.rules.proofs.GotLaws.{and-true, passed, split₂, both, after, after-more, after-none}
-use Rattle.run_slots.specs.Slot.{namesAt}
+use Rattle.run_slot_search.specs.Search.{namesAt}
 use Rattle.run_slot_search.proofs.SearchLaws.{name-at, names-count}
 use Rattle.program_parameters.proofs.PartLaws.{rest-at, same-3}
 use Rattle.program_parameters.specs.Entries.{nextIn}

@@ -20,7 +20,7 @@ use Rattle.rules.specs.ProgramTest.{need, bad, marked, idsIn, recordsIn, nonJum
 use Rattle.rules.proofs.BytesLaws.{num-2, num-4}
 use Rattle.rules.proofs.GotLaws.{and-true}
 use Rattle.rules.proofs.SameLaws.{same-lengths}
-use Rattle.run_slots.specs.Slot.{namesAt}
+use Rattle.run_slot_search.specs.Search.{namesAt}
 use Rattle.component_ids.specs.declared.Repeat.{Repeat}
 use Rattle.component_ids.specs.declared.Repeat.the-variants.{At, Nothing}
 use Rattle.component_ids.specs.Identifiers.{repeated}

@@ -8,7 +8,7 @@ use native.Mathlib.Numerals.{add-one}
 use Rattle.rules.specs.Bytes.{Bytes, spanAt, bytesAt, same, member, repeats}
 use Rattle.rules.specs.Slots.{numbers}
 use Rattle.rules.proofs.SameLaws.{same-sym}
-use Rattle.run_slots.specs.Slot.{namesAt}
+use Rattle.run_slot_search.specs.Search.{namesAt}
 use Rattle.component_ids.specs.declared.Repeat.{Repeat}
 use Rattle.component_ids.specs.declared.Repeat.the-variants.{At, Nothing}
 use Rattle.component_ids.specs.Identifiers.{among, searchFrom, repeated}

@@ -12,7 +12,7 @@ use Rattle.rules.specs.Limits.{limits, places}
 use Rattle.rules.specs.Program.{Program}
 use Rattle.rules.specs.ProgramFormat.{START, groupFrom, componentsFrom, recordsFrom, startSize, nameSize}
 use Rattle.rules.specs.ProgramTest.{marked, idsIn, recordsIn, nonJumps}
-use Rattle.run_slots.specs.Slot.{namesAt}
+use Rattle.run_slot_search.specs.Search.{namesAt}
 use Rattle.program_parameters.specs.Entries.{nextIn}
 use Rattle.program_test.specs.declared.test.Tested.{Tested}
 

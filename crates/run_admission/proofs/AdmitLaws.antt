@@ -14,7 +14,7 @@ use Rattle.rules.specs.Limits.{limits}
 use Rattle.rules.specs.Bytes.{Bytes, allIn}
 use Rattle.rules.specs.Slots.{answerBytes, goodSlots, slotNames}
 use Rattle.rules.specs.Run.{Input, mayStart, numberFits, admit}
-use Rattle.run_slots.specs.Slot.{slotNumbers}
+use Rattle.run_slot_search.specs.Search.{slotNumbers}
 use Rattle.run_admission.specs.Answer.{refusalIn}
 use Rattle.run_admission.specs.Admission.{assignedAfter}
 

@@ -20,7 +20,8 @@ use Rattle.rules.specs.Step.{Env, State, state, Out, out}
 use Rattle.rules.specs.Run.{Input, Ran, mayStart, numberFits, admit, numberAfter, report, startState, envOf, runOf}
 use Rattle.rules.proofs.AnswerLaws.{of-number, not-zero}
 use Rattle.rules.proofs.GotLaws.{passed}
-use Rattle.run_slots.specs.Slot.{Holds, Found}
+use Rattle.run_slots.specs.Slot.{Holds}
+use Rattle.run_slot_search.specs.Search.{Found}
 use Rattle.run_slots.specs.Params.{Unset}
 use Rattle.run_slots.proofs.ParamsLaws.{zeros, params-start, fit-start}
 use Rattle.run_slot_search.proofs.SearchLaws.{good-some}

@@ -12,7 +12,7 @@ use Rattle.rules.specs.Lent.{Lent, was, left}
 use Rattle.rules.specs.Limits.{limits}
 use Rattle.rules.specs.Slots.{goodSlots}
 use Rattle.rules.specs.Run.{Input, mayStart, numberFits, admit}
-use Rattle.run_slots.specs.Slot.{namesAt, slotNumbers, Found}
+use Rattle.run_slot_search.specs.Search.{namesAt, slotNumbers, Found}
 use Rattle.run_admission.specs.declared.admit.Request.{Request}
 use Rattle.run_admission.specs.Answer.{refusalIn, given}
 

@@ -22,7 +22,7 @@ use Rattle.check_envelope.specs.Report.{reportOf}
 use Rattle.run_admission.specs.declared.answer.Answer.the-variants.{Refused, Ran}
 use Rattle.run_admission.specs.declared.answer.Ending.{Ending}
 use Rattle.run_sequence.specs.declared.Run.{Run}
-use Rattle.run_slots.specs.Slot.{namesAt, Found}
+use Rattle.run_slot_search.specs.Search.{namesAt, Found}
 use Rattle.run_admission.specs.Answer.{refusalIn, endingOf, Settles}
 use Rattle.run_sequence.specs.Cycle.{outOf}
 use Rattle.run_sections.specs.Sections.{SectionsJob, SectionsRan}

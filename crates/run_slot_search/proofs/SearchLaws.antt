@@ -18,7 +18,8 @@ use Rattle.rules.proofs.BytesLaws.{length-part}
 use Rattle.rules.proofs.GotLaws.{and-true}
 use Rattle.rules.proofs.SameLaws.{same-lengths}
 use Rattle.run_slots.proofs.NumbersLaws.{numbers-turn, numbers-end, numbers-length, numbers-at, getD-numbers}
-use Rattle.run_slots.specs.Slot.{Holds, Short, slotsFrom, namesFrom, namesAt, slotNumbers, Found}
+use Rattle.run_slots.specs.Slot.{Holds, Short}
+use Rattle.run_slot_search.specs.Search.{slotsFrom, namesFrom, namesAt, slotNumbers, Found}
 
 -- identifiers of different lengths are not the same
 module _ (b : Bytes) (k : ℕ) (short : getD b (slotBytes * k) 0 ≤ limits .identifier) where

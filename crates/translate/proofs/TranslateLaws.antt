@@ -20,7 +20,7 @@ use Rattle.rules.specs.Run.{planOf}
 use Rattle.rules.specs.Program.{idBytes, flatAll, programOf, programBytes, translate}
 use Rattle.rules_theorems.proofs.RoundTrip.{GoodIds}
 use Rattle.rules_theorems.proofs.FlatLaws.{well-formed, program-size, length-all}
-use Rattle.run_slots.specs.Slot.{namesAt}
+use Rattle.run_slot_search.specs.Search.{namesAt}
 use Rattle.run_slot_search.proofs.SearchLaws.{name-at, names-count}
 use Rattle.manifest_accessors.specs.Accepted.{Accepted}
 use Rattle.manifest_accessors.proofs.AcceptedLaws.{known, envelope-short, inside, named}

@@ -7,7 +7,7 @@ use lib.ListN.{length, length-append}
 use Rattle.rules.specs.Bytes.{Bytes, put, bytesAt, spanAt, InBytes, flat}
 use Rattle.rules.specs.ProgramFormat.{nameSize}
 use Rattle.rules.specs.Program.{idBytes}
-use Rattle.run_slots.specs.Slot.{namesAt}
+use Rattle.run_slot_search.specs.Search.{namesAt}
 use Rattle.run_slot_search.proofs.SearchLaws.{leftAt, left-turn, left-end, left-all}
 use Rattle.translate_record.specs.Record.{Filled}
 use Rattle.rules.proofs.BytesLaws.{length-part}

@@ -5,7 +5,7 @@ use lib.ListN.{length}
 use Rattle.rules.specs.Bytes.{Bytes, flat, spanAt, InBytes}
 use Rattle.rules.specs.Limits.{limits}
 use Rattle.rules.specs.Program.{idBytes}
-use Rattle.run_slots.specs.Slot.{namesAt}
+use Rattle.run_slot_search.specs.Search.{namesAt}
 
 -- those of the n identifiers at the places `ids` of s
 abbrev pub nameRecords : Bytes → List ℕ → ℕ → Bytes

@@ -5,7 +5,7 @@ use native.Mathlib.Omega.{arith}
 use borrow.Author.Needs.{needs}
 use Rattle.rules.specs.Bytes.{part, indexOf}
 use Rattle.rules.specs.Slots.{slotOf}
-use Rattle.run_slots.specs.Slot.{namesFrom}
+use Rattle.run_slot_search.specs.Search.{namesFrom}
 use Rattle.run_slot_search.proofs.SearchLaws.{find-start, find-hit, find-next, find-end}
 use Rattle.run_slot_search.proofs.search.slot_of.Statement.{statement}
 use Rattle.run_slot_search.proofs.search.slot_of.Tie as tie

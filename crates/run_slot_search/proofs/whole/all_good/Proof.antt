@@ -5,7 +5,7 @@ use native.Mathlib.Omega.{arith}
 use borrow.Author.Needs.{needs}
 use borrow.Author.Tests.{not-true, not-false}
 use Rattle.rules.specs.Slots.{allGood}
-use Rattle.run_slots.specs.Slot.{slotsFrom}
+use Rattle.run_slot_search.specs.Search.{slotsFrom}
 use Rattle.run_slot_search.proofs.SearchLaws.{good-miss, good-next, good-end}
 use Rattle.run_slot_search.proofs.whole.all_good.Statement.{statement}
 use Rattle.run_slot_search.proofs.whole.all_good.Tie as tie

@@ -5,7 +5,7 @@ use native.Mathlib.Omega.{arith}
 use borrow.Author.Needs.{needs}
 use Rattle.rules.specs.Bytes.{Bytes, same, member}
 use Rattle.rules.specs.Slots.{slotAt}
-use Rattle.run_slots.specs.Slot.{namesFrom}
+use Rattle.run_slot_search.specs.Search.{namesFrom}
 use Rattle.run_slot_search.proofs.SearchLaws.{short-at, id-part, member-hit, member-next, member-end}
 use Rattle.run_slot_search.proofs.whole.named_again.Statement.{statement}
 use Rattle.run_slot_search.proofs.whole.named_again.Tie as tie

@@ -4,7 +4,7 @@ use mathlib.Core.Path.{_≡_, refl, sym, _∙_}
 use native.Mathlib.Omega.{arith}
 use borrow.Author.Needs.{needs}
 use Rattle.rules.specs.Bytes.{repeats}
-use Rattle.run_slots.specs.Slot.{namesFrom}
+use Rattle.run_slot_search.specs.Search.{namesFrom}
 use Rattle.run_slot_search.proofs.SearchLaws.{twice-hit, twice-next, twice-end}
 use Rattle.run_slot_search.proofs.whole.one_twice.Statement.{statement}
 use Rattle.run_slot_search.proofs.whole.one_twice.Tie as tie
