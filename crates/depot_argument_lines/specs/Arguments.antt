@@ -15,7 +15,7 @@ use Rattle.rules.specs.Commands.{params, paramOf}
 use Rattle.rules.specs.Limits.{limits}
 use Rattle.rules.specs.ProgramFormat.{entryLengthFrom, entrySize, sizeBytes, sourceBytes}
 use Rattle.rules.specs.Tables.{known}
-use Rattle.rules_tables.specs.Kinds.{kindOf}
+use Rattle.rules_kinds.specs.Kinds.{kindOf}
 use Rattle.text.specs.Text.{Bytes, ascii, decimal, hex, quoted}
 use Rattle.text_names.specs.Words.{parameterWords}
 use Rattle.depot_argument_lines.specs.Items.{sizeIn, itemsText}

@@ -21,7 +21,7 @@ use rules::program_format::NO_TARGET;
 use rules::program_format::PLACE;
 use rules::program_format::RECORD_BYTES;
 use rules::program_format::TARGET;
-use rules_tables::condition_of;
+use rules_kinds::condition_of;
 use text::put;
 use text::put_padded;
 use text::put_spaces;

@@ -6,7 +6,7 @@ use mathlib.Core.Logic.{_⊎_, inl, inr}
 use mathlib.Core.Bool.{true, false}
 use borrow.Author.Tests.{le-leb, lt-leb, eq-eqb, ne-eqb}
 use native.Mathlib.Omega.{arith}
-use Rattle.rules_tables.specs.Kinds.{kindOf}
+use Rattle.rules_kinds.specs.Kinds.{kindOf, isSequence}
 use Rattle.rules.specs.Bytes.{Bytes}
 use Rattle.rules.specs.Cbor.{NUMBER, BYTES, ARRAY, MAP}
 use Rattle.cbor.proofs.ReadingLaws.{above}
@@ -14,7 +14,7 @@ use Rattle.depot_items.specs.declared.Item.{Item}
 use Rattle.depot_show.specs.declared.walk.Put.{Put}
 use Rattle.depot_items.specs.Items.{itemAt, itemOf}
 use Rattle.depot_items.specs.Line.{newline, titleText, argumentText, parameterText, alternativeText}
-use Rattle.depot_show.specs.Shown.{holdsSequence, Shown, Shows, none, behind, andThen, stopped, parametersShown, nestedShown, alternativesShown, commandShown, commandsShown, sequenceShown}
+use Rattle.depot_show.specs.Shown.{Shown, Shows, none, behind, andThen, stopped, parametersShown, nestedShown, alternativesShown, commandShown, commandsShown, sequenceShown}
 use Rattle.depot_show.proofs.ShownLaws.{Rest, rest-shown}
 
 not-none : (k : ℕ) → suc k ≤ 0 → ⊥
@@ -92,11 +92,11 @@ module _ (s : Bytes) (deeper : ℕ → ℕ → Shown) (depth : ℕ) where
 
   -- a command, by its code and its argument
   module _ (e at : ℕ) (c : Item) (q : c ≡ itemOf s e at NUMBER) where
-    pub command-nested : holdsSequence (kindOf (c .num)) ≡ true → commandShown s deeper depth e at ≡ behind (titleText depth at (c .num) ++ newline) (nestedShown s deeper e (c .next))
+    pub command-nested : isSequence (kindOf (c .num)) ≡ true → commandShown s deeper depth e at ≡ behind (titleText depth at (c .num) ++ newline) (nestedShown s deeper e (c .next))
     unfolding commandShown
     command-nested h = rw (← q, h)
 
-    module _ (i : Item) (p : i ≡ itemAt s e (c .next)) (n : holdsSequence (kindOf (c .num)) ≡ false) where
+    module _ (i : Item) (p : i ≡ itemAt s e (c .next)) (n : isSequence (kindOf (c .num)) ≡ false) where
       abbrev line : Bytes
       line = titleText depth at (c .num) ++ argumentText s i ++ newline
 

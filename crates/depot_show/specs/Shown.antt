@@ -5,11 +5,9 @@ use mathlib.Core.Path.{_≡_}
 use mathlib.Core.Bool.{Bool, true, false, cond}
 use mathlib.Core.List.{[], _++_}
 use lib.Dec.{eqb, leb}
-use Rattle.rules.specs.declared.tables.Argument.{Argument}
-use Rattle.rules.specs.declared.tables.Argument.the-variants as A
 use Rattle.rules.specs.Bytes.{Bytes}
 use Rattle.rules.specs.Cbor.{NUMBER, BYTES, ARRAY, MAP}
-use Rattle.rules_tables.specs.Kinds.{kindOf}
+use Rattle.rules_kinds.specs.Kinds.{kindOf, isSequence}
 use Rattle.text.specs.Text.{Wrote}
 use Rattle.depot_show.specs.declared.walk.Put.{Put}
 use Rattle.depot_items.specs.Items.{itemAt, itemOf}
@@ -37,15 +35,6 @@ pub record Shows (x : Shown) (to : ℕ) (room : Bytes) (r : Put) (room′ : Byte
 -- for a sequence that is not there
 unfoldable pub stopped : ℕ → ℕ → Shown
 stopped depth e = (marginText 8 depth ++ mark ++ newline, e)
-
--- the argument is one sequence
-abbrev pub holdsSequence : Argument → Bool
-holdsSequence A.Sixteen = false
-holdsSequence A.Nil = false
-holdsSequence A.Index = false
-holdsSequence A.Alternatives = false
-holdsSequence A.Parameters = false
-holdsSequence A.Sequence = true
 
 module _ (s : Bytes) where
   -- k parameters more
@@ -77,7 +66,7 @@ module _ (s : Bytes) where
       let i = itemAt s e (c .next) in
       let title = titleText depth at (c .num) in
       let line = title ++ argumentText s i ++ newline in
-      cond (holdsSequence (kindOf (c .num))) (behind (title ++ newline) (nestedShown deeper e (c .next)))
+      cond (isSequence (kindOf (c .num))) (behind (title ++ newline) (nestedShown deeper e (c .next)))
       (cond (eqb (i .kind) ARRAY) (behind line (alternativesShown deeper depth (i .num) (i .num) e (i .next)))
       (cond (eqb (i .kind) MAP) (behind line (parametersShown depth (i .num) e (i .next)))
       (line, i .after)))

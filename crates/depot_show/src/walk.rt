@@ -2,8 +2,8 @@
 // after its container.
 ghost use mathlib.Core.Path.{_≡_};
 ghost use Rattle.rules.specs.Lent.{was, left};
-ghost use Rattle.rules_tables.specs.Kinds.{kindOf};
-ghost use Rattle.depot_show.specs.Shown.{holdsSequence, Shows, stopped};
+ghost use Rattle.rules_kinds.specs.Kinds.{kindOf, isSequence};
+ghost use Rattle.depot_show.specs.Shown.{Shows, stopped};
 ghost use Rattle.depot_show.specs.Shown.{parametersShown, nestedShown, alternativesShown, commandShown, commandsShown, sequenceShown};
 use depot_items::line::NEWLINE;
 use depot_items::line::put_alternative;
@@ -13,8 +13,7 @@ use depot_items::line::put_parameter;
 use depot_items::line::put_title;
 use depot_items::look;
 use depot_items::want;
-use rules::tables::Argument;
-use rules_tables::argument_of;
+use rules_kinds::argument_of;
 use text::put;
 use text::put_byte;
 
@@ -103,17 +102,9 @@ fn put_alternatives(
 
 // Whether a command's argument is one sequence.
 fn holds_sequence(code: usize) -> bool
-    ensures { λ r. ⌜ r ≡ holdsSequence (kindOf code) ⌝ }
+    ensures { λ r. ⌜ r ≡ isSequence (kindOf code) ⌝ }
 {
-    let argument = argument_of(code);
-    match argument {
-        Argument::Sixteen => false,
-        Argument::Nil => false,
-        Argument::Index => false,
-        Argument::Alternatives => false,
-        Argument::Parameters => false,
-        Argument::Sequence => true,
-    }
+    rules_kinds::holds_sequence(argument_of(code))
 }
 
 // The command at `at`; the sequences that it holds may be `depth` deep.

@@ -1,2 +1,1 @@
 pub mod LookUpLaws
-pub mod KindLaws

@@ -3,8 +3,7 @@ ghost use mathlib.Core.Path.{_≡_};
 ghost use mathlib.Core.List.{[], map};
 ghost use Prim.Native.Nat.{_≤_};
 ghost use Rattle.rules.specs.declared.tables.Listed.the-variants as L;
-ghost use Rattle.rules.specs.Commands.{commands, rowOf, conditionIn, params, paramOf};
-ghost use Rattle.rules_tables.specs.Kinds.{kindOf};
+ghost use Rattle.rules.specs.Commands.{commands, rowOf, params, paramOf};
 ghost use Rattle.rules.specs.Tables.{asCommand, asParameterRow, listed, known, argumentNumber, argumentAt, parameterNumber, knownAt};
 ghost use Rattle.rules.specs.Tables.{bitOf, packed, tableOf, byNumber};
 use rules::codes;
@@ -287,33 +286,4 @@ pub fn look_up_parameter(table: &Table, key: usize) -> Known
         return Known::Unknown;
     }
     known_at(table[CODES + key])
-}
-
-// For a tool that looks up once.
-pub(crate) fn command_of(code: usize) -> Listed
-    ensures { λ r. ⌜ r ≡ listed (rowOf code commands) ⌝ }
-{
-    look_up(&tables(), code)
-}
-
-// What stands after the code of a command; nil where the code is not listed.
-pub fn argument_of(code: usize) -> Argument
-    ensures { λ r. ⌜ r ≡ kindOf code ⌝ }
-{
-    let row = command_of(code);
-    match row {
-        Listed::Command(command) => command.argument,
-        Listed::Unlisted => Argument::Nil,
-    }
-}
-
-// Whether a command is a condition; false where the code is not listed.
-pub fn condition_of(code: usize) -> bool
-    ensures { λ r. ⌜ r ≡ conditionIn (rowOf code commands) ⌝ }
-{
-    let row = command_of(code);
-    match row {
-        Listed::Command(command) => command.condition,
-        Listed::Unlisted => false,
-    }
 }

@@ -18,8 +18,8 @@ use rules::program_format::ENTRY_BYTES;
 use rules::program_format::SIZE_BYTES;
 use rules::program_format::SOURCE_BYTES;
 use rules::tables::Argument;
+use rules_kinds::kind_of;
 use rules_tables::Table;
-use translate_size::kinds::kind_of;
 
 // The URI or the digest under that key: the n bytes of s from `from` on; 0 is unset.
 fn put_string(s: &[u8], key: u8, from: usize, n: usize, room: &mut [u8], to: usize) -> usize

@@ -18,9 +18,9 @@ use rules::program_format;
 use rules::program_format::JUMP;
 use rules::program_format::NO_TARGET;
 use rules::program_format::RECORD_BYTES;
+use rules_kinds::is_condition;
 use rules_tables::Table;
 use run_slots::params::either;
-use translate_size::kinds::is_condition;
 
 // Where the next command is, the index and coerce of the sequence, the number of the next record, and its place in the room.
 pub struct WriteState {

@@ -8,13 +8,13 @@ ghost use Rattle.translate_sequence.specs.Write.{SequenceJob, CommandJob
 use manifest_accessors::arguments::COERCE_FALSE;
 use manifest_accessors::arguments::COERCE_TRUE;
 use manifest_accessors::heads::open;
+use rules_kinds::holds_alternatives;
+use rules_kinds::holds_sequence;
+use rules_kinds::kind_of;
 use rules_tables::Table;
 use translate_record::record::WriteState;
 use translate_record::record::put_command;
 use translate_record::record::put_jump;
-use translate_size::kinds::holds_alternatives;
-use translate_size::kinds::holds_sequence;
-use translate_size::kinds::kind_of;
 use translate_size::sizes::size_command;
 use translate_size::sizes::size_sequence;
 

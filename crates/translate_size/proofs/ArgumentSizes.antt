@@ -17,13 +17,13 @@ use Rattle.rules.proofs.BytesLaws.{length-part}
 use Rattle.rules.specs.declared.tables.Argument.{Argument}
 use Rattle.rules.specs.Commands.{rowOf, vendorCode, classCode, imageMatchCode, setIndexCode, abortCode, tryEachCode, setParametersCode, overrideCode}
 use Rattle.rules.specs.Commands.{fetchCode, copyCode, runCode, runSequenceCode, swapCode, uriKey, sourceKey, digestKey, sizeKey}
-use Rattle.rules_tables.specs.Kinds.{kindOf}
+use Rattle.rules_kinds.specs.Kinds.{kindOf}
 use Rattle.run_slots.specs.Params.{optional, meaning, Fit}
 use Rattle.run_commands.specs.Op.{opOf}
 use Rattle.manifest_accessors.specs.declared.arguments.Args.{Args}
 use Rattle.manifest_accessors.specs.Arguments.{paramsOf, ArgumentAt, ArgumentRead, Within}
 use Rattle.translate_size.specs.Size.{parametersSize, argumentSize}
-use Rattle.translate_size.proofs.KindTests.{on}
+use Rattle.rules_kinds.proofs.KindTests.{on}
 
 -- a parameter of n bytes that is set
 string-size : (s : Bytes) (k x n : ℕ) → (0 < x → x + n ≤ length s) → length (entry k (λ b. b) (optional x (part s x n))) ≡ cond (eqb x 0) 0 n + cond (eqb x 0) 0 entrySize

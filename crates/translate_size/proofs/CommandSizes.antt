@@ -9,7 +9,7 @@ use Rattle.rules.specs.Limits.{limits}
 use Rattle.rules.specs.Commands.{runSequenceCode, tryEachCode}
 use Rattle.rules.specs.Tables.{byNumber}
 use Rattle.rules.specs.declared.tables.Argument.{Argument}
-use Rattle.rules_tables.specs.Kinds.{kindOf}
+use Rattle.rules_kinds.specs.Kinds.{kindOf}
 use Rattle.rules.specs.Manifest.{Cmd, one, Alts, last, or}
 use Rattle.rules.specs.Check.{sequenceAt}
 use Rattle.rules.specs.Program.{size, sizeCmd, sizeAlts}

@@ -1,4 +1,3 @@
-pub mod KindTests
 pub mod ArgumentSizes
 pub mod SequenceSizes
 pub mod CommandSizes

@@ -1,3 +1,2 @@
 // The sizes of the records of an accepted envelope's sequences.
-pub mod kinds;
 pub mod sizes;

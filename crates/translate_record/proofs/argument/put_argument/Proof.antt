@@ -4,7 +4,7 @@ use native.Mathlib.Omega.{arith}
 use borrow.Author.Needs.{needs}
 use Rattle.manifest_accessors.specs.Arguments.{paramsOf}
 use Rattle.rules.proofs.BytesLaws.{length-part}
-use Rattle.rules_tables.proofs.KindLaws.{sixteen-codes, parameter-codes, nil-codes, index-codes, alternative-codes, sequence-codes}
+use Rattle.rules_kinds.proofs.KindLaws.{sixteen-codes, parameter-codes, nil-codes, index-codes, alternative-codes, sequence-codes}
 use Rattle.translate_record.proofs.FillLaws.{filled-none}
 use Rattle.translate_record.proofs.RecordLaws.{sixteen-bytes, sixteen-filled, params-bytes, no-bytes}
 use Rattle.translate_record.proofs.argument.put_argument.Statement.{statement}

@@ -7,7 +7,7 @@ use borrow.Author.Needs.{needs}
 use Rattle.rules.specs.Program.{flatSeq}
 use Rattle.manifest_accessors.specs.Arguments.{isTrue}
 use Rattle.manifest_accessors.proofs.PlaceLaws.{remaining}
-use Rattle.translate_size.proofs.KindTests.{runs, runs-not, tries, tries-not}
+use Rattle.rules_kinds.proofs.KindTests.{runs, runs-not, tries, tries-not}
 use Rattle.translate_sequence.specs.Write.{CommandJob}
 use Rattle.translate_sequence.proofs.WriteLaws.{CommandsJob, Loop, loop-starts, loop-done, command-job, loop-goes-on, sequence-deep}
 use Rattle.translate_sequence.proofs.WriteLaws.{sequence-head, commands-later, commands-job, AltsLoop, starts, command-head}
@@ -28,9 +28,9 @@ use Rattle.translate_record.proofs.record.put_jump.Reads as put-jump-reads
 use Rattle.translate_sequence.proofs.write.caught.Reads as caught-reads
 use Rattle.translate_sequence.proofs.write.enter.Reads as enter-reads
 use Rattle.translate_sequence.proofs.write.record_after.Reads as record-after-reads
-use Rattle.translate_size.proofs.kinds.holds_alternatives.Reads as holds-alternatives-reads
-use Rattle.translate_size.proofs.kinds.holds_sequence.Reads as holds-sequence-reads
-use Rattle.translate_size.proofs.kinds.kind_of.Reads as kind-of-reads
+use Rattle.rules_kinds.proofs.holds_alternatives.Reads as holds-alternatives-reads
+use Rattle.rules_kinds.proofs.holds_sequence.Reads as holds-sequence-reads
+use Rattle.rules_kinds.proofs.kind_of.Reads as kind-of-reads
 use Rattle.translate_size.proofs.sizes.size_command.Reads as size-command-reads
 use Rattle.translate_size.proofs.sizes.size_sequence.Reads as size-sequence-reads
 use Rattle.translate_sequence.proofs.write.+write_command+write_sequence.{statement}

@@ -6,7 +6,7 @@ use borrow.Fn.Kinds.{In}
 use borrow.Fn.PlainCycle.{Measures, is, falls, and}
 use Rattle.manifest_accessors.proofs.PlaceLaws.{remaining}
 use Rattle.translate_size.specs.Size.{SequenceHere, CommandHere}
-use Rattle.translate_size.proofs.KindTests.{runs, runs-not, tries, tries-not}
+use Rattle.rules_kinds.proofs.KindTests.{runs, runs-not, tries, tries-not}
 use Rattle.translate_size.proofs.SequenceSizes.{Commands, sequence-head, sequence-deep, commands-start, command-here, commands-small, commands-on, commands-done}
 use Rattle.translate_size.proofs.CommandSizes.{Choices, starts, command-head, sub-head, sub-later, sub-here, sub-sized, one-here}
 use Rattle.translate_size.proofs.CommandSizes.{one-small, one-sized, tries-head, tries-some, choices-start, choice-head, choice-later}
@@ -19,9 +19,9 @@ use Rattle.translate_size.proofs.sizes.size_sequence.Kinds as size-sequ
 use Rattle.translate_size.proofs.sizes.+size_command+size_sequence.Lts-size_sequence as size-sequence-lts
 use Rattle.manifest_accessors.proofs.arguments.read_one.Reads as read-one-reads
 use Rattle.manifest_accessors.proofs.heads.open.Reads as open-reads
-use Rattle.translate_size.proofs.kinds.holds_alternatives.Reads as holds-alternatives-reads
-use Rattle.translate_size.proofs.kinds.holds_sequence.Reads as holds-sequence-reads
-use Rattle.translate_size.proofs.kinds.kind_of.Reads as kind-of-reads
+use Rattle.rules_kinds.proofs.holds_alternatives.Reads as holds-alternatives-reads
+use Rattle.rules_kinds.proofs.holds_sequence.Reads as holds-sequence-reads
+use Rattle.rules_kinds.proofs.kind_of.Reads as kind-of-reads
 use Rattle.translate_size.proofs.sizes.argument_size.Reads as argument-size-reads
 use Rattle.translate_size.proofs.sizes.+size_command+size_sequence.{statement}
 use Rattle.translate_size.proofs.sizes.+size_command+size_sequence.Tie.{close}

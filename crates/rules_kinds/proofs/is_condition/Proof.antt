@@ -2,8 +2,8 @@ use mathlib.Core.Path.{sym, ap, _∙_}
 use borrow.Author.Needs.{needs}
 use Rattle.rules.specs.Commands.{commands, rowOf}
 use Rattle.rules_tables.proofs.LookUpLaws.{conditionTold, condition-told}
-use Rattle.translate_size.proofs.kinds.is_condition.Statement.{statement}
-use Rattle.translate_size.proofs.kinds.is_condition.Tie as tie
+use Rattle.rules_kinds.proofs.is_condition.Statement.{statement}
+use Rattle.rules_kinds.proofs.is_condition.Tie as tie
 
 is : tie.Need-returns
 is c = ap conditionTold (sym (c .before .row .given .1) ∙ c .before .before .before .look-up .ensures) ∙ condition-told (rowOf (c .before .before .before .before .args .code) commands)

@@ -1,8 +1,8 @@
 use mathlib.Core.Path.{sym, ap, _∙_}
 use borrow.Author.Needs.{needs}
-use Rattle.rules_tables.specs.Kinds.{kindIn, kindOf}
-use Rattle.translate_size.proofs.kinds.kind_of.Statement.{statement}
-use Rattle.translate_size.proofs.kinds.kind_of.Tie as tie
+use Rattle.rules_kinds.specs.Kinds.{kindIn, kindOf}
+use Rattle.rules_kinds.proofs.kind_of.Statement.{statement}
+use Rattle.rules_kinds.proofs.kind_of.Tie as tie
 
 is : tie.Need-returns
 unfolding kindOf

@@ -1,13 +1,13 @@
-// What stands after a command's code, by the lent table.
+// What stands after the code of a command, by the table.
 ghost use mathlib.Core.Path.{_≡_};
 ghost use Rattle.rules.specs.Commands.{commands, rowOf, conditionIn};
 ghost use Rattle.rules.specs.Tables.{byNumber};
-ghost use Rattle.rules_tables.specs.Kinds.{kindOf};
-ghost use Rattle.translate_size.specs.Kinds.{isSequence, isAlternatives};
+ghost use Rattle.rules_kinds.specs.Kinds.{kindOf, isSequence, isAlternatives};
 use rules::tables::Argument;
 use rules::tables::Listed;
 use rules_tables::Table;
 use rules_tables::look_up;
+use rules_tables::tables;
 
 // The kind of the argument; nil where the code is not listed.
 pub fn kind_of(table: &Table, code: usize) -> Argument
@@ -57,4 +57,17 @@ pub fn holds_alternatives(kind: Argument) -> bool
         Argument::Index => false,
         Argument::Sequence => false,
     }
+}
+
+// For a tool that looks up once.
+pub fn argument_of(code: usize) -> Argument
+    ensures { λ r. ⌜ r ≡ kindOf code ⌝ }
+{
+    kind_of(&tables(), code)
+}
+
+pub fn condition_of(code: usize) -> bool
+    ensures { λ r. ⌜ r ≡ conditionIn (rowOf code commands) ⌝ }
+{
+    is_condition(&tables(), code)
 }

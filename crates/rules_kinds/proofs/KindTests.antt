@@ -9,8 +9,8 @@ use Rattle.rules.specs.declared.tables.Argument.{Argument}
 use Rattle.rules.specs.Commands.{commands, runSequenceCode, tryEachCode}
 use Rattle.rules.specs.Tables.{codes}
 use Rattle.rules_tables.proofs.LookUpLaws.{agree, no-row}
-use Rattle.rules_tables.specs.Kinds.{kindOf}
-use Rattle.translate_size.specs.Kinds.{isSequence, isAlternatives}
+use Rattle.rules_kinds.specs.Kinds.{kindOf}
+use Rattle.rules_kinds.specs.Kinds.{isSequence, isAlternatives}
 
 pub on : {A : Type 0} (c k : ℕ) → (c ≡ k → A) → ((c ≡ k → ⊥) → A) → A
 on {A} c k p q = go (eqb c k) refl

@@ -13,7 +13,7 @@ use Rattle.rules.specs.declared.tables.Argument.the-variants.{Sixteen, Nil, Ind
 use Rattle.rules.specs.Commands.{Row, commands, rowOf, among, vendorCode, classCode, setParametersCode, overrideCode}
 use Rattle.rules.specs.Tables as Tables
 use Rattle.rules.proofs.TableLaws.{rows-agree, Each, each-row}
-use Rattle.rules_tables.specs.Kinds.{kindOf}
+use Rattle.rules_kinds.specs.Kinds.{kindOf}
 
 -- the codes with sixteen bytes, those with parameters, and neither
 abbrev sixteens : List ℕ
