@@ -2,7 +2,7 @@
 -- and the walk goes on after its container.
 use Prim.Native.Nat.{ℕ, zero, suc, _-_, _/_}
 use mathlib.Core.Path.{_≡_}
-use mathlib.Core.Bool.{Bool, true, false, cond}
+use mathlib.Core.Bool.{cond}
 use mathlib.Core.List.{[], _++_}
 use lib.Dec.{eqb, leb}
 use Rattle.rules.specs.Bytes.{Bytes}

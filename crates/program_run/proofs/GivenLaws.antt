@@ -5,7 +5,7 @@ use native.Mathlib.Omega.{arith}
 use lib.ListN.{length}
 use Rattle.rules.specs.Bytes.{Bytes, part}
 use Rattle.rules.specs.Commands.{Op, vendor, class, imageMatch, setIndex, abort, setParams, overrideParams, fetch, copy, run, swap, Params}
-use Rattle.rules.specs.Commands.{Form, sixteen, nil, alternatives, parameters, sequence, commands}
+use Rattle.rules.specs.Commands.{Form, sixteen, nil, alternatives, sequence, commands}
 use Rattle.rules.specs.Got.{got}
 use Rattle.rules.specs.Limits.{limits}
 use Rattle.rules.specs.ProgramTest.{paramsIn}

@@ -1,6 +1,6 @@
 // The identifiers of a program's components.
 ghost use mathlib.Core.Path.{_≡_};
-ghost use Prim.Native.Nat.{_+_, _≤_, _<_};
+ghost use Prim.Native.Nat.{_≤_, _<_};
 ghost use lib.ListN.{length, drop, replicate};
 ghost use Rattle.rules.specs.Lent.{was, left};
 ghost use Rattle.rules.specs.Limits.{limits, places};

@@ -2,7 +2,7 @@
 ghost use mathlib.Core.Path.{_≡_};
 ghost use Prim.Native.Nat.{_≤_, _<_};
 ghost use lib.ListN.{length, take, drop};
-ghost use Rattle.rules.specs.Lent.{was, left};
+ghost use Rattle.rules.specs.Lent.{was};
 ghost use Rattle.rules.specs.Limits.{sectionCount};
 ghost use Rattle.text.specs.Text.{Writes};
 ghost use Rattle.text_names.specs.Rows.{before, after};
