@@ -21,10 +21,10 @@ use Rattle.check_envelope.specs.declared.report.Report.{Report}
 use Rattle.check_envelope.specs.Report.{reportOf}
 use Rattle.run_admission.specs.declared.answer.Answer.the-variants.{Refused, Ran}
 use Rattle.run_admission.specs.declared.answer.Ending.{Ending}
-use Rattle.run_sequence.specs.declared.Run.{Run}
+use Rattle.run_actions.specs.declared.Progress.{Progress}
 use Rattle.run_slot_search.specs.Search.{namesAt, Found}
 use Rattle.run_admission.specs.Answer.{refusalIn, endingOf, Settles}
-use Rattle.run_sequence.specs.Cycle.{outOf}
+use Rattle.run_commands.specs.Machine.{outAt}
 use Rattle.run_sections.specs.Sections.{SectionsJob, SectionsRan}
 use Rattle.manifest_accessors.specs.Accepted.{Accepted}
 use Rattle.manifest_accessors.proofs.AcceptedLaws.{known, named, refused-by}
@@ -58,20 +58,20 @@ module _ (s : Bytes) (number n : ℕ) (ids sections : List ℕ) (a : Accepted s 
                       (known s number n ids sections a .some-ids .1) memory (rw (named s number n ids sections a) at f) s;
                   inside = known s number n ids sections a .some-ids .0;
                 };
-            among = length-map (a .manifest .ids) (bytesAt s);
+            count = length-map (a .manifest .ids) (bytesAt s);
           }
 
       pub job : SectionsJob s sections (x .device .vendor) (x .device .class) (x .answers) (x .slots) memory (x .trace)
       job = whole
 
-      module _ (r : Run) (slots′ : Bytes) (memory′ : List ℕ) (trace′ : Bytes)
+      module _ (r : Progress) (slots′ : Bytes) (memory′ : List ℕ) (trace′ : Bytes)
           (d : (j : SectionsJob s sections (x .device .vendor) (x .device .class) (x .answers) (x .slots) memory (x .trace)) →
           SectionsRan s (j .ready .env) (planOf group (j .manifest)) (x .slots) memory (x .trace) r slots′ memory′ trace′) where
         ran : SectionsRan s (envOf (names s (a .manifest)) x) (planOf group (a .manifest)) (x .slots) memory (x .trace) r slots′ memory′ trace′
         unfolding whole
         ran = d whole
 
-        goes : outOf s (length (names s (a .manifest))) memory′ slots′ trace′ r ≡ runAll (envOf (names s (a .manifest)) x) (planOf group (a .manifest)) (startState (names s (a .manifest)) x)
+        goes : outAt s (length (names s (a .manifest))) memory′ slots′ trace′ r ≡ runAll (envOf (names s (a .manifest)) x) (planOf group (a .manifest)) (startState (names s (a .manifest)) x)
         goes =
             ran .goes ∙ ap (runAll (envOf (names s (a .manifest)) x) (planOf group (a .manifest)))
             (state-start group (a .manifest .number) (names s (a .manifest)) x refusal stops z (known s number n ids sections a .some-ids .1) memory

@@ -18,10 +18,10 @@ use Rattle.rules.specs.Limits.{limits, sectionCount}
 use Rattle.rules.specs.Manifest.{Seq, count, Section}
 use Rattle.rules.specs.Step.{Env, State, Out, out}
 use Rattle.rules.specs.Run.{on, runSeq, runAll, sectionsOf, chosen, planOf}
-use Rattle.manifest_accessors.specs.Arguments.{coerceFalse}
-use Rattle.run_sequence.specs.declared.Run.{Run}
+use Rattle.run_actions.specs.declared.Progress.{Progress}
 use Rattle.run_commands.specs.Machine.{stateAt}
-use Rattle.run_sequence.specs.Cycle.{stateOf, SequenceJob, SequenceRan}
+use Rattle.run_sequence.specs.declared.Run.{Run}
+use Rattle.run_sequence.specs.Cycle.{doneBy, SequenceJob, SequenceRan}
 use Rattle.run_sections.specs.Sections.{startOf, SectionsJob, SectionsRan}
 use Rattle.run_commands.proofs.LentLaws.{Moves, moves-seq}
 use Rattle.run_sequence.proofs.Keeping.{Kept, ready-of, kept-of, kept-after, events-after}
@@ -57,23 +57,27 @@ module _ (env : Env) (q : Seq) (qs : List Seq) (st : State) (e : End) (st′ : S
   all-goes n = all-next ∙ rw n
 
 module _ (s vendor class answers : Bytes) (group : Group) (places : List ℕ) (env : Env) (plan : List Seq) (slots₀ : Bytes) (memory₀ : List ℕ) (trace₀ : Bytes) where
+  -- the state that r has reached
+  abbrev stateBy : Bytes → List ℕ → Bytes → Progress → State
+  stateBy slots memory trace r = stateAt s (length (env .ids)) memory slots trace (r .events) (r .used)
+
   -- before section k: the rule's answer is that for the sections that are left, from what memory holds now
-  pub record Left (slots : Bytes) (memory : List ℕ) (trace : Bytes) (run : Run) (k : ℕ) : Type 0 where
+  pub record Left (slots : Bytes) (memory : List ℕ) (trace : Bytes) (run : Progress) (k : ℕ) : Type 0 where
     pub kept : Kept env s vendor class answers slots memory trace 0
     pub commands : ℕ
     pub rest : List Section
     pub stand : Rest s (length (env .ids)) places k commands rest
     pub few : run .events ≤ commands
     pub going : run .end ≡ endNumber Finished
-    pub goes : runAll env plan (stateAt s (length (env .ids)) memory₀ slots₀ trace₀ 0 0) ≡ runAll env (chosen (sectionsOf group) rest) (stateOf s (length (env .ids)) memory slots trace run)
+    pub goes : runAll env plan (stateAt s (length (env .ids)) memory₀ slots₀ trace₀ 0 0) ≡ runAll env (chosen (sectionsOf group) rest) (stateBy slots memory trace run)
 
-  module _ (slots : Bytes) (memory : List ℕ) (trace : Bytes) (run : Run) (k : ℕ) (l : Left slots memory trace run k) where
+  module _ (slots : Bytes) (memory : List ℕ) (trace : Bytes) (run : Progress) (k : ℕ) (l : Left slots memory trace run k) where
     pub all-done : sectionCount ≤ k → SectionsRan s env plan slots₀ memory₀ trace₀ run slots memory trace
     unfolding runAll
     all-done h =
         let e : l .rest ≡ [] = rest-end s (length (env .ids)) places k (l .commands) (l .rest) h (l .stand) in
-        let g : runAll env (chosen (sectionsOf group) (l .rest)) (stateOf s (length (env .ids)) memory slots trace run) ≡ out Finished (stateOf s (length (env .ids)) memory slots trace run) =
-        ap (λ (xs : List Section). runAll env (chosen (sectionsOf group) xs) (stateOf s (length (env .ids)) memory slots trace run)) e in
+        let g : runAll env (chosen (sectionsOf group) (l .rest)) (stateBy slots memory trace run) ≡ out Finished (stateBy slots memory trace run) =
+        ap (λ (xs : List Section). runAll env (chosen (sectionsOf group) xs) (stateBy slots memory trace run)) e in
         record { goes = rw (l .going) (sym (l .goes ∙ g)); late = λ z. absurd (omega (arith, l .going)) }
 
     -- section k is not there, or not the group's
@@ -89,11 +93,11 @@ module _ (s vendor class answers : Bytes) (group : Group) (places : List ℕ) (e
           stand = x .left;
           few = omega (arith, l .few);
           going = l .going;
-          goes = l .goes ∙ ap (λ (xs : List Section). runAll env (chosen (sectionsOf group) xs) (stateOf s (length (env .ids)) memory slots trace run)) (x .all) ∙ rw a;
+          goes = l .goes ∙ ap (λ (xs : List Section). runAll env (chosen (sectionsOf group) xs) (stateBy slots memory trace run)) (x .all) ∙ rw a;
         }
 
-    -- what was left out leaves the run at its start
-    at-start : {from k′ : ℕ} → Left slots memory trace run k′ → Left slots memory trace (startOf from run) k′
+    -- what was left out leaves the run as it was
+    at-start : {k′ : ℕ} → Left slots memory trace run k′ → Left slots memory trace (record { events = run .events; used = run .used; end = endNumber Finished }) k′
     at-start m = record { kept = m .kept; commands = m .commands; rest = m .rest; stand = m .stand; few = m .few; going = refl; goes = m .goes }
 
     -- section k is run
@@ -105,12 +109,12 @@ module _ (s vendor class answers : Bytes) (group : Group) (places : List ℕ) (e
             place = section-sequence s (length (env .ids)) places k (l .commands) (l .rest) x (run .events) (l .few);
           }
 
-      module _ (a : among (x .section .key) (sectionsOf group) ≡ true) (r : Run) (slots′ : Bytes) (memory′ : List ℕ) (trace′ : Bytes)
+      module _ (a : among (x .section .key) (sectionsOf group) ≡ true) (r : Progress) (slots′ : Bytes) (memory′ : List ℕ) (trace′ : Bytes)
           (d : SequenceRan s env (x .section .seq) false (startOf (getD places (2 * k) 0) run) slots memory trace r slots′ memory′ trace′) where
         first :
             runAll env plan (stateAt s (length (env .ids)) memory₀ slots₀ trace₀ 0 0)
-            ≡ runAll env (x .section .seq ∷ chosen (sectionsOf group) (x .others)) (stateOf s (length (env .ids)) memory slots trace run)
-        first = l .goes ∙ ap (λ (xs : List Section). runAll env (chosen (sectionsOf group) xs) (stateOf s (length (env .ids)) memory slots trace run)) (x .all) ∙ rw a
+            ≡ runAll env (x .section .seq ∷ chosen (sectionsOf group) (x .others)) (stateBy slots memory trace run)
+        first = l .goes ∙ ap (λ (xs : List Section). runAll env (chosen (sectionsOf group) xs) (stateBy slots memory trace run)) (x .all) ∙ rw a
 
         stopped : (r .end ≡ endNumber Finished → ⊥) → SectionsRan s env plan slots₀ memory₀ trace₀ r slots′ memory′ trace′
         stopped n =
@@ -121,14 +125,14 @@ module _ (s vendor class answers : Bytes) (group : Group) (places : List ℕ) (e
 
         went : r .end ≡ endNumber Finished → Left slots′ memory′ trace′ r (k + 1)
         went z =
-            let st : State = stateOf s (length (env .ids)) memory slots trace run in
+            let st : State = stateBy slots memory trace run in
             let y : Moves st (runSeq env (x .section .seq) false 0 false st .state) (count (x .section .seq)) = moves-seq env (x .section .seq) false 0 false st in
             record {
-              kept = kept-after s vendor class answers env slots memory trace 0 (l .kept) run _ _ y r slots′ memory′ trace′ (d .goes) (d .fit) (d .same) 0 (l .kept .inside);
+              kept = kept-after s vendor class answers env slots memory trace 0 (l .kept) (run .events) (run .used) _ _ y r slots′ memory′ trace′ (d .goes) (d .fit) (d .same) 0 (l .kept .inside);
               commands = l .commands + count (x .section .seq);
               rest = x .others;
               stand = x .left;
-              few = events-after s vendor class answers (length (env .ids)) memory slots trace run _ _ (l .commands) y (l .few) r slots′ memory′ trace′ (d .goes);
+              few = events-after s vendor class answers (length (env .ids)) memory slots trace (run .events) (run .used) _ _ (l .commands) y (l .few) r slots′ memory′ trace′ (d .goes);
               going = z;
               goes = first ∙ all-goes env (x .section .seq) _ _ _ _ (d .goes) (rw z refl);
             }
@@ -141,10 +145,10 @@ module _ (s vendor class answers : Bytes) (group : Group) (places : List ℕ) (e
       pub turn-job : w ≡ true → SequenceJob s (limits .depth) (startOf (getD places (2 * k) 0) run) vendor class answers slots memory trace
       turn-job t = let (x, a) = its-section t in job x
 
-      module _ (begin : Run) (at-begin : begin ≡ startOf (getD places (2 * k) 0) run) (r : Run) (slots′ : Bytes) (memory′ : List ℕ) (trace′ : Bytes)
+      module _ (begin : Run) (at-begin : begin ≡ startOf (getD places (2 * k) 0) run) (r : Progress) (slots′ : Bytes) (memory′ : List ℕ) (trace′ : Bytes)
           (run-it : w ≡ true → (j : SequenceJob s (limits .depth) begin vendor class answers slots memory trace) →
           SequenceRan s (j .ready .env) (j .place .seq) false begin slots memory trace r slots′ memory′ trace′)
-          (skip-it : w ≡ false → (r ≡ begin) × (slots′ ≡ slots) × (memory′ ≡ memory) × (trace′ ≡ trace)) where
+          (skip-it : w ≡ false → (r ≡ doneBy begin) × (slots′ ≡ slots) × (memory′ ≡ memory) × (trace′ ≡ trace)) where
         ran-it : w ≡ true → (j : SequenceJob s (limits .depth) (startOf (getD places (2 * k) 0) run) vendor class answers slots memory trace) →
             SequenceRan s (j .ready .env) (j .place .seq) false (startOf (getD places (2 * k) 0) run) slots memory trace r slots′ memory′ trace′
         ran-it = rw at-begin at run-it
@@ -154,7 +158,7 @@ module _ (s vendor class answers : Bytes) (group : Group) (places : List ℕ) (e
           where
             go : (b : Bool) → w ≡ b → SectionsRan s env plan slots₀ memory₀ trace₀ r slots′ memory′ trace′
             go true t = let (x, a) = its-section t in stopped x a r slots′ memory′ trace′ (ran-it t (job x)) n
-            go false t = absurd (n (ap (λ (y : Run). y .end) (skip-it t .0 ∙ at-begin)))
+            go false t = absurd (n (ap (λ (y : Progress). y .end) (skip-it t .0) ∙ ap (λ (y : Run). y .end) at-begin))
 
         pub turn-goes : r .end ≡ endNumber Finished → Left slots′ memory′ trace′ r (k + 1)
         turn-goes z = go w refl
@@ -168,13 +172,13 @@ module _ (s vendor class answers : Bytes) (group : Group) (places : List ℕ) (e
 pub left-start : (s vendor class answers : Bytes) (group : Group) (places : List ℕ) (slots : Bytes) (memory : List ℕ) (trace : Bytes) →
     (j : SectionsJob s places vendor class answers slots memory trace) →
     Left s vendor class answers group places (j .ready .env) (planOf group (j .manifest)) slots memory trace slots memory trace
-    (record { next = 0; index = 0; coerce = coerceFalse; events = 0; used = 0; end = endNumber Finished }) 0
+    (record { events = 0; used = 0; end = endNumber Finished }) 0
 left-start s vendor class answers group places slots memory trace j =
     record {
       kept = kept-of s vendor class answers slots memory trace 0 (j .ready);
       commands = 0;
       rest = j .manifest .sections;
-      stand = rest-start s (length (j .ready .env .ids)) places (j .manifest) (sym (j .among)) (j .checks) (j .places);
+      stand = rest-start s (length (j .ready .env .ids)) places (j .manifest) (sym (j .count)) (j .checks) (j .places);
       few = omega arith;
       going = refl;
       goes = refl;

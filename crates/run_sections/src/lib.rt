@@ -13,6 +13,7 @@ use rules::controller::Memory;
 use rules::controller::SECTIONS;
 use rules::controller::SectionPlaces;
 use rules::controller::Sixteen;
+use run_actions::Progress;
 use run_sequence::Level;
 use run_sequence::Run;
 use run_sequence::run_sequence;
@@ -28,12 +29,16 @@ fn run_section(
     slots: &mut [u8],
     memory: &mut Memory,
     trace: &mut [u8],
-) -> Run
+) -> Progress
     requires { ⌜ (wanted ≡ true → SequenceJob (now s) (limits .depth) run (now vendor) (now class) (now answers) (now slots) (now memory) (now trace)) ⌝ }
     ensures { λ r. ⌜ SectionRuns s wanted run vendor class answers slots memory trace r ⌝ }
 {
     if !wanted {
-        return run;
+        return Progress {
+            events: run.events,
+            used: run.used,
+            end: run.end,
+        };
     }
     let level = Level {
         depth: Controller::DEPTH,
@@ -42,16 +47,16 @@ fn run_section(
     run_sequence(s, level, run, vendor, class, answers, slots, memory, trace)
 }
 
-// The run at the start of the sequence at `from`, with what `run` has done.
-fn start_of(from: usize, run: Run) -> Run
-    ensures { λ r. ⌜ r ≡ startOf from run ⌝ }
+// The run at the start of the sequence at `from`, with what `now` has done.
+fn start_of(from: usize, now: Progress) -> Run
+    ensures { λ r. ⌜ r ≡ startOf from now ⌝ }
 {
     Run {
         next: from,
         index: 0,
         coerce: COERCE_FALSE,
-        events: run.events,
-        used: run.used,
+        events: now.events,
+        used: now.used,
         end: End::FINISHED,
     }
 }
@@ -67,14 +72,11 @@ pub fn run_sections(
     slots: &mut [u8],
     memory: &mut Memory,
     trace: &mut [u8],
-) -> Run
+) -> Progress
     requires { ⌜ SectionsJob (now s) (now sections) (now vendor) (now class) (now answers) (now slots) (now memory) (now trace) ⌝ }
     ensures { λ r. ⌜ SectionsRuns s group sections vendor class answers slots memory trace r ⌝ }
 {
-    let mut now = Run {
-        next: 0,
-        index: 0,
-        coerce: COERCE_FALSE,
+    let mut now = Progress {
         events: 0,
         used: 0,
         end: End::FINISHED,

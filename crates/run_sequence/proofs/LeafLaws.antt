@@ -35,7 +35,7 @@ module _ (s : Bytes) (head : Opened) (run : Run) (vendor class answers slots : B
   leaf-component = e ∙ sym (r .component (run .index))
 
   pub leaf-inside : i < length (j .ready .env .ids)
-  leaf-inside = omega (arith, leaf-component, r .inside (run .index) (omega (arith, j .among, j .ready .inside)), j .among)
+  leaf-inside = omega (arith, leaf-component, r .inside (run .index) (omega (arith, j .count, j .ready .inside)), j .count)
 
   pub leaf-fit : FitAll s (limits .components) memory
   leaf-fit k h = record { source = omega (arith, j .ready .lent .fit k h .source, j .ready .lent .host .few); digest = j .ready .lent .fit k h .digest }

@@ -8,15 +8,16 @@ use lib.Dec.{eqb}
 use lib.ListN.{length}
 use borrow.Author.Tests.{ne-eqb}
 use Rattle.rules.specs.declared.answers.End.the-variants.{Finished, ConditionFailed, Started, Failed}
-use Rattle.rules.specs.Answers.{endOf, failureOf}
+use Rattle.rules.specs.Answers.{endNumber, endOf, failureOf}
 use Rattle.rules.specs.Bytes.{Bytes}
 use Rattle.rules.specs.Manifest.{Seq, then, Cmd, countCmd}
 use Rattle.rules.specs.Step.{Env, State, Out, out}
 use Rattle.rules.specs.Run.{on, next, runSeq, runCmd, indexAfter, coerceAfter}
 use Rattle.run_slots.specs.Params.{SlotsKept}
+use Rattle.run_commands.specs.Machine.{outAt}
 use Rattle.run_sequence.specs.declared.Run.{Run}
-use Rattle.manifest_accessors.specs.Arguments.{coerceFalse, isTrue}
-use Rattle.run_sequence.specs.Cycle.{stateOf, outOf, Ready, CommandJob, SequenceJob, CommandRan, SequenceRan, caughtBy}
+use Rattle.manifest_accessors.specs.Arguments.{isTrue}
+use Rattle.run_sequence.specs.Cycle.{stateOf, doneBy, Ready, CommandJob, SequenceJob, CommandRan, SequenceRan, caughtBy}
 use Rattle.manifest_accessors.specs.Heads.{HeadAt}
 use Rattle.manifest_accessors.proofs.SequencePlaces.{CommandsAt, start, start-head, start-commands, Turn, turn, no-more}
 use Rattle.manifest_accessors.proofs.PlaceLaws.{remaining, depth-falls, head-later, command-later}
@@ -62,22 +63,21 @@ pub record Loop (s vendor class : Bytes) (memory₀ : List ℕ) (answers : Bytes
   pub kept : Kept env s vendor class answers slots memory trace (now .index)
   pub place : CommandsAt s (length (env .ids)) depth (now .events) left (now .next)
   pub goes : whole ≡ runSeq env (place .cmds) coercible (now .index) (isTrue (now .coerce)) (stateOf s (length (env .ids)) memory slots trace now)
-  pub calm : now .end ≡ 0
   pub same : SlotsKept memory₀ memory
 
 module _ (s vendor class answers : Bytes) (depth : ℕ) (coercible : Bool) (slots : Bytes) (memory : List ℕ) (trace : Bytes) (left : ℕ) (now : Run) where
-  pub loop-starts : now .end ≡ 0 → (x : CommandsJob s depth left now vendor class answers slots memory trace) →
+  pub loop-starts : (x : CommandsJob s depth left now vendor class answers slots memory trace) →
       Loop s vendor class memory answers depth coercible (x .ready .env)
       (runSeq (x .ready .env) (x .place .cmds) coercible (now .index) (isTrue (now .coerce)) (stateOf s (length (x .ready .env .ids)) memory slots trace now))
       slots memory trace left now
-  loop-starts z x =
-      record { kept = kept-of s vendor class answers slots memory trace (now .index) (x .ready); place = x .place; goes = refl; calm = z; same = λ i h. refl }
+  loop-starts x =
+      record { kept = kept-of s vendor class answers slots memory trace (now .index) (x .ready); place = x .place; goes = refl; same = λ i h. refl }
 
 module _ (s vendor class : Bytes) (memory₀ : List ℕ) (answers : Bytes) (depth : ℕ) (coercible : Bool) (slots : Bytes) (memory : List ℕ) (trace : Bytes) (left : ℕ) (now : Run) where
   module _ (env : Env) (whole : Out) (l : Loop s vendor class memory₀ answers depth coercible env whole slots memory trace left now) where
-    pub loop-done : left ≡ 0 → outOf s (length (env .ids)) memory slots trace now ≡ whole
+    pub loop-done : left ≡ 0 → whole ≡ out Finished (stateOf s (length (env .ids)) memory slots trace now)
     unfolding runSeq
-    loop-done z = rw (l .calm) (sym (l .goes ∙ rw (no-more s (length (env .ids)) depth (now .events) left (now .next) (l .place) z)))
+    loop-done z = l .goes ∙ rw (no-more s (length (env .ids)) depth (now .events) left (now .next) (l .place) z)
 
     module _ (h : 0 < left) where
       abbrev pub its-turn : Turn s (length (env .ids)) depth (now .events) left (now .next) (l .place)
@@ -88,7 +88,7 @@ module _ (s vendor class : Bytes) (memory₀ : List ℕ) (answers : Bytes) (dept
 
       module _ (r : Run) (slots′ : Bytes) (memory′ : List ℕ) (trace′ : Bytes)
           (ran : CommandRan s env (its-turn .first .cmd) (its-turn .first .to) now slots memory trace r slots′ memory′ trace′) where
-        pub loop-stops : (r .end ≡ 0 → ⊥) → outOf s (length (env .ids)) memory′ slots′ trace′ (caughtBy coercible (now .coerce) r) ≡ whole
+        pub loop-stops : (r .end ≡ 0 → ⊥) → outAt s (length (env .ids)) memory′ slots′ trace′ (caughtBy coercible (now .coerce) r) ≡ whole
         loop-stops z =
             sym (l .goes ∙ rw (its-turn .cmds) (stops env (its-turn .first .cmd) (its-turn .rest .cmds) coercible (now .index) (isTrue (now .coerce))
             (stateOf s (length (env .ids)) memory slots trace now) (stateOf s (length (env .ids)) memory′ slots′ trace′ r) (r .end) z (sym (ran .goes))))
@@ -102,9 +102,11 @@ module _ (s vendor class : Bytes) (memory₀ : List ℕ) (answers : Bytes) (dept
             let st : State = stateOf s (length (env .ids)) memory slots trace now in
             let m : Moves st (runCmd env (t .first .cmd) (now .index) st .state) (countCmd (t .first .cmd)) = moves-cmd env (t .first .cmd) (now .index) st in
             let w : r .events ≤ t .first .m + countCmd (t .first .cmd) =
-            events-after s vendor class answers (length (env .ids)) memory slots trace now _ _ (t .first .m) m (t .under) r slots′ memory′ trace′ (ran .goes) in
+            events-after s vendor class answers (length (env .ids)) memory slots trace (now .events) (now .used) _ _ (t .first .m) m (t .under) (doneBy r) slots′ memory′ trace′ (ran .goes) in
             record {
-              kept = kept-after s vendor class answers env slots memory trace (now .index) (l .kept) now _ _ m r slots′ memory′ trace′ (ran .goes) (ran .fit) (ran .same) (r .index) (ran .inside z);
+              kept =
+                  kept-after s vendor class answers env slots memory trace (now .index) (l .kept) (now .events) (now .used) _ _ m (doneBy r) slots′ memory′ trace′
+                  (ran .goes) (ran .fit) (ran .same) (r .index) (ran .inside z);
               place =
                   record {
                     section = t .rest .section;
@@ -120,7 +122,6 @@ module _ (s vendor class : Bytes) (memory₀ : List ℕ) (answers : Bytes) (dept
                   l .goes ∙ ap (λ (a : Seq). runSeq env a coercible (now .index) (isTrue (now .coerce)) st) (t .cmds)
                   ∙ rw (ran .index z, ran .coerce) (goes-on env (t .first .cmd) (t .rest .cmds) coercible (now .index) (isTrue (now .coerce)) st
                   (stateOf s (length (env .ids)) memory′ slots′ trace′ r) (r .end) z (sym (ran .goes)));
-              calm = z;
               same = λ i h. ran .same i h ∙ l .same i h;
             }
 
@@ -134,26 +135,27 @@ module _ (s : Bytes) (depth : ℕ) (run : Run) (vendor class answers slots : Byt
   sequence-head = start-head s (length (j .ready .env .ids)) depth (run .events) (run .next) (j .place)
 
   module _ (v p : ℕ) (q : (v ≡ sequence-head .head .num) × (p ≡ sequence-head .head .next)) where
-    abbrev pub commands-job :
-        CommandsJob s (depth - 1) (v / 2) (record { next = p; index = run .index; coerce = coerceFalse; events = run .events; used = run .used; end = 0 })
+    abbrev pub commands-job : (coerce : ℕ) →
+        CommandsJob s (depth - 1) (v / 2) (record { next = p; index = run .index; coerce = coerce; events = run .events; used = run .used; end = 0 })
         vendor class answers slots memory trace
-    commands-job = record { ready = j .ready; place = start-commands s (length (j .ready .env .ids)) depth (run .events) (run .next) (j .place) v p q }
+    commands-job coerce = record { ready = j .ready; place = start-commands s (length (j .ready .env .ids)) depth (run .events) (run .next) (j .place) v p q }
 
     -- a command at that place or later is one less deep, and of fewer bytes
-    pub command-falls : (at : ℕ) → p ≤ at → remaining s (depth - 1) at < remaining s depth (run .next)
-    command-falls at l = depth-falls s depth (run .next) at sequence-deep (omega (arith, q .1, head-later s (run .next) sequence-head))
+    pub command-falls : (t : ℕ) → remaining s depth (run .next) ≡ t → (at : ℕ) → p ≤ at → remaining s (depth - 1) at < t
+    command-falls t is at l = omega (arith, depth-falls s depth (run .next) at sequence-deep (omega (arith, q .1, head-later s (run .next) sequence-head)))
 
 module _ (s vendor class answers : Bytes) (depth : ℕ) (coercible : Bool) (slots : Bytes) (memory : List ℕ) (trace : Bytes) (left : ℕ) (now : Run)
     (env : Env) (seq : Seq) (run : Run) (slots₀ : Bytes) (memory₀ : List ℕ) (trace₀ : Bytes)
     (l : Loop s vendor class memory₀ answers depth coercible env (runSeq env seq coercible (run .index) false (stateOf s (length (env .ids)) memory₀ slots₀ trace₀ run))
     slots memory trace left now) where
-  pub sequence-done : left ≡ 0 → SequenceRan s env seq coercible run slots₀ memory₀ trace₀ now slots memory trace
+  pub sequence-done : left ≡ 0 → SequenceRan s env seq coercible run slots₀ memory₀ trace₀
+      (record { events = now .events; used = now .used; end = endNumber Finished }) slots memory trace
   sequence-done z =
       record {
-        goes = loop-done s vendor class memory₀ answers depth coercible slots memory trace left now env _ l z;
+        goes = sym (loop-done s vendor class memory₀ answers depth coercible slots memory trace left now env _ l z);
         fit = l .kept .lent .fit;
         same = l .same;
-        late = λ h. absurd (omega (arith, l .calm));
+        late = λ h. absurd (omega arith);
       }
 
   module _ (h : 0 < left) (r : Run) (slots′ : Bytes) (memory′ : List ℕ) (trace′ : Bytes)

@@ -6,27 +6,31 @@ use lib.Dec.{eqb}
 use mathlib.Core.List.{List}
 use lib.ListN.{length}
 use Rattle.rules.specs.declared.answers.End.the-variants.{Finished, ConditionFailed}
-use Rattle.rules.specs.Answers.{endNumber, endOf}
+use Rattle.rules.specs.Answers.{endNumber}
 use Rattle.rules.specs.Bytes.{Bytes}
 use Rattle.rules.specs.Limits.{limits}
 use Rattle.rules.specs.Manifest.{Seq, Cmd, one}
-use Rattle.rules.specs.Step.{Env, State, Out, out}
+use Rattle.rules.specs.Step.{Env, State, Out}
 use Rattle.rules.specs.Run.{runSeq, runCmd, indexAfter, coerceAfter}
 use Rattle.rules.specs.Lent.{Lent, was, left}
 use Rattle.manifest_accessors.specs.declared.heads.Opened.{Opened}
 use Rattle.run_sequence.specs.declared.Run.{Run}
 use Rattle.run_sequence.specs.declared.Level.{Level}
 use Rattle.run_slots.specs.Params.{FitAll, SlotsKept}
-use Rattle.run_commands.specs.Machine.{stateAt, Lends}
+use Rattle.run_actions.specs.declared.Progress.{Progress}
+use Rattle.run_commands.specs.Machine.{stateAt, outAt, Lends}
 use Rattle.manifest_accessors.specs.Arguments.{isTrue, ArgumentAt}
 use Rattle.manifest_accessors.specs.Places.{CommandAt, SequenceAt}
 
--- the state and the outcome that a run has reached
+-- what a run has done, and the state and the outcome that it has reached
+abbrev pub doneBy : Run → Progress
+doneBy r = record { events = r .events; used = r .used; end = r .end }
+
 abbrev pub stateOf : Bytes → ℕ → List ℕ → Bytes → Bytes → Run → State
 stateOf s n memory slots trace r = stateAt s n memory slots trace (r .events) (r .used)
 
 abbrev pub outOf : Bytes → ℕ → List ℕ → Bytes → Bytes → Run → Out
-outOf s n memory slots trace r = out (endOf (r .end)) (stateOf s n memory slots trace r)
+outOf s n memory slots trace r = outAt s n memory slots trace (doneBy r)
 
 -- a run over lent memory, at one of the components
 pub record Ready (s vendor class answers slots : Bytes) (memory : List ℕ) (trace : Bytes) (index : ℕ) : Type 0 where
@@ -34,6 +38,7 @@ pub record Ready (s vendor class answers slots : Bytes) (memory : List ℕ) (tra
   pub lent : Lends env s vendor class answers slots memory trace
   pub inside : index < length (env .ids)
 
+-- a run at a command, and at a sequence, that check has accepted
 pub record CommandJob (s : Bytes) (depth : ℕ) (run : Run) (vendor class answers slots : Bytes) (memory : List ℕ) (trace : Bytes) : Type 0 where
   pub ready : Ready s vendor class answers slots memory trace (run .index)
   pub place : CommandAt s (length (ready .env .ids)) depth (run .events) (run .next)
@@ -46,21 +51,18 @@ pub record SequenceJob (s : Bytes) (depth : ℕ) (run : Run) (vendor class answe
 pub record LeafJob (s : Bytes) (head : Opened) (run : Run) (vendor class answers slots : Bytes) (memory : List ℕ) (trace : Bytes) : Type 0 where
   pub ready : Ready s vendor class answers slots memory trace (run .index)
   pub argument : ArgumentAt s (head .value) (head .next)
-  pub among : argument .n ≡ length (ready .env .ids)
+  pub count : argument .n ≡ length (ready .env .ids)
   pub few : run .events < limits .commands
 
 -- a run at a place: the index and coerce of the sequence `holder`, what `now` has done, and an end
-abbrev pub runAt : Run → ℕ → Run → ℕ → Run
+abbrev pub runAt : Run → ℕ → Progress → ℕ → Run
 runAt holder at now end =
     record { next = at; index = holder .index; coerce = holder .coerce; events = now .events; used = now .used; end = end }
 
 -- 'a condition failure inside, while that sequence's coerce is true, is a success'
-abbrev pub caughtBy : Bool → ℕ → Run → Run
+abbrev pub caughtBy : Bool → ℕ → Run → Progress
 caughtBy coercible coerce r =
     record {
-      next = r .next;
-      index = r .index;
-      coerce = r .coerce;
       events = r .events;
       used = r .used;
       end = cond (coercible && isTrue coerce && eqb (r .end) (endNumber ConditionFailed)) (endNumber Finished) (r .end);
@@ -78,9 +80,10 @@ pub record CommandRan (s : Bytes) (env : Env) (cmd : Cmd) (to : ℕ) (run : Run)
   pub inside : r .end ≡ endNumber Finished → r .index < length (env .ids)
   pub coerce : isTrue (r .coerce) ≡ coerceAfter cmd (isTrue (run .coerce))
 
-pub record SequenceRan (s : Bytes) (env : Env) (seq : Seq) (coercible : Bool) (run : Run) (slots : Bytes) (memory : List ℕ) (trace : Bytes) (r : Run)
-    (slots′ : Bytes) (memory′ : List ℕ) (trace′ : Bytes) : Type 0 where
-  pub goes : outOf s (length (env .ids)) memory′ slots′ trace′ r ≡ runSeq env seq coercible (run .index) false (stateOf s (length (env .ids)) memory slots trace run)
+pub record SequenceRan (s : Bytes) (env : Env) (seq : Seq) (coercible : Bool) (run : Run) (slots : Bytes) (memory : List ℕ) (trace : Bytes)
+    (r : Progress) (slots′ : Bytes) (memory′ : List ℕ) (trace′ : Bytes) : Type 0 where
+  pub goes : outAt s (length (env .ids)) memory′ slots′ trace′ r ≡ runSeq env seq coercible (run .index) false
+      (stateOf s (length (env .ids)) memory slots trace run)
   pub fit : FitAll s (length (env .ids)) memory′
   pub same : SlotsKept memory memory′
   pub late : endNumber Finished < r .end → 0 < r .events
@@ -97,7 +100,7 @@ CommandRuns s depth run vendor class answers slots memory trace r =
     (j : CommandJob (was s) depth run (was vendor) (was class) (was answers) (was slots) (was memory) (was trace)) →
     CommandRan (was s) (j .ready .env) (j .place .cmd) (j .place .to) run (was slots) (was memory) (was trace) r (left slots) (left memory) (left trace)
 
-abbrev pub SequenceRuns : Lent → Level → Run → Lent → Lent → Lent → Lent → Lent → Lent → Run → Type 0
+abbrev pub SequenceRuns : Lent → Level → Run → Lent → Lent → Lent → Lent → Lent → Lent → Progress → Type 0
 SequenceRuns s level run vendor class answers slots memory trace r =
     (j : SequenceJob (was s) (level .depth) run (was vendor) (was class) (was answers) (was slots) (was memory) (was trace)) →
     SequenceRan (was s) (j .ready .env) (j .place .seq) (level .coercible) run (was slots) (was memory) (was trace)

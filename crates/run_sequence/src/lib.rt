@@ -13,6 +13,8 @@ use rules::codes::RUN_SEQUENCE;
 use rules::codes::TRY_EACH;
 use rules::controller::Memory;
 use rules::controller::Sixteen;
+use run_actions::Progress;
+use run_actions::ended;
 use run_commands::perform::Command;
 use run_commands::perform::perform;
 use run_slots::params::either;
@@ -75,7 +77,7 @@ fn leaf(
 }
 
 // The run at `at`: the index and coerce of the sequence `holder`, what `now` has done, and that end.
-fn run_at(holder: Run, at: usize, now: Run, end: usize) -> Run
+fn run_at(holder: Run, at: usize, now: Progress, end: usize) -> Run
     ensures { λ r. ⌜ r ≡ runAt holder at now end ⌝ }
 {
     Run {
@@ -106,7 +108,7 @@ pub fn run_sequence(
     slots: &mut [u8],
     memory: &mut Memory,
     trace: &mut [u8],
-) -> Run
+) -> Progress
     requires { ⌜ SequenceJob (now s) (level .depth) run (now vendor) (now class) (now answers) (now slots) (now memory) (now trace) ⌝ }
     ensures { λ r. ⌜ SequenceRuns s level run vendor class answers slots memory trace r ⌝ }
 {
@@ -139,24 +141,30 @@ pub fn run_sequence(
         }
         left -= 1;
     }
-    now
+    ended(End::FINISHED, now.events, now.used)
 }
 
 // Where a condition failed in a sequence that a run sequence runs and coerce is true, a success.
-fn caught(run: Run, coercible: bool, coerce: usize) -> Run
+fn caught(run: Run, coercible: bool, coerce: usize) -> Progress
     ensures { λ r. ⌜ r ≡ caughtBy coercible coerce run ⌝ }
 {
     let end = run.end;
     if coercible {
         if coerce == COERCE_TRUE {
             if end == End::CONDITION_FAILED {
-                let mut r = run;
-                r.end = End::FINISHED;
-                return r;
+                return Progress {
+                    events: run.events,
+                    used: run.used,
+                    end: End::FINISHED,
+                };
             }
         }
     }
-    run
+    Progress {
+        events: run.events,
+        used: run.used,
+        end,
+    }
 }
 
 // The command at run.next; the sequences that it holds may be `depth` deep.
@@ -178,43 +186,28 @@ fn run_command(
     let code = c.value;
     if code == RUN_SEQUENCE {
         let b = open(s, c.next);
-        let inner = run_sequence(
-            s,
-            Level {
-                depth,
-                coercible: true,
-            },
-            run_at(run, b.next, run, End::FINISHED),
-            vendor,
-            class,
-            answers,
-            slots,
-            memory,
-            trace,
-        );
+        let level = Level {
+            depth,
+            coercible: true,
+        };
+        let done = ended(End::FINISHED, run.events, run.used);
+        let from = run_at(run, b.next, done, End::FINISHED);
+        let inner = run_sequence(s, level, from, vendor, class, answers, slots, memory, trace);
         return run_at(run, b.next + b.value, inner, inner.end);
     }
     if code == TRY_EACH {
         let h = open(s, c.next);
         let mut p = h.next;
         let mut left = h.value;
-        let mut now = run;
+        let mut now = ended(End::CONDITION_FAILED, run.events, run.used);
         while 0 < left {
             let b = open(s, p);
-            now = run_sequence(
-                s,
-                Level {
-                    depth,
-                    coercible: false,
-                },
-                run_at(run, b.next, now, End::FINISHED),
-                vendor,
-                class,
-                answers,
-                slots,
-                memory,
-                trace,
-            );
+            let level = Level {
+                depth,
+                coercible: false,
+            };
+            let from = run_at(run, b.next, now, End::FINISHED);
+            now = run_sequence(s, level, from, vendor, class, answers, slots, memory, trace);
             p = b.next + b.value;
             left -= 1;
             let end = now.end;

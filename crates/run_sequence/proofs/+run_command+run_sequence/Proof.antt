@@ -11,9 +11,9 @@ use Rattle.run_sequence.proofs.SequenceRuns.{CommandsJob, Loop, loop-st
 use Rattle.run_sequence.proofs.SequenceRuns.{commands-job, command-falls, sequence-done, sequence-stopped}
 use borrow.Fn.Kinds.{In}
 use borrow.Fn.PlainCycle.{Measures, is, falls, and}
-use Rattle.run_sequence.proofs.TryRuns.{AltsLoop, command-head, sequence-falls, sub-head, sub-fits, sub-job, sub-falls, sub-ran, leaf-job, leaf-ran}
+use Rattle.run_sequence.proofs.TryRuns.{AltsLoop, command-head, sequence-falls, sub-head, sub-fits, sub-asks, sub-ran, leaf-job, leaf-ran}
 use Rattle.run_sequence.proofs.TryRuns.{tries-head, tries-later, tries-start, tries-failed, choice-head, choice-fits, choice-later}
-use Rattle.run_sequence.proofs.TryRuns.{choice-job, choice-rest, tries-end, tries-on}
+use Rattle.run_sequence.proofs.TryRuns.{choice-asks, choice-rest, tries-end, tries-on}
 use Rattle.run_sequence.proofs.run_command.Reads as run-command
 use Rattle.run_sequence.proofs.run_command.Kinds as run-command-kinds
 use Rattle.run_sequence.proofs.+run_command+run_sequence.Lts-run_command as run-command-lts
@@ -23,6 +23,7 @@ use Rattle.run_sequence.proofs.+run_command+run_sequence.Lts-run_sequen
 use Rattle.run_sequence.proofs.caught.Reads as caught-reads
 use Rattle.run_sequence.proofs.leaf.Reads as leaf-reads
 use Rattle.run_sequence.proofs.run_at.Reads as run-at-reads
+use Rattle.run_actions.proofs.ended.Reads as ended-reads
 use Rattle.manifest_accessors.proofs.heads.open.Reads as open-reads
 use Rattle.manifest_accessors.proofs.heads.skip.Reads as skip-reads
 use Rattle.run_sequence.proofs.+run_command+run_sequence.{statement}
@@ -60,6 +61,8 @@ abbrev run-command-callees : ℕ → run-command-lts.Claims
 run-command-callees t = (
   open-reads.Asked,
   open-reads.Learnt,
+  ended-reads.Asked,
+  ended-reads.Learnt,
   run-at-reads.Asked,
   run-at-reads.Learnt,
   run-sequence-below t,
@@ -72,7 +75,7 @@ run-command-callees t = (
 
 -- what run-sequence knows of what it calls
 abbrev run-sequence-callees : ℕ → run-sequence-lts.Claims
-run-sequence-callees t = (open-reads.Asked, open-reads.Learnt, run-command-below t, run-command.Post, caught-reads.Asked, caught-reads.Learnt)
+run-sequence-callees t = (open-reads.Asked, open-reads.Learnt, run-command-below t, run-command.Post, caught-reads.Asked, caught-reads.Learnt, ended-reads.Asked, ended-reads.Learnt)
 
 abbrev run-command-Inv-loop : run-command-lts.InvT-loop
 run-command-Inv-loop s depth run vendor class answers slots₀ memory₀ trace₀ code p₀ left₀ now₀ slots memory trace p left now =
@@ -84,7 +87,7 @@ run-command-Inv-loop s depth run vendor class answers slots₀ memory₀ trace�
 abbrev run-command-μ-loop : run-command-lts.MeasureT-loop
 run-command-μ-loop s depth run vendor class answers slots₀ memory₀ trace₀ code p₀ left₀ now₀ slots memory trace p left now = left
 
--- The way points. Where `rw .. at` follows, the steps are written out: `rw` with a fact refuses a way point that passes it.
+-- The way points.
 -- back to the entry of a command, from where its code was read
 abbrev to-entry :
     {t : ℕ} →
@@ -99,12 +102,19 @@ abbrev sub-to-code :
     run-command-lts.After-open (run-command-callees t) (run-command-at t) run-command.Post run-command-Inv-loop run-command-μ-loop
 sub-to-code c = c .before .before
 
+-- back to where the run at its sequence was made, from before its sequence is run
+abbrev to-begin :
+    {t : ℕ} →
+    run-command-lts.After-run-sequence-arg3 (run-command-callees t) (run-command-at t) run-command.Post run-command-Inv-loop run-command-μ-loop →
+    run-command-lts.After-run-at (run-command-callees t) (run-command-at t) run-command.Post run-command-Inv-loop run-command-μ-loop
+to-begin c = c .before .before .before
+
 -- back to where the head of its sequence was read, from before its sequence is run
 abbrev to-sub :
     {t : ℕ} →
     run-command-lts.After-run-sequence-arg3 (run-command-callees t) (run-command-at t) run-command.Post run-command-Inv-loop run-command-μ-loop →
     run-command-lts.After-open2 (run-command-callees t) (run-command-at t) run-command.Post run-command-Inv-loop run-command-μ-loop
-to-sub c = c .before .before .before .before
+to-sub c = to-begin c .before .before
 
 -- back to where its sequence was run, from what is known of the run after it
 abbrev to-ran :
@@ -118,7 +128,7 @@ abbrev turns-to-code :
     {t : ℕ} →
     run-command-lts.At-loop (run-command-callees t) (run-command-at t) run-command.Post run-command-Inv-loop run-command-μ-loop →
     run-command-lts.After-open (run-command-callees t) (run-command-at t) run-command.Post run-command-Inv-loop run-command-μ-loop
-turns-to-code c = c .before .before .before .before
+turns-to-code c = c .before .before .before .before .before
 
 -- back to the head of the loop over the alternatives, from where the head of an alternative was read
 abbrev to-turns :
@@ -127,12 +137,19 @@ abbrev to-turns :
     run-command-lts.At-loop (run-command-callees t) (run-command-at t) run-command.Post run-command-Inv-loop run-command-μ-loop
 to-turns c = c .before .before
 
+-- back to where the run at an alternative was made, from before the alternative is run
+abbrev to-trial :
+    {t : ℕ} →
+    run-command-lts.After-run-sequence-arg6 (run-command-callees t) (run-command-at t) run-command.Post run-command-Inv-loop run-command-μ-loop →
+    run-command-lts.After-run-at3 (run-command-callees t) (run-command-at t) run-command.Post run-command-Inv-loop run-command-μ-loop
+to-trial c = c .before .before .before
+
 -- back to where the head of an alternative was read, from before the alternative is run
 abbrev to-choice :
     {t : ℕ} →
     run-command-lts.After-run-sequence-arg6 (run-command-callees t) (run-command-at t) run-command.Post run-command-Inv-loop run-command-μ-loop →
     run-command-lts.After-open4 (run-command-callees t) (run-command-at t) run-command.Post run-command-Inv-loop run-command-μ-loop
-to-choice c = c .before .before .before .before
+to-choice c = to-trial c .before
 
 -- back to where an alternative was run, from what is known of the run after it
 abbrev to-tried :
@@ -156,6 +173,12 @@ run-command-open-requires-2 t c κs =
     let j = to-entry (c .before) .pre .1 in
     sub-head _ _ _ _ _ _ _ _ _ j _ _ (c .before .«open» .ensures (command-head _ _ _ _ _ _ _ _ _ j)) (c .if1 .taken)
 
+run-command-ended-requires : (t : ℕ) → run-command-lts.Need-ended-requires (run-command-callees t) (run-command-at t) run-command.Post run-command-Inv-loop run-command-μ-loop
+run-command-ended-requires t c κs = search needs
+
+run-command-ended-requires-2 : (t : ℕ) → run-command-lts.Need-ended-requires-2 (run-command-callees t) (run-command-at t) run-command.Post run-command-Inv-loop run-command-μ-loop
+run-command-ended-requires-2 t c κs = search needs
+
 run-command-run-at-requires : (t : ℕ) → run-command-lts.Need-run-at-requires (run-command-callees t) (run-command-at t) run-command.Post run-command-Inv-loop run-command-μ-loop
 run-command-run-at-requires t c κs = search needs
 
@@ -167,7 +190,8 @@ run-command-run-sequence-requires t c κs =
     let code = opened .«open» .ensures (command-head _ _ _ _ _ _ _ _ _ j) in
     let taken = sub .before .if1 .taken in
     let o = sub .open2 .ensures (sub-head _ _ _ _ _ _ _ _ _ j _ _ code taken) in
-    rw (c .before .before .before .run-at .ensures) (omega (arith, is, sub-falls _ _ _ _ _ _ _ _ _ j _ _ code taken _ _ o), sub-job _ _ _ _ _ _ _ _ _ j _ _ code taken _ _ o)
+    let begin = to-begin c in
+    sub-asks _ _ _ _ _ _ _ _ _ j _ _ code taken _ _ o _ (begin .before .ended .ensures) _ (begin .run-at .ensures) _ is
 
 run-command-add-run-at : (t : ℕ) → run-command-lts.Need-add-run-at (run-command-callees t) (run-command-at t) run-command.Post run-command-Inv-loop run-command-μ-loop
 run-command-add-run-at t c =
@@ -191,15 +215,14 @@ run-command-same-length-2 t c = search needs
 
 run-command-returns : (t : ℕ) → run-command-lts.Need-returns (run-command-callees t) (run-command-at t) run-command.Post run-command-Inv-loop run-command-μ-loop
 run-command-returns t c =
-    let known = c .before in
-    let ran = known .before .before .before .before .before in
-    let sub = to-sub (ran .before) in
-    let does = rw (ran .before .before .before .before .run-at .ensures) at (ran .run-sequence .ensures) in
+    let ran = to-ran (c .before) in
+    let begin = to-begin (ran .before) in
+    let sub = begin .before .before in
     λ j.
     let code = sub-to-code sub .«open» .ensures (command-head _ _ _ _ _ _ _ _ _ j) in
     let taken = sub .before .if1 .taken in
     let o = sub .open2 .ensures (sub-head _ _ _ _ _ _ _ _ _ j _ _ code taken) in
-    rw (c .run-at2 .ensures) (sub-ran _ _ _ _ _ _ _ _ _ j _ _ code taken _ _ o _ _ _ _ (does (sub-job _ _ _ _ _ _ _ _ _ j _ _ code taken _ _ o)))
+    sub-ran _ _ _ _ _ _ _ _ _ j _ _ code taken _ _ o _ (begin .before .ended .ensures) _ (begin .run-at .ensures) _ _ _ _ (ran .run-sequence .ensures) _ (c .run-at2 .ensures)
 
 run-command-open-requires-3 : (t : ℕ) → run-command-lts.Need-open-requires-3 (run-command-callees t) (run-command-at t) run-command.Post run-command-Inv-loop run-command-μ-loop
 run-command-open-requires-3 t c κs =
@@ -209,13 +232,13 @@ run-command-open-requires-3 t c κs =
 
 run-command-loop-holds : (t : ℕ) → run-command-lts.Need-loop-holds (run-command-callees t) (run-command-at t) run-command.Post run-command-Inv-loop run-command-μ-loop
 run-command-loop-holds t c =
-    let opened = c .before .before .before in
-    let taken = c .before .if2 .taken in (
+    let opened = c .before .before .before .before in
+    let taken = c .before .before .if2 .taken in (
       refl,
       refl,
       λ j.
           let code = opened .«open» .ensures (command-head _ _ _ _ _ _ _ _ _ j) in
-          tries-start _ _ _ _ _ _ _ _ _ j _ _ code taken _ _ (c .open3 .ensures (tries-head _ _ _ _ _ _ _ _ _ j _ _ code taken)),
+          tries-start _ _ _ _ _ _ _ _ _ j _ _ code taken _ _ (c .before .open3 .ensures (tries-head _ _ _ _ _ _ _ _ _ j _ _ code taken)) _ (c .ended2 .ensures),
       λ j. omega arith,
     )
 
@@ -234,13 +257,13 @@ run-command-run-sequence-requires-2 t c κs =
     let opened = turns-to-code turns in
     let (is, j) = to-entry opened .pre in
     let code = opened .«open» .ensures (command-head _ _ _ _ _ _ _ _ _ j) in
-    let taken = turns .before .before .if2 .taken in
-    let later = tries-later _ _ _ _ _ _ _ _ _ j _ _ code taken _ _ (turns .before .open3 .ensures (tries-head _ _ _ _ _ _ _ _ _ j _ _ code taken)) in
+    let taken = turns .before .before .before .if2 .taken in
+    let later = tries-later _ _ _ _ _ _ _ _ _ j _ _ code taken _ _ (turns .before .before .open3 .ensures (tries-head _ _ _ _ _ _ _ _ _ j _ _ code taken)) in
     let (_, _, loop, rises) = turns .loop .inv in
     let more = choice .before .loop-test .taken in
     let o = choice .open4 .ensures (choice-head _ _ _ _ _ _ _ _ _ _ _ _ _ _ _ _ _ _ (loop j) more) in
-    let falls = sequence-falls _ _ _ _ _ _ _ _ _ j _ _ _ later (rises j) (choice-later _ _ _ _ _ _ _ _ _ _ _ _ _ _ _ _ _ _ (loop j) more _ _ o) in
-    rw (c .before .before .before .run-at3 .ensures) (omega (arith, is, falls), choice-job _ _ _ _ _ _ _ _ _ _ _ _ _ _ _ _ _ _ (loop j) more _ _ o)
+    let falls = sequence-falls _ _ _ _ _ _ _ _ _ j _ is _ _ _ later (rises j) (choice-later _ _ _ _ _ _ _ _ _ _ _ _ _ _ _ _ _ _ (loop j) more _ _ o) in
+    choice-asks _ _ _ _ _ _ _ _ _ _ _ _ _ _ _ _ _ _ (loop j) more _ _ o _ (to-trial c .run-at3 .ensures) _ falls
 
 run-command-add-p : (t : ℕ) → run-command-lts.Need-add-p (run-command-callees t) (run-command-at t) run-command.Post run-command-Inv-loop run-command-μ-loop
 run-command-add-p t c =
@@ -278,34 +301,31 @@ run-command-same-length-4 t c =
 
 run-command-returns-2 : (t : ℕ) → run-command-lts.Need-returns-2 (run-command-callees t) (run-command-at t) run-command.Post run-command-Inv-loop run-command-μ-loop
 run-command-returns-2 t c =
-    let known = c .before .before .before in
-    let tried = known .before .before .before .before .before in
-    let choice = to-choice (tried .before) in
-    let does = rw (tried .before .before .before .before .run-at3 .ensures) at (tried .run-sequence2 .ensures) in
+    let tried = to-tried (c .before .before .before) in
+    let trial = to-trial (tried .before) in
+    let choice = trial .before in
     let more = choice .before .loop-test .taken in
     λ j.
     let l = to-turns choice .loop .inv .2 j in
     let o = choice .open4 .ensures (choice-head _ _ _ _ _ _ _ _ _ _ _ _ _ _ _ _ _ _ l more) in
     let rest = c .before .skip .ensures (choice-rest _ _ _ _ _ _ _ _ _ _ _ _ _ _ _ _ _ _ l more _ _ o) in
-    rw (c .run-at4 .ensures)
-    (tries-end _ _ _ _ _ _ _ _ _ _ _ _ _ _ _ _ _ _ l more _ _ o _ _ _ _ (does (choice-job _ _ _ _ _ _ _ _ _ _ _ _ _ _ _ _ _ _ l more _ _ o)) (c .before .before .if3 .taken) _ rest)
+    tries-end _ _ _ _ _ _ _ _ _ _ _ _ _ _ _ _ _ _ l more _ _ o _ (trial .run-at3 .ensures) _ _ _ _ (tried .run-sequence2 .ensures) (c .before .before .if3 .taken) _ rest _ (c .run-at4 .ensures)
 
 run-command-loop-less : (t : ℕ) → run-command-lts.Need-loop-less (run-command-callees t) (run-command-at t) run-command.Post run-command-Inv-loop run-command-μ-loop
 run-command-loop-less t c = search needs
 
 run-command-loop-again : (t : ℕ) → run-command-lts.Need-loop-again (run-command-callees t) (run-command-at t) run-command.Post run-command-Inv-loop run-command-μ-loop
 run-command-loop-again t c =
-    let known = c .before in
-    let tried = known .before .before .before .before .before in
-    let choice = to-choice (tried .before) in
-    let (_, _, loop, rises) = to-turns choice .loop .inv in
-    let more = choice .before .loop-test .taken in
-    let ran = rw (tried .before .before .before .before .run-at3 .ensures) at (tried .run-sequence2 .ensures) in (
-      search needs,
-      search needs,
+    let tried = to-tried (c .before) in
+    let trial = to-trial (tried .before) in
+    let choice = trial .before in
+    let (slots, trace, loop, rises) = to-turns choice .loop .inv in
+    let more = choice .before .loop-test .taken in (
+      tried .run-sequence2 .kept .1 .1 .1 .1 .1 .1 .0 ∙ slots,
+      tried .run-sequence2 .kept .1 .1 .1 .1 .1 .1 .1 .1 .0 ∙ trace,
       λ j.
           let o = choice .open4 .ensures (choice-head _ _ _ _ _ _ _ _ _ _ _ _ _ _ _ _ _ _ (loop j) more) in
-          tries-on _ _ _ _ _ _ _ _ _ _ _ _ _ _ _ _ _ _ (loop j) more _ _ o _ _ _ _ (ran (choice-job _ _ _ _ _ _ _ _ _ _ _ _ _ _ _ _ _ _ (loop j) more _ _ o)) (c .if3 .left),
+          tries-on _ _ _ _ _ _ _ _ _ _ _ _ _ _ _ _ _ _ (loop j) more _ _ o _ (trial .run-at3 .ensures) _ _ _ _ (tried .run-sequence2 .ensures) (c .if3 .left),
       λ j.
           let o = choice .open4 .ensures (choice-head _ _ _ _ _ _ _ _ _ _ _ _ _ _ _ _ _ _ (loop j) more) in
           omega (arith, rises j, choice-later _ _ _ _ _ _ _ _ _ _ _ _ _ _ _ _ _ _ (loop j) more _ _ o),
@@ -321,7 +341,7 @@ run-command-same-length-6 : (t : ℕ) → run-command-lts.Need-same-length-6 (ru
 run-command-same-length-6 t c = search needs
 
 run-command-returns-3 : (t : ℕ) → run-command-lts.Need-returns-3 (run-command-callees t) (run-command-at t) run-command.Post run-command-Inv-loop run-command-μ-loop
-run-command-returns-3 t c = λ j. rw (c .run-at5 .ensures) (tries-failed _ _ _ _ _ _ _ _ _ _ _ _ _ _ _ _ _ _ (c .before .before .loop .inv .2 j) (omega (arith, c .before .loop-test .left)))
+run-command-returns-3 t c = λ j. tries-failed _ _ _ _ _ _ _ _ _ _ _ _ _ _ _ _ _ _ (c .before .before .loop .inv .2 j) (omega (arith, c .before .loop-test .left)) _ (c .run-at5 .ensures)
 
 run-command-leaf-requires : (t : ℕ) → run-command-lts.Need-leaf-requires (run-command-callees t) (run-command-at t) run-command.Post run-command-Inv-loop run-command-μ-loop
 run-command-leaf-requires t c κs =
@@ -389,7 +409,7 @@ run-sequence-open-requires : (t : ℕ) → run-sequence-lts.Need-open-requires (
 run-sequence-open-requires t c κs = sequence-head _ _ _ _ _ _ _ _ _ (c .before .before .before .before .pre .1)
 
 run-sequence-loop-holds : (t : ℕ) → run-sequence-lts.Need-loop-holds (run-sequence-callees t) (run-sequence-at t) run-sequence.Post run-sequence-Inv-loop run-sequence-μ-loop
-run-sequence-loop-holds t c = (refl, refl, loop-starts _ _ _ _ _ _ _ _ _ _ _ refl, λ x. omega arith)
+run-sequence-loop-holds t c = (refl, refl, loop-starts _ _ _ _ _ _ _ _ _ _ _, λ x. omega arith)
 
 run-sequence-sub-run-command : (t : ℕ) → run-sequence-lts.Need-sub-run-command (run-sequence-callees t) (run-sequence-at t) run-sequence.Post run-sequence-Inv-loop run-sequence-μ-loop
 run-sequence-sub-run-command t c =
@@ -403,9 +423,9 @@ run-sequence-run-command-requires t c κs =
     let (is, j) = sequence-to-entry head .pre in
     let o = head .«open» .ensures (sequence-head _ _ _ _ _ _ _ _ _ j) in
     let (_, _, loop, rises) = turns .loop .inv in
-    let x = commands-job _ _ _ _ _ _ _ _ _ j _ _ o in
+    let x = commands-job _ _ _ _ _ _ _ _ _ j _ _ o _ in
     let more = c .before .before .before .before .loop-test .taken in
-    (omega (arith, is, command-falls _ _ _ _ _ _ _ _ _ j _ _ o _ (rises x)), command-job _ _ _ _ _ _ _ _ _ _ _ _ _ _ (loop x) more)
+    (command-falls _ _ _ _ _ _ _ _ _ j _ _ o _ is _ (rises x), command-job _ _ _ _ _ _ _ _ _ _ _ _ _ _ (loop x) more)
 
 run-sequence-caught-requires : (t : ℕ) → run-sequence-lts.Need-caught-requires (run-sequence-callees t) (run-sequence-at t) run-sequence.Post run-sequence-Inv-loop run-sequence-μ-loop
 run-sequence-caught-requires t c κs = search needs
@@ -422,7 +442,7 @@ run-sequence-returns t c =
     let turns = to-commands (ran .before) in
     let more = ran .before .before .before .before .before .loop-test .taken in
     λ j.
-    let x = commands-job _ _ _ _ _ _ _ _ _ j _ _ (to-head turns .«open» .ensures (sequence-head _ _ _ _ _ _ _ _ _ j)) in
+    let x = commands-job _ _ _ _ _ _ _ _ _ j _ _ (to-head turns .«open» .ensures (sequence-head _ _ _ _ _ _ _ _ _ j)) _ in
     let l = turns .loop .inv .2 x in
     rw (c .caught .ensures) (sequence-stopped _ _ _ _ _ _ _ _ _ _ _ _ _ _ _ _ _ l more _ _ _ _ (ran .run-command .ensures (command-job _ _ _ _ _ _ _ _ _ _ _ _ _ _ l more)) (c .before .if1 .taken))
 
@@ -444,6 +464,9 @@ run-sequence-loop-again t c =
       λ x. omega (arith, rises x, loop-rises _ _ _ _ _ _ _ _ _ _ _ _ _ _ (loop x) more _ _ _ _ (ran (command-job _ _ _ _ _ _ _ _ _ _ _ _ _ _ (loop x) more)) (c .if1 .left)),
     )
 
+run-sequence-ended-requires : (t : ℕ) → run-sequence-lts.Need-ended-requires (run-sequence-callees t) (run-sequence-at t) run-sequence.Post run-sequence-Inv-loop run-sequence-μ-loop
+run-sequence-ended-requires t c κs = search needs
+
 run-sequence-same-length-3 : (t : ℕ) → run-sequence-lts.Need-same-length-3 (run-sequence-callees t) (run-sequence-at t) run-sequence.Post run-sequence-Inv-loop run-sequence-μ-loop
 run-sequence-same-length-3 t c = search needs
 
@@ -452,8 +475,8 @@ run-sequence-same-length-4 t c = search needs
 
 run-sequence-returns-2 : (t : ℕ) → run-sequence-lts.Need-returns-2 (run-sequence-callees t) (run-sequence-at t) run-sequence.Post run-sequence-Inv-loop run-sequence-μ-loop
 run-sequence-returns-2 t c = λ j.
-    let x = commands-job _ _ _ _ _ _ _ _ _ j _ _ (to-head (c .before) .«open» .ensures (sequence-head _ _ _ _ _ _ _ _ _ j)) in
-    sequence-done _ _ _ _ _ _ _ _ _ _ _ _ _ _ _ _ _ (c .before .loop .inv .2 x) (omega (arith, c .loop-test .left))
+    let x = commands-job _ _ _ _ _ _ _ _ _ j _ _ (to-head (c .before .before) .«open» .ensures (sequence-head _ _ _ _ _ _ _ _ _ j)) _ in
+    rw (c .ended .ensures) (sequence-done _ _ _ _ _ _ _ _ _ _ _ _ _ _ _ _ _ (c .before .before .loop .inv .2 x) (omega (arith, c .before .loop-test .left)))
 
 pub +run-command+run-sequence-spec : {M : Type 1} → statement M
 +run-command+run-sequence-spec = close μ-run-command μ-run-sequence (λ t. run-command-lts.spec (run-command-callees t) (run-command-at t) run-command.Post
@@ -461,6 +484,7 @@ pub +run-command+run-sequence-spec : {M : Type 1} → statement M
     run-command-μ-loop
     (run-command-open-requires t)
     (run-command-open-requires-2 t)
+    (run-command-ended-requires t)
     (run-command-run-at-requires t)
     (run-command-run-sequence-requires t)
     (run-command-add-run-at t)
@@ -469,6 +493,7 @@ pub +run-command+run-sequence-spec : {M : Type 1} → statement M
     (run-command-same-length-2 t)
     (run-command-returns t)
     (run-command-open-requires-3 t)
+    (run-command-ended-requires-2 t)
     (run-command-loop-holds t)
     (run-command-open-requires-4 t)
     (run-command-run-at-requires-3 t)
@@ -504,6 +529,7 @@ pub +run-command+run-sequence-spec : {M : Type 1} → statement M
     (run-sequence-sub-left t)
     (run-sequence-loop-less t)
     (run-sequence-loop-again t)
+    (run-sequence-ended-requires t)
     (run-sequence-same-length-3 t)
     (run-sequence-same-length-4 t)
     (run-sequence-returns-2 t)
