@@ -1,6 +1,8 @@
 // What is told of files: check, show, newer, list.
-ghost use Rattle.rules.specs.Lent.{left};
+ghost use Rattle.rules.specs.Lent.{was, left};
 ghost use Rattle.io.specs.Counts.{Counts};
+ghost use Rattle.text.specs.Text.{Writes};
+ghost use Rattle.depot.specs.Printed.{shownText, newestText, listedText};
 use crate::files::load;
 use crate::pages::page;
 use crate::pages::print;
@@ -33,7 +35,7 @@ pub(crate) fn check_file() {
 
 // The manifest of an envelope, or its refusal, at the start of the room: the place after it.
 fn put_shown(room: &mut [u8], envelope: &[u8]) -> usize
-    ensures { λ r. ⌜ Counts r (left room) ⌝ }
+    ensures { λ r. ⌜ (Writes (shownText (was envelope)) 0 room r) × Counts r (left room) ⌝ }
 {
     let answer = pitvorgas_check(envelope);
     if answer.refusal != 0 {
@@ -84,7 +86,7 @@ pub(crate) fn newer_file() {
 
 // Which of two envelopes is newer, and its number.
 fn put_newest(room: &mut [u8], first: &[u8], second: &[u8]) -> usize
-    ensures { λ r. ⌜ Counts r (left room) ⌝ }
+    ensures { λ r. ⌜ (Writes (newestText (was first) (was second)) 0 room r) × Counts r (left room) ⌝ }
 {
     let answer = pitvorgas_newer(first, second);
     let which = answer.second;
@@ -98,7 +100,7 @@ fn put_newest(room: &mut [u8], first: &[u8], second: &[u8]) -> usize
 
 // The records of a program, or its refusal.
 fn put_listed(room: &mut [u8], program: &[u8]) -> usize
-    ensures { λ r. ⌜ Counts r (left room) ⌝ }
+    ensures { λ r. ⌜ (Writes (listedText (was program)) 0 room r) × Counts r (left room) ⌝ }
 {
     let tested = test_program(program);
     if tested.good {

@@ -1,7 +1,10 @@
 // Runs on a described device.
 ghost use mathlib.Core.Path.{_≡_};
 ghost use lib.ListN.{length};
+ghost use Rattle.rules.specs.Lent.{was};
 ghost use Rattle.rules.specs.Limits.{limits};
+ghost use Rattle.pitvorgas.specs.Answers.{given, Answers};
+ghost use Rattle.depot.specs.Ran.{deviceOf, ranAs};
 use crate::files::load;
 use crate::pages::group_word;
 use crate::pages::page;
@@ -38,7 +41,9 @@ fn trace_room() -> [u8; Controller::TRACE_BYTES]
     [0; Controller::TRACE_BYTES]
 }
 
-fn device_of(d: Scenario) -> Device {
+fn device_of(d: Scenario) -> Device
+    ensures { λ r. ⌜ r ≡ deviceOf d ⌝ }
+{
     let vendor = d.vendor;
     let class = d.class;
     Device {
@@ -56,7 +61,9 @@ fn run_as(
     slots: &mut [u8],
     answers: &[u8],
     trace: &mut [u8],
-) -> RunAnswer {
+) -> RunAnswer
+    ensures { λ r. ⌜ Answers (ranAs what (was bytes) (given (d .verdict) (deviceOf d) slots answers trace)) (deviceOf d) slots trace r ⌝ }
+{
     let device = device_of(d);
     match what {
         Run::Install => pitvorgas_run(bytes, false, d.verdict, device, slots, answers, trace),

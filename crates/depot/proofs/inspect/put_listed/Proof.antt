@@ -1,41 +1,31 @@
 use borrow.Author.Needs.{needs}
-use Rattle.depot.proofs.PageLaws.{wrote-counts}
+use Rattle.rules.specs.ProgramTest.{programIn}
+use Rattle.depot.proofs.PrintedLaws.{printed, listed-program, listed-refused}
 use Rattle.depot.proofs.inspect.put_listed.Statement.{statement}
 use Rattle.depot.proofs.inspect.put_listed.Tie as tie
 
-test-program-requires : tie.Need-test-program-requires
-test-program-requires c κs = search needs
-
-put-program-requires : tie.Need-put-program-requires
-put-program-requires c κs = search needs
-
-same-length : tie.Need-same-length
-same-length c = search needs
-
 returns : tie.Need-returns
-returns c = wrote-counts (c .before .before .put-program .ensures)
-
-number-requires : tie.Need-number-requires
-number-requires c κs = search needs
-
-put-refused-requires : tie.Need-put-refused-requires
-put-refused-requires c κs = search needs
-
-same-length-2 : tie.Need-same-length-2
-same-length-2 c = search needs
+returns c =
+    let test = c .before .before .before .before in
+    let s = test .before .before .before .before .args .program .now in
+    printed (listed-program s _ (programIn s) (test .before .test-program .ensures) (test .if1 .taken)) (c .before .before .put-program .ensures)
 
 returns-2 : tie.Need-returns-2
-returns-2 c = wrote-counts (c .before .before .put-refused .ensures)
+returns-2 c =
+    let test = c .before .before .before .before .before in
+    let s = test .before .before .before .before .args .program .now in
+    let w = rw (c .before .before .before .number .ensures) at (c .before .before .put-refused .ensures) in
+    printed (listed-refused s _ (programIn s) (test .before .test-program .ensures) (test .if1 .left)) w
 
 pub put-listed-spec : {M : Type 1} → statement M
 put-listed-spec =
     tie.close
     (tie.spec
-    test-program-requires
-    put-program-requires
-    same-length
+    (λ c κs. search needs)
+    (λ c κs. search needs)
+    (λ c. search needs)
     returns
-    number-requires
-    put-refused-requires
-    same-length-2
+    (λ c κs. search needs)
+    (λ c κs. search needs)
+    (λ c. search needs)
     returns-2)

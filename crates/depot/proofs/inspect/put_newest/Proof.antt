@@ -1,45 +1,30 @@
 use borrow.Author.Needs.{needs}
-use Rattle.depot.proofs.PageLaws.{wrote-counts}
+use Rattle.depot.proofs.PrintedLaws.{printed, newest-first, newest-second}
 use Rattle.depot.proofs.inspect.put_newest.Statement.{statement}
 use Rattle.depot.proofs.inspect.put_newest.Tie as tie
 
-pitvorgas-newer-requires : tie.Need-pitvorgas-newer-requires
-pitvorgas-newer-requires c κs = search needs
-
-pitvorgas-check-requires : tie.Need-pitvorgas-check-requires
-pitvorgas-check-requires c κs = search needs
-
-put-newer-requires : tie.Need-put-newer-requires
-put-newer-requires c κs = search needs
-
-same-length : tie.Need-same-length
-same-length c = search needs
-
 returns : tie.Need-returns
-returns c = wrote-counts (c .before .before .put-newer .ensures)
-
-pitvorgas-check-requires-2 : tie.Need-pitvorgas-check-requires-2
-pitvorgas-check-requires-2 c κs = search needs
-
-put-newer-requires-2 : tie.Need-put-newer-requires-2
-put-newer-requires-2 c κs = search needs
-
-same-length-2 : tie.Need-same-length-2
-same-length-2 c = search needs
+returns c =
+    let checked = c .before .before .before .before in
+    let test = checked .before in
+    printed (newest-first _ _ _ (test .before .pitvorgas-newer .ensures) _ (test .if1 .taken) (checked .pitvorgas-check .ensures)) (c .before .before .put-newer .ensures)
 
 returns-2 : tie.Need-returns-2
-returns-2 c = wrote-counts (c .before .before .put-newer2 .ensures)
+returns-2 c =
+    let checked = c .before .before .before .before in
+    let test = checked .before in
+    printed (newest-second _ _ _ (test .before .pitvorgas-newer .ensures) _ (test .if1 .left) (checked .pitvorgas-check2 .ensures)) (c .before .before .put-newer2 .ensures)
 
 pub put-newest-spec : {M : Type 1} → statement M
 put-newest-spec =
     tie.close
     (tie.spec
-    pitvorgas-newer-requires
-    pitvorgas-check-requires
-    put-newer-requires
-    same-length
+    (λ c κs. search needs)
+    (λ c κs. search needs)
+    (λ c κs. search needs)
+    (λ c. search needs)
     returns
-    pitvorgas-check-requires-2
-    put-newer-requires-2
-    same-length-2
+    (λ c κs. search needs)
+    (λ c κs. search needs)
+    (λ c. search needs)
     returns-2)

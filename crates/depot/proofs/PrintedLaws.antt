@@ -1,0 +1,57 @@
+-- What is printed of files, by the calls that found it.
+use Prim.Native.Nat.{ℕ}
+use mathlib.Core.Path.{_≡_, refl, sym, ap, _∙_}
+use mathlib.Core.Bool.{true, false, true≢false}
+use borrow.Author.Tests.{eq-eqb, ne-eqb}
+use Rattle.rules.specs.declared.answers.Refusal.the-variants.{BadProgram}
+use Rattle.rules.specs.Answers.{refusalNumber}
+use Rattle.rules.specs.Got.{Got, refused, got}
+use Rattle.rules.specs.Check.{check}
+use Rattle.rules.specs.Newer.{newer}
+use Rattle.rules.specs.Program.{Program}
+use Rattle.program_test.specs.declared.test.Tested.{Tested}
+use Rattle.program_test.specs.Test.{TestedAs}
+use Rattle.pitvorgas_answers.specs.declared.CheckAnswer.{CheckAnswer}
+use Rattle.pitvorgas_answers.specs.declared.NewerAnswer.{NewerAnswer}
+use Rattle.pitvorgas.specs.Answers.{checkedOf, newerOf}
+use Rattle.io.specs.Counts.{Counts}
+use Rattle.text.specs.Text.{Bytes, Wrote}
+use Rattle.depot_refusals.specs.Refusals.{refusedText}
+use Rattle.depot_report.specs.Report.{newerText}
+use Rattle.depot_show.specs.Manifest.{partsText}
+use Rattle.depot_listing.specs.Listing.{programText}
+use Rattle.depot.specs.Printed.{shownOf, shownText, newestOf, newestText, listedOf}
+use Rattle.depot.proofs.PageLaws.{wrote-counts}
+
+-- what was written can be printed
+pub printed : {b b′ room : Bytes} {r : ℕ} {room′ : Bytes} → b ≡ b′ → Wrote b 0 room r room′ → Wrote b′ 0 room r room′ × Counts r room′
+printed e w = (rw e at w, wrote-counts w)
+
+module _ (s : Bytes) (a : CheckAnswer) (e : a ≡ checkedOf (check s)) where
+  pub shown-refused : (a .refusal ≡ 0 → ⊥) → refusedText (a .refusal) (a .place) s ≡ shownText s
+  unfolding shownOf
+  shown-refused n = rw (ne-eqb (a .refusal) 0 n) at (ap (λ (x : CheckAnswer). shownOf x s) e)
+
+  pub shown-parts : a .refusal ≡ 0 → partsText s (a .number) (a .components) (a .ids) (a .sections) ≡ shownText s
+  unfolding shownOf
+  shown-parts z = rw (eq-eqb (a .refusal) 0 z) at (ap (λ (x : CheckAnswer). shownOf x s) e)
+
+module _ (s t : Bytes) (a : NewerAnswer) (e : a ≡ newerOf (newer s t)) (c : CheckAnswer) where
+  pub newest-first : a .second ≡ 0 → c ≡ checkedOf (check s) → newerText a (c .number) ≡ newestText s t
+  unfolding newestOf
+  newest-first z f = rw f (rw (eq-eqb (a .second) 0 z) at (ap (λ (x : NewerAnswer). newestOf x s t) e))
+
+  pub newest-second : (a .second ≡ 0 → ⊥) → c ≡ checkedOf (check t) → newerText a (c .number) ≡ newestText s t
+  unfolding newestOf
+  newest-second n f = rw f (rw (ne-eqb (a .second) 0 n) at (ap (λ (x : NewerAnswer). newestOf x s t) e))
+
+module _ (s : Bytes) (t : Tested) where
+  pub listed-program : (g : Got Program) → TestedAs s g t → t .good ≡ true → programText s ≡ listedOf g s
+  unfolding listedOf
+  listed-program (refused r p) h e = absurd (true≢false (sym e ∙ ap (λ (x : Tested). x .good) h))
+  listed-program (got x) h e = refl
+
+  pub listed-refused : (g : Got Program) → TestedAs s g t → t .good ≡ false → refusedText (refusalNumber BadProgram) 0 s ≡ listedOf g s
+  unfolding listedOf
+  listed-refused (refused r p) h e = refl
+  listed-refused (got x) h e = absurd (true≢false (sym (ap (λ (x : Tested). x .good) (h .exact)) ∙ e))

@@ -1,0 +1,42 @@
+-- What is printed of files, by the jobs' answers.
+use Prim.Native.Nat.{ℕ}
+use mathlib.Core.Bool.{Bool, cond}
+use lib.Dec.{eqb}
+use Rattle.rules.specs.declared.answers.Refusal.the-variants.{BadProgram}
+use Rattle.rules.specs.Answers.{refusalNumber}
+use Rattle.rules.specs.Got.{Got, refused, got}
+use Rattle.rules.specs.Check.{check}
+use Rattle.rules.specs.Newer.{newer}
+use Rattle.rules.specs.Program.{Program}
+use Rattle.rules.specs.ProgramTest.{programIn}
+use Rattle.pitvorgas_answers.specs.declared.CheckAnswer.{CheckAnswer}
+use Rattle.pitvorgas_answers.specs.declared.NewerAnswer.{NewerAnswer}
+use Rattle.pitvorgas.specs.Answers.{checkedOf, newerOf}
+use Rattle.text.specs.Text.{Bytes}
+use Rattle.depot_refusals.specs.Refusals.{refusedText}
+use Rattle.depot_report.specs.Report.{newerText}
+use Rattle.depot_show.specs.Manifest.{partsText}
+use Rattle.depot_listing.specs.Listing.{programText}
+
+-- the manifest of an envelope, or its refusal
+unfoldable pub shownOf : CheckAnswer → Bytes → Bytes
+shownOf a s =
+    cond (eqb (a .refusal) 0) (partsText s (a .number) (a .components) (a .ids) (a .sections)) (refusedText (a .refusal) (a .place) s)
+
+abbrev pub shownText : Bytes → Bytes
+shownText s = shownOf (checkedOf (check s)) s
+
+-- which of two envelopes is newer, and its number
+unfoldable pub newestOf : NewerAnswer → Bytes → Bytes → Bytes
+newestOf a s t = newerText a (checkedOf (check (cond (eqb (a .second) 0) s t)) .number)
+
+abbrev pub newestText : Bytes → Bytes → Bytes
+newestText s t = newestOf (newerOf (newer s t)) s t
+
+-- the records of a program, or its refusal
+unfoldable pub listedOf : Got Program → Bytes → Bytes
+listedOf (refused r p) s = refusedText (refusalNumber BadProgram) 0 s
+listedOf (got x) s = programText s
+
+abbrev pub listedText : Bytes → Bytes
+listedText s = listedOf (programIn s) s
