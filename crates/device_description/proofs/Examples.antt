@@ -5,8 +5,8 @@ use mathlib.Core.List.{List, [], _∷_, _++_, map}
 use mathlib.Core.Bool.{true, false}
 use lib.ListN.{replicate}
 use Rattle.rules.specs.Bytes.{Bytes}
-use Rattle.text.specs.Text.{ascii}
-use Rattle.device_text.specs.Words.{until, lines, trim, word, rest, oneMore, numberFrom, number, digit, allDigits, unhex, bytes, isBytes, upToBytes}
+use Rattle.text.specs.Text.{ascii, position}
+use Rattle.device_text.specs.Words.{lines, trim, word, rest, oneMore, numberFrom, number, digit, allDigits, unhex, bytes, isBytes, upToBytes}
 use Rattle.device_slots.specs.SlotText.{isImage, image, isState, isSlot, identifier, slot, status, isAnswer, answer}
 use Rattle.device_description.specs.Scenario.{start, verdictLine, vendorLine, classLine, numberLine, eventLine, setting, Said, slotLine, answerLine, line, linesFrom, described}
 
@@ -17,7 +17,7 @@ text (l ∷ ls) = ascii l ++ (10 ∷ []) ++ text ls
 
 -- rooms for 2 slots and 1 answer
 unfoldable pub says : List String → Said
-unfolding until lines trim word rest oneMore numberFrom number digit allDigits unhex bytes isBytes upToBytes isImage image isState isSlot identifier
+unfolding position lines trim word rest oneMore numberFrom number digit allDigits unhex bytes isBytes upToBytes isImage image isState isSlot identifier
     slot status isAnswer answer start verdictLine vendorLine classLine numberLine eventLine setting slotLine answerLine line linesFrom described
 says ls = described 148 37 (text ls)
 

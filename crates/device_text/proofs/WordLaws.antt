@@ -4,36 +4,14 @@ use mathlib.Core.Path.{_≡_, refl, sym, _∙_}
 use mathlib.Core.List.{[], _∷_, _++_}
 use mathlib.Core.Bool.{Bool, true, false, cond}
 use lib.Dec.{eqb}
-use borrow.Author.Tests.{eq-eqb, ne-eqb, lt-ltb, le-ltb}
+use borrow.Author.Tests.{lt-ltb, le-ltb}
 use native.Mathlib.Omega.{arith}
 use native.Mathlib.Numerals.{add-one}
-use lib.ListN.{length, take, drop, getD, length-drop}
+use lib.ListN.{length, take, drop, getD, length-drop, drop-of-length-le}
 use lib.Seq.{drop-cons, drop-drop, drop-length, take-suc, take-all}
 use Rattle.rules.specs.Bytes.{Bytes}
-use Rattle.device_text.specs.Words.{until, before, after, rest, lines, lineFeed, blank, kept, trim, oneMore, numberFrom, digit, allDigits, pair, unhex}
-
--- past the end nothing is left
-pub drop-past : (s : Bytes) (i : ℕ) → length s ≤ i → drop i s ≡ []
-drop-past [] zero h = refl
-drop-past [] (suc i) h = refl
-drop-past (x ∷ s) zero h = absurd (more h)
-  where
-    more : suc (length s) ≤ 0 → ⊥
-    more e = omega arith
-drop-past (x ∷ s) (suc i) h = drop-past s i (omega arith)
-
-module _ (b : ℕ) (s : Bytes) (i : ℕ) where
-  pub until-stop : i < length s → getD s i 0 ≡ b → until b (drop i s) ≡ 0
-  unfolding until
-  until-stop h e = rw (drop-cons s i 0 h, eq-eqb (getD s i 0) b e)
-
-  pub until-next : i < length s → (getD s i 0 ≡ b → ⊥) → until b (drop i s) ≡ suc (until b (drop (i + 1) s))
-  unfolding until
-  until-next h e = rw (drop-cons s i 0 h, ne-eqb (getD s i 0) b e, add-one i)
-
-  pub until-end : length s ≤ i → until b (drop i s) ≡ 0
-  unfolding until
-  until-end h = rw (drop-past s i h)
+use Rattle.text.specs.Text.{position}
+use Rattle.device_text.specs.Words.{before, after, rest, lines, lineFeed, blank, kept, trim, oneMore, numberFrom, digit, allDigits, pair, unhex}
 
 trim-last : (s : Bytes) (x : ℕ) → trim (s ++ (x ∷ [])) ≡ cond (blank x) (trim s) (s ++ (x ∷ []))
 unfolding trim
@@ -69,7 +47,7 @@ module _ (s : Bytes) (i : ℕ) where
 
   pub number-end : (n : ℕ) → length s ≤ i → numberFrom n (drop i s) ≡ n
   unfolding numberFrom
-  number-end n h = rw (drop-past s i h)
+  number-end n h = rw (drop-of-length-le s h)
 
   pub digits-stop : i < length s → 16 ≤ digit (getD s i 0) → allDigits (drop i s) ≡ false
   unfolding allDigits
@@ -81,31 +59,31 @@ module _ (s : Bytes) (i : ℕ) where
 
   pub digits-end : length s ≤ i → allDigits (drop i s) ≡ true
   unfolding allDigits
-  digits-end h = rw (drop-past s i h)
+  digits-end h = rw (drop-of-length-le s h)
 
 -- all that is left behind a place
 pub left-all : (s : Bytes) (i : ℕ) → take (length s - i) (drop i s) ≡ drop i s
 left-all s i = take-all (length s - i) (drop i s) (rw (length-drop i s) (omega arith))
 
-module _ (s : Bytes) (n : ℕ) (e : n ≡ until 32 s) where
+module _ (s : Bytes) (n : ℕ) (e : n ≡ position 32 s) where
   pub rest-more : take (length s - (n + 1)) (drop (n + 1) s) ≡ rest s
   unfolding rest
   rest-more = left-all s (n + 1) ∙ rw (add-one n, e)
 
   pub rest-none : length s ≤ n → take (length s - n) (drop n s) ≡ rest s
   unfolding rest
-  rest-none h = left-all s n ∙ drop-past s n h ∙ sym (drop-past s (suc (until 32 s)) (omega arith))
+  rest-none h = left-all s n ∙ drop-of-length-le s h ∙ sym (drop-of-length-le s {i = suc (position 32 s)} (omega arith))
 
 pub unhex-next : (n : ℕ) (s : Bytes) → unhex n s ++ (pair (getD s (n * 2) 0) (getD s (n * 2 + 1) 0) ∷ []) ≡ unhex (n + 1) s
 unfolding unhex
 unhex-next n s = rw (add-one n)
 
 -- a line, and the place behind it
-pub line-of : (s t : Bytes) (at n m : ℕ) → t ≡ drop at s → n ≡ until lineFeed t → take m (take n t) ≡ trim (take n t) →
+pub line-of : (s t : Bytes) (at n m : ℕ) → t ≡ drop at s → n ≡ position lineFeed t → take m (take n t) ≡ trim (take n t) →
     take m (take n t) ≡ trim (before lineFeed (drop at s))
 line-of s t at n m e u h = h ∙ rw (u, e)
 
-module _ (s t : Bytes) (at n : ℕ) (e : t ≡ drop at s) (u : n ≡ until lineFeed t) where
+module _ (s t : Bytes) (at n : ℕ) (e : t ≡ drop at s) (u : n ≡ position lineFeed t) where
   pub behind-length : length t ≡ length s - at
   behind-length = rw (e, length-drop at s)
 
@@ -116,8 +94,8 @@ module _ (s t : Bytes) (at n : ℕ) (e : t ≡ drop at s) (u : n ≡ until lineF
 
   pub next-none : length t ≤ n → drop (length s) s ≡ after lineFeed (drop at s)
   next-none h =
-      let l : length (drop at s) ≤ suc (until lineFeed (drop at s)) = rw (u, e) at h2 in
-      drop-length s ∙ sym (drop-past (drop at s) (suc (until lineFeed (drop at s))) l)
+      let l : length (drop at s) ≤ suc (position lineFeed (drop at s)) = rw (u, e) at h2 in
+      drop-length s ∙ sym (drop-of-length-le (drop at s) l)
     where
       h2 : length t ≤ suc n
       h2 = omega arith
@@ -127,12 +105,12 @@ abbrev Cut : Bytes → Type 0
 Cut s = lines s ≡ before lineFeed s ∷ lines (after lineFeed s)
 
 cut-one : (x : ℕ) (b : Bool) → eqb x lineFeed ≡ b → Cut (x ∷ [])
-unfolding lines until
+unfolding lines position
 cut-one x true e = rw e
 cut-one x false e = rw e
 
 cut-more : (x : ℕ) (s : Bytes) (b : Bool) → eqb x lineFeed ≡ b → Cut s → Cut (x ∷ s)
-unfolding lines until
+unfolding lines position
 cut-more x s true e h = rw e
 cut-more x s false e h = rw (e, h)
 
@@ -145,4 +123,4 @@ lines-next s at h = rw (drop-cons s at 0 h) (cut (getD s at 0) (drop (suc at) s)
 
 pub lines-end : (s : Bytes) (at : ℕ) → length s ≤ at → lines (drop at s) ≡ []
 unfolding lines
-lines-end s at h = rw (drop-past s at h)
+lines-end s at h = rw (drop-of-length-le s h)

@@ -6,18 +6,14 @@ use lib.Dec.{eqb, ltb, leb}
 use lib.ListN.{length, take, drop, getD}
 use Rattle.rules.specs.Bytes.{Bytes}
 use Rattle.rules.specs.Limits.{limits}
-
--- where b first stands in s; the length of s, if it does not
-unfoldable pub until : ℕ → Bytes → ℕ
-until b [] = 0
-until b (x ∷ s) = cond (eqb x b) 0 (suc (until b s))
+use Rattle.text.specs.Text.{position}
 
 -- the bytes before the first b, and those after it
 abbrev pub before : ℕ → Bytes → Bytes
-before b s = take (until b s) s
+before b s = take (position b s) s
 
 abbrev pub after : ℕ → Bytes → Bytes
-after b s = drop (suc (until b s)) s
+after b s = drop (suc (position b s)) s
 
 -- a line ends at a line feed, or where the text ends
 abbrev pub lineFeed : ℕ

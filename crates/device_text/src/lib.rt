@@ -6,6 +6,7 @@ ghost use Rattle.rules.specs.Lent.{was};
 ghost use Rattle.rules.specs.Bytes.{same};
 ghost use Rattle.device_text.specs.Words as Words;
 use byte_buffer::equal;
+use text::position;
 
 pub mod line;
 pub mod read;
@@ -14,32 +15,21 @@ const SPACE: u8 = 32;
 
 const RETURN: u8 = 13;
 
-// Where b first stands in s; the length of s, if it does not.
-pub(crate) fn until(s: &[u8], b: u8) -> usize
-    ensures { λ r. ⌜ (r ≡ Words.until b (was s)) × (r ≤ length (was s)) ⌝ }
-{
-    let mut i = 0;
-    while i < s.len() {
-        if s[i] == b {
-            return i;
-        }
-        i += 1;
-    }
-    i
-}
+// What stands behind a word.
+const WORD_END: usize = SPACE as usize;
 
 // The first word, and what stands behind it.
 pub fn word(s: &[u8]) -> &[u8]
     ensures { λ r. ⌜ now r ≡ Words.word (was s) ⌝ }
 {
-    let n = until(s, SPACE);
+    let n = position(s, WORD_END);
     &s[..n]
 }
 
 pub fn rest(s: &[u8]) -> &[u8]
     ensures { λ r. ⌜ now r ≡ Words.rest (was s) ⌝ }
 {
-    let n = until(s, SPACE);
+    let n = position(s, WORD_END);
     if n < s.len() {
         let from = n + 1;
         return &s[from..];

@@ -5,9 +5,9 @@ ghost use lib.ListN.{length, drop};
 ghost use Rattle.rules.specs.Lent.{was};
 ghost use Rattle.device_text.specs.Words as Words;
 use crate::trimmed;
-use crate::until;
+use text::position;
 
-const LINE_FEED: u8 = 10;
+const LINE_FEED: usize = 10;
 
 fn behind(text: &[u8], at: usize) -> &[u8]
     ensures { λ r. ⌜ now r ≡ drop at (was text) ⌝ }
@@ -24,7 +24,7 @@ pub fn line_at(text: &[u8], at: usize) -> &[u8]
     ensures { λ r. ⌜ now r ≡ Words.trim (Words.before Words.lineFeed (drop at (was text))) ⌝ }
 {
     let t = behind(text, at);
-    let n = until(t, LINE_FEED);
+    let n = position(t, LINE_FEED);
     let line = &t[..n];
     let m = trimmed(line);
     &line[..m]
@@ -35,7 +35,7 @@ pub fn next_line(text: &[u8], at: usize) -> usize
     ensures { λ r. ⌜ (drop r (was text) ≡ Words.after Words.lineFeed (drop at (was text))) × (r ≤ length (was text)) × (at < length (was text) → at < r) ⌝ }
 {
     let t = behind(text, at);
-    let n = until(t, LINE_FEED);
+    let n = position(t, LINE_FEED);
     if n < t.len() {
         return at + n + 1;
     }

@@ -1,33 +1,24 @@
--- What is written one after the other.
+-- What is written one after the other, and where a number first stands.
 use Prim.Native.Nat.{ℕ, zero, suc, _+_, _-_, _/_, _%_, _≤_, _<_}
 use mathlib.Core.Path.{_≡_, refl, sym, ap, _∙_}
 use mathlib.Core.List.{[], _∷_, _++_}
 use mathlib.Core.Bool.{Bool, true, false, cond}
 use lib.Dec.{leb, ltb}
-use borrow.Author.Tests.{leb-true, leb-false, lt-ltb, le-ltb}
+use borrow.Author.Tests.{leb-true, leb-false, lt-ltb, le-ltb, eq-eqb, ne-eqb}
 use native.Mathlib.Omega.{arith}
 use native.Mathlib.Nat.{add-zero, add-suc, suc-add}
 use native.Mathlib.Numerals.{add-one}
-use lib.ListN.{length, set, take, getD, length-append, replicate}
-use lib.Seq.{sets, length-sets, take-suc, take-all}
-use Rattle.text.specs.Text.{Bytes, Wrote, least, digit, digits, hex}
+use lib.ListN.{length, set, take, drop, getD, length-append, replicate, drop-of-length-le}
+use lib.Seq.{sets, set-out, length-sets, take-suc, take-all, drop-cons}
+use Rattle.text.specs.Text.{Bytes, Wrote, least, position, digit, digits, hex}
 
 pub sets-append : (r : Bytes) (i : ℕ) (a b : Bytes) → sets (sets r i a) (i + length a) b ≡ sets r i (a ++ b)
 sets-append r i [] b = rw (add-zero i)
 sets-append r i (x ∷ a) b = rw (add-suc i (length a), ← suc-add i (length a)) (sets-append (set r i x) (suc i) a b)
 
--- a store past the end does nothing
-set-past : (r : Bytes) (i x : ℕ) → length r ≤ i → set r i x ≡ r
-set-past [] i x h = refl
-set-past (y ∷ r) zero x h = absurd (none h)
-  where
-    none : suc (length r) ≤ 0 → ⊥
-    none e = omega arith
-set-past (y ∷ r) (suc i) x h = ap (λ (l : Bytes). y ∷ l) (set-past r i x (omega arith))
-
 pub sets-past : (r : Bytes) (i : ℕ) (a : Bytes) → length r ≤ i → sets r i a ≡ r
 sets-past r i [] h = refl
-sets-past r i (x ∷ a) h = rw (set-past r i x h) (sets-past r (suc i) a (omega arith))
+sets-past r i (x ∷ a) h = rw (set-out r i x h) (sets-past r (suc i) a (omega arith))
 
 pub wrote-none : (at : ℕ) (room : Bytes) → Wrote [] at room at room
 wrote-none at room = record { filled = refl; next = omega arith }
@@ -127,3 +118,16 @@ few-digits (suc k) n = go (ltb n 10) (few-digits k (n / 10))
     go : (t : Bool) → length (digits k (n / 10)) ≤ k → length (cond t (digit n ∷ []) (digits k (n / 10) ++ (digit (n % 10) ∷ []))) ≤ suc k
     go true h = omega arith
     go false h = rw (length-append (digits k (n / 10)) (digit (n % 10) ∷ [])) (omega arith)
+
+module _ (s : Bytes) (i n : ℕ) where
+  pub position-here : i < length s → getD s i 0 ≡ n → position n s ≡ i + position n (drop i s) → i ≡ position n s
+  unfolding position
+  position-here h e q = sym (q ∙ (rw (drop-cons s i 0 h, eq-eqb (getD s i 0) n e) (omega arith)))
+
+  pub position-next : i < length s → (getD s i 0 ≡ n → ⊥) → position n s ≡ i + position n (drop i s) → position n s ≡ i + 1 + position n (drop (i + 1) s)
+  unfolding position
+  position-next h e q = q ∙ (rw (drop-cons s i 0 h, ne-eqb (getD s i 0) n e, add-one i) (omega arith))
+
+  pub position-none : length s ≤ i → position n s ≡ i + position n (drop i s) → i ≡ position n s
+  unfolding position
+  position-none h q = sym (q ∙ (rw (drop-of-length-le s h) (omega arith)))

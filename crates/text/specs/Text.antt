@@ -5,7 +5,7 @@ use Prim.Native.String.{String, [] as []ᵗ, _∷_ as _∷ᵗ_}
 use mathlib.Core.Path.{_≡_}
 use mathlib.Core.Bool.{cond}
 use mathlib.Core.List.{[], _∷_, _++_, map}
-use lib.Dec.{ltb}
+use lib.Dec.{eqb, ltb}
 use lib.ListN.{length, replicate}
 use lib.Seq.{sets}
 use Rattle.rules.specs.Lent.{Lent, was, left}
@@ -18,6 +18,14 @@ ascii (c ∷ᵗ s) = code c ∷ ascii s
 
 abbrev pub least : ℕ → ℕ → ℕ
 least a b = a - (a - b)
+
+abbrev pub newline : Bytes
+newline = 10 ∷ []
+
+-- the first place of a number, or the length where it does not stand
+unfoldable pub position : ℕ → Bytes → ℕ
+position n [] = 0
+position n (b ∷ s) = cond (eqb b n) 0 (suc (position n s))
 
 -- the bytes b were written over those of the room from `at` on, as many as it has space for; r is the place after them
 pub record Wrote (b : Bytes) (at : ℕ) (room : Bytes) (r : ℕ) (room′ : Bytes) : Type 0 where

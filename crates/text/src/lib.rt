@@ -1,11 +1,11 @@
 // Text in lent room. Each function writes from `at` on, as far as the room goes, and gives the place after what it wrote.
 ghost use mathlib.Core.Path.{_≡_};
 ghost use mathlib.Core.List.{[], _∷_, map};
-ghost use Prim.Native.Nat.{_<_};
+ghost use Prim.Native.Nat.{_<_, _≤_};
 ghost use lib.ListN.{length, replicate};
 ghost use Rattle.rules.specs.Lent.{was};
 ghost use Rattle.text.specs.Text.{Writes, decimal, padded, hex, quoted};
-ghost use Rattle.text.specs.Text.{digits as Text·digits, digit as Text·digit, least as Text·least, printable as Text·printable};
+ghost use Rattle.text.specs.Text.{digits as Text·digits, digit as Text·digit, least as Text·least, printable as Text·printable, position as Text·position};
 
 // A decimal number of 64 bits.
 const DIGITS: usize = 20;
@@ -24,6 +24,20 @@ pub fn least(a: usize, b: usize) -> usize
         return a;
     }
     b
+}
+
+// The first place of a number, or the length.
+pub fn position(s: &[u8], n: usize) -> usize
+    ensures { λ r. ⌜ (r ≡ Text·position n (was s)) × (r ≤ length (was s)) ⌝ }
+{
+    let mut i = 0;
+    while i < s.len() {
+        if s[i] as usize == n {
+            return i;
+        }
+        i += 1;
+    }
+    i
 }
 
 pub fn put_byte(room: &mut [u8], at: usize, b: u8) -> usize

@@ -1,7 +1,7 @@
 -- The word of a number, found in the two lists of its table.
 use Prim.Native.Nat.{ℕ, zero, suc, _+_, _-_, _≤_, _<_}
 use mathlib.Core.Path.{_≡_, refl, sym, ap, _∙_}
-use mathlib.Core.Bool.{Bool, true, false, cond}
+use mathlib.Core.Bool.{Bool, true, false, cond, false≢true}
 use mathlib.Core.List.{List, [], _∷_, _++_, append-nil, append-assoc}
 use lib.Dec.{eqb}
 use lib.ListN.{length, take, drop, getD, length-drop, drop-of-length-le}
@@ -9,23 +9,11 @@ use lib.Seq.{take-all, take-suc, drop-cons}
 use native.Mathlib.Omega.{arith}
 use native.Mathlib.Numerals.{add-one}
 use borrow.Author.Tests.{eq-eqb, ne-eqb}
-use Rattle.text.specs.Text.{Bytes, Wrote}
+use Rattle.text.specs.Text.{Bytes, Wrote, position}
 use Rattle.text_names.specs.Words.{wide}
-use Rattle.text_names.specs.Rows.{Row, wordOf, numbers, words, position, before, after, barless, plain}
+use Rattle.text_names.specs.Rows.{Row, wordOf, numbers, words, before, after, barless, plain}
 
 module _ (s : Bytes) (i : ℕ) where
-  pub position-here : (n : ℕ) → i < length s → getD s i 0 ≡ n → position n s ≡ i + position n (drop i s) → i ≡ position n s
-  unfolding position
-  position-here n h e q = sym (q ∙ (rw (drop-cons s i 0 h, eq-eqb (getD s i 0) n e) (omega arith)))
-
-  pub position-next : (n : ℕ) → i < length s → (getD s i 0 ≡ n → ⊥) → position n s ≡ i + position n (drop i s) → position n s ≡ i + 1 + position n (drop (i + 1) s)
-  unfolding position
-  position-next n h e q = q ∙ (rw (drop-cons s i 0 h, ne-eqb (getD s i 0) n e, add-one i) (omega arith))
-
-  pub position-none : (n : ℕ) → length s ≤ i → position n s ≡ i + position n (drop i s) → i ≡ position n s
-  unfolding position
-  position-none n h q = sym (q ∙ (rw (drop-of-length-le s h) (omega arith)))
-
   pub before-here : i < length s → getD s i 0 ≡ 124 → before s ≡ take i s ++ before (drop i s) → take i s ≡ before s
   unfolding before
   before-here h e q = sym (q ∙ (rw (drop-cons s i 0 h, eq-eqb (getD s i 0) 124 e) (append-nil (take i s))))
@@ -70,16 +58,13 @@ word-part s k from to e q =
     let whole : take (length s - from) (drop from s) ≡ drop from s = take-all (length s - from) (drop from s) (rw (length-drop from s) (omega arith)) in
     rw none (q ∙ ap before (whole ∙ e))
 
-not-false : false ≡ true → ⊥
-not-false e = let z : _≡_ {A = ℕ} 0 1 = cc in omega arith
-
 first-word : (w t : Bytes) → barless w ≡ true → before (w ++ (124 ∷ t)) ≡ w
 unfolding before barless
 first-word [] t e = refl
 first-word (b ∷ w) t e = go (eqb b 124) (first-word w t) e
   where
     go : (x : Bool) → (barless w ≡ true → before (w ++ (124 ∷ t)) ≡ w) → cond x false (barless w) ≡ true → cond x [] (b ∷ before (w ++ (124 ∷ t))) ≡ b ∷ w
-    go true h f = absurd (not-false f)
+    go true h f = absurd (false≢true f)
     go false h f = rw (h f)
 
 past-word : (k : ℕ) (w t : Bytes) → barless w ≡ true → after (suc k) (w ++ (124 ∷ t)) ≡ after k t
@@ -89,7 +74,7 @@ past-word k (b ∷ w) t e = go (eqb b 124) (past-word k w t) e
   where
     go : (x : Bool) → (barless w ≡ true → after (suc k) (w ++ (124 ∷ t)) ≡ after k t) → cond x false (barless w) ≡ true →
         cond x (after k (w ++ (124 ∷ t))) (after (suc k) (w ++ (124 ∷ t))) ≡ after k t
-    go true h f = absurd (not-false f)
+    go true h f = absurd (false≢true f)
     go false h f = h f
 
 -- what the two lists of a table give is its word
@@ -106,7 +91,7 @@ word-of n (r ∷ rs) e = go (barless (r .word)) refl (word-of n rs) e
     go : (y : Bool) → barless (r .word) ≡ y → (plain rs ≡ true → before (after (position n (numbers rs)) (words rs)) ≡ wordOf n rs) → cond y (plain rs) false ≡ true →
         before (after (cond (eqb (r .number) n) 0 (suc (position n (numbers rs)))) (r .word ++ (124 ∷ words rs))) ≡ cond (eqb (r .number) n) (r .word) (wordOf n rs)
     go true f h g = by f (h g) (eqb (r .number) n)
-    go false f h g = absurd (not-false g)
+    go false f h g = absurd (false≢true g)
 
 pub wide-none : (w : Bytes) → wide 0 w ≡ w
 unfolding wide

@@ -27,11 +27,6 @@ unfoldable pub words : List Row → Bytes
 words [] = ascii "unknown"
 words (r ∷ rs) = r .word ++ (124 ∷ words rs)
 
--- the first place of a number, or the length where it does not stand
-unfoldable pub position : ℕ → Bytes → ℕ
-position n [] = 0
-position n (b ∷ s) = cond (eqb b n) 0 (suc (position n s))
-
 -- what stands before the first bar, and after it
 unfoldable pub before : Bytes → Bytes
 before [] = []

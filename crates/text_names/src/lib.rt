@@ -5,14 +5,15 @@ ghost use lib.ListN.{length, take, drop};
 ghost use Rattle.rules.specs.Lent.{was};
 ghost use Rattle.rules.specs.Limits.{sectionCount};
 ghost use Rattle.text.specs.Text.{Writes};
+ghost use Rattle.text.specs.Text.{position as Text·position};
 ghost use Rattle.text_names.specs.Rows.{before, after};
-ghost use Rattle.text_names.specs.Rows.{position as Rows·position};
 ghost use Rattle.text_names.specs.Words.{wide, commandWords, parameterWords, sectionKey, sectionWords, refusalWords, endWords, resultWords};
 use rules::answers::End;
 use rules::answers::Failure;
 use rules::answers::Refusal;
 use rules::codes;
 use rules::program_format;
+use text::position;
 use text::put;
 use text::put_spaces;
 
@@ -93,7 +94,7 @@ const ENDS: [u8; 10] = [
 ];
 
 // A word, and spaces up to a width.
-pub(crate) fn put_wide(room: &mut [u8], at: usize, word: &[u8], width: usize) -> usize
+fn put_wide(room: &mut [u8], at: usize, word: &[u8], width: usize) -> usize
     ensures { λ r. ⌜ Writes (wide width (was word)) at room r ⌝ }
 {
     let to = put(room, at, word);
@@ -102,20 +103,6 @@ pub(crate) fn put_wide(room: &mut [u8], at: usize, word: &[u8], width: usize) ->
         return to;
     }
     put_spaces(room, to, width - count)
-}
-
-// The first place of a number, or the length.
-fn position(s: &[u8], n: usize) -> usize
-    ensures { λ r. ⌜ r ≡ Rows·position n (was s) ⌝ }
-{
-    let mut i = 0;
-    while i < s.len() {
-        if s[i] as usize == n {
-            return i;
-        }
-        i += 1;
-    }
-    i
 }
 
 // The place after k bars.
@@ -159,7 +146,7 @@ fn put_word(
     n: usize,
     width: usize,
 ) -> usize
-    ensures { λ r. ⌜ Writes (wide width (before (after (Rows·position n (was numbers)) (was words)))) at room r ⌝ }
+    ensures { λ r. ⌜ Writes (wide width (before (after (Text·position n (was numbers)) (was words)))) at room r ⌝ }
 {
     let from = skip(words, position(numbers, n));
     let rest = &words[from..];

@@ -10,7 +10,7 @@ returns c =
     let skip = bar .before .before in
     let position = skip .before in
     let words = position .before .before .before .before .args .words .now in
-    rw (← position .position .ensures, ← word-part words (position .position .result) (skip .skip .result) (bar .bar .result) (skip .skip .ensures .1) (bar .bar .ensures .1))
+    rw (← position .position .ensures .0, ← word-part words (position .position .result) (skip .skip .result) (bar .bar .result) (skip .skip .ensures .1) (bar .bar .ensures .1))
     (put .put-wide .ensures)
 
 pub put-word-spec : {M : Type 1} → statement M

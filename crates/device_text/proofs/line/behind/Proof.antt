@@ -1,8 +1,8 @@
 use mathlib.Core.Path.{sym, _∙_}
 use native.Mathlib.Omega.{arith}
 use borrow.Author.Needs.{needs}
-use lib.ListN.{length}
-use Rattle.device_text.proofs.WordLaws.{drop-past, left-all}
+use lib.ListN.{length, drop-of-length-le}
+use Rattle.device_text.proofs.WordLaws.{left-all}
 use Rattle.device_text.proofs.line.behind.Statement.{statement}
 use Rattle.device_text.proofs.line.behind.Tie as tie
 
@@ -12,7 +12,7 @@ returns c = left-all (c .before .before .args .text .now) (c .before .before .ar
 returns-2 : tie.Need-returns-2
 returns-2 c =
     let a = c .before .before .args in
-    left-all (a .text .now) (length (a .text .now)) ∙ drop-past (a .text .now) (length (a .text .now)) (omega arith) ∙ sym (drop-past (a .text .now) (a .at) (omega arith))
+    left-all (a .text .now) (length (a .text .now)) ∙ drop-of-length-le (a .text .now) {i = length (a .text .now)} (omega arith) ∙ sym (drop-of-length-le (a .text .now) {i = a .at} (omega arith))
 
 pub behind-spec : {M : Type 1} → statement M
 behind-spec =

@@ -6,7 +6,7 @@ use Rattle.device_text.proofs.line.line_at.Statement.{statement}
 use Rattle.device_text.proofs.line.line_at.Tie as tie
 
 slice-aggregate-line : tie.Need-slice-aggregate-line
-slice-aggregate-line c = sym (length-take-le (c .before .until .result) (c .before .before .behind .result .now) (c .before .until .ensures .1))
+slice-aggregate-line c = sym (length-take-le (c .before .position .result) (c .before .before .behind .result .now) (c .before .position .ensures .1))
 
 slice-aggregate-result : tie.Need-slice-aggregate-result
 slice-aggregate-result c = sym (length-take-le _ _ (c .before .trimmed .ensures .0))
@@ -15,7 +15,7 @@ returns : tie.Need-returns
 returns c =
     let a = c .before .before .before .before .before .before .args in
     let b = c .before .before .before .before .behind in
-    let u = c .before .before .before .until in
+    let u = c .before .before .before .position in
     line-of (a .text .now) (b .result .now) (a .at) (u .result) (c .before .trimmed .result) (b .ensures) (u .ensures .0) (c .before .trimmed .ensures .1)
 
 pub line-at-spec : {M : Type 1} → statement M

@@ -11,21 +11,21 @@ add-result : tie.Need-add-result
 add-result c =
     let a = c .before .before .before .before .args in
     let b = c .before .before .behind in
-    let u = c .before .until in
+    let u = c .before .position in
     omega (arith, behind-length (a .text .now) (b .result .now) (a .at) (u .result) (b .ensures) (u .ensures .0))
 
 add-result-2 : tie.Need-add-result-2
 add-result-2 c =
     let a = c .before .before .before .before .args in
     let b = c .before .before .behind in
-    let u = c .before .until in
+    let u = c .before .position in
     omega (arith, behind-length (a .text .now) (b .result .now) (a .at) (u .result) (b .ensures) (u .ensures .0))
 
 returns : tie.Need-returns
 returns c =
     let a = c .before .before .before .before .args in
     let b = c .before .before .behind in
-    let u = c .before .until in
+    let u = c .before .position in
     let l : length (b .result .now) ≡ length (a .text .now) - a .at = behind-length (a .text .now) (b .result .now) (a .at) (u .result) (b .ensures) (u .ensures .0) in
     (next-more (a .text .now) (b .result .now) (a .at) (u .result) (b .ensures) (u .ensures .0), omega arith, λ h. omega arith)
 
@@ -33,7 +33,7 @@ returns-2 : tie.Need-returns-2
 returns-2 c =
     let a = c .before .before .before .before .args in
     let b = c .before .before .behind in
-    let u = c .before .until in
+    let u = c .before .position in
     (next-none (a .text .now) (b .result .now) (a .at) (u .result) (b .ensures) (u .ensures .0) (omega arith), omega arith, λ h. h)
 
 pub next-line-spec : {M : Type 1} → statement M

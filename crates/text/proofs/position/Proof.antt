@@ -3,10 +3,10 @@ use mathlib.Core.Path.{_≡_}
 use native.Mathlib.Omega.{arith}
 use borrow.Author.Needs.{needs}
 use lib.ListN.{length, drop}
-use Rattle.text_names.specs.Rows.{position}
-use Rattle.text_names.proofs.RowLaws.{position-here, position-next, position-none}
-use Rattle.text_names.proofs.position.Statement.{statement}
-use Rattle.text_names.proofs.position.Tie as tie
+use Rattle.text.specs.Text.{position}
+use Rattle.text.proofs.TextLaws.{position-here, position-next, position-none}
+use Rattle.text.proofs.position.Statement.{statement}
+use Rattle.text.proofs.position.Tie as tie
 
 abbrev Inv-loop : tie.InvT-loop
 Inv-loop s n i₀ i = (i ≤ length s) × (position n s ≡ i + position n (drop i s))
@@ -23,7 +23,7 @@ cast-if1 c = omega (arith, c .shared-slice-known .given (c .before .before .loop
 returns : tie.Need-returns Inv-loop μ-loop
 returns c =
     let l = c .before .before .before in
-    position-here _ (l .loop .i) _ (search needs) (c .if1 .taken) (l .loop .inv .1)
+    (position-here _ (l .loop .i) _ (search needs) (c .if1 .taken) (l .loop .inv .1), l .loop .inv .0)
 
 loop-again : tie.Need-loop-again Inv-loop μ-loop
 loop-again c =
@@ -31,7 +31,7 @@ loop-again c =
     (search needs, position-next _ (l .loop .i) _ (search needs) (c .if1 .left) (l .loop .inv .1))
 
 returns-2 : tie.Need-returns-2 Inv-loop μ-loop
-returns-2 c = position-none _ (c .before .loop .i) _ (search needs) (c .before .loop .inv .1)
+returns-2 c = (position-none _ (c .before .loop .i) _ (search needs) (c .before .loop .inv .1), c .before .loop .inv .0)
 
 pub position-spec : {M : Type 1} → statement M
 position-spec =
