@@ -11,7 +11,7 @@ use mathlib.Core.List.{_++_}
 use mathlib.Core.Bool.{Bool, true, false, cond}
 use lib.Dec.{eqb, ltb}
 use lib.ListN.{length, getD, take, drop, replicate}
-use Rattle.text.specs.Text.{ascii}
+use Rattle.text.specs.Text.{ascii, newline}
 use Rattle.rules.specs.Bytes.{Bytes, twoAt}
 use Rattle.rules.specs.Got.{Got}
 use Rattle.rules.specs.Check as Check
@@ -23,7 +23,7 @@ use Rattle.run_admission.specs.Answer.{inputOf, slotsAfter, traceAfter}
 use Rattle.pitvorgas_answers.specs.Inputs.{controllerOf, groupOf}
 use Rattle.pitvorgas.specs.Answers.{checkedOf, newerOf, translatedOf, roomAfter, ranOf}
 use Rattle.conformance_cases.specs.Fields.{groupFrom, verdictFrom, traceFrom, fillFrom, runHead, isSet, stringEnd, deviceOf}
-use Rattle.conformance_lines.specs.Lines.{newline, checkedText, newerText}
+use Rattle.conformance_lines.specs.Lines.{checkedText, newerText}
 use Rattle.conformance_cases.specs.Lent.{roomFill, translationLine, ranLine}
 
 unfoldable pub malformedText : Bytes

@@ -4,11 +4,11 @@ use mathlib.Core.List.{[], _∷_, _++_}
 use mathlib.Core.Bool.{Bool, true, _&&_, _||_, cond}
 use lib.Dec.{eqb}
 use lib.ListN.{drop}
-use Rattle.text.specs.Text.{ascii}
+use Rattle.text.specs.Text.{ascii, newline}
 use Rattle.rules.specs.Bytes.{Bytes, same}
 use Rattle.pitvorgas_answers.specs.declared.TranslateAnswer.{TranslateAnswer}
 use Rattle.pitvorgas_answers.specs.declared.RunAnswer.{RunAnswer}
-use Rattle.conformance_lines.specs.Lines.{newline, programEnd, eventsEnd, translatedText, ranText}
+use Rattle.conformance_lines.specs.Lines.{programEnd, eventsEnd, translatedText, ranText}
 
 -- every byte is x
 abbrev pub allAre : ℕ → Bytes → Bool

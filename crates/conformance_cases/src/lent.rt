@@ -35,7 +35,7 @@ pub(crate) fn fill(b: &mut [u8], x: u8)
 }
 
 // Whether every byte from `at` on is x.
-pub(crate) fn all_are(b: &[u8], at: usize, x: u8) -> bool
+fn all_are(b: &[u8], at: usize, x: u8) -> bool
     ensures { λ r. ⌜ r ≡ allAre x (drop at (was b)) ⌝ }
 {
     let mut i = at;
@@ -48,7 +48,7 @@ pub(crate) fn all_are(b: &[u8], at: usize, x: u8) -> bool
     true
 }
 
-pub(crate) fn same(a: &[u8], b: &[u8]) -> bool
+fn same(a: &[u8], b: &[u8]) -> bool
     ensures { λ r. ⌜ r ≡ Bytes·same (was a) (was b) ⌝ }
 {
     if a.len() != b.len() {

@@ -3,13 +3,13 @@ use Prim.Native.Nat.{ℕ, _+_, _-_, _*_, _≤_, _<_}
 use mathlib.Core.Path.{_≡_, refl, sym}
 use mathlib.Core.Bool.{Bool, true, false}
 use native.Mathlib.Omega.{arith}
-use native.Mathlib.Numerals.{add-one}
 use lib.Dec.{leb}
 use borrow.Author.Tests.{leb-true, leb-false}
 use lib.ListN.{getD, take, drop, length-take}
 use lib.Seq.{take-take, take-all}
 use Rattle.text.specs.Text.{Wrote, least}
-use Rattle.text.proofs.TextLaws.{wrote-none, wrote-then}
+use Rattle.text.proofs.TextLaws.{wrote-then}
+use Rattle.text_pieces.proofs.PieceLaws.{lines-none, lines-next}
 use Rattle.rules.specs.Bytes.{Bytes}
 use Rattle.rules.specs.Limits.{limits}
 use Rattle.rules.specs.Slots.{slotBytes, idFrom, imageFrom, digestFrom, slotAt}
@@ -18,12 +18,12 @@ use Rattle.conformance_lines.specs.Lines.{nameText, imageText, slotsText
 module _ (b : Bytes) (at : ℕ) (room : Bytes) where
   pub slots-none : Wrote (slotsText b 0) at room at room
   unfolding slotsText
-  slots-none = wrote-none at room
+  slots-none = lines-none _ at room
 
   pub slots-next : (k : ℕ) {p : ℕ} {room₁ : Bytes} {q : ℕ} {room₂ : Bytes} {r : ℕ} {room₃ : Bytes} → Wrote (slotsText b k) at room p room₁ →
       Wrote (nameText b k) p room₁ q room₂ → Wrote (imageText b k) q room₂ r room₃ → Wrote (slotsText b (k + 1)) at room r room₃
   unfolding slotsText
-  slots-next k f g h = rw (add-one k) (wrote-then f (wrote-then g h))
+  slots-next k f g h = lines-next _ k f (wrote-then g h)
 
 take-least : (m n : ℕ) (l : Bytes) → take m (take n l) ≡ take (least m n) l
 take-least m n l = go (leb m n) refl

@@ -1,10 +1,10 @@
 -- The line of an answer.
-use Prim.Native.Nat.{ℕ, zero, suc, _+_, _*_, _/_}
+use Prim.Native.Nat.{ℕ, _+_, _*_, _/_}
 use mathlib.Core.List.{[], _∷_, _++_}
 use mathlib.Core.Bool.{cond}
 use lib.Dec.{eqb}
 use lib.ListN.{length, getD, take}
-use Rattle.text.specs.Text.{Bytes, ascii, least, hex}
+use Rattle.text.specs.Text.{Bytes, ascii, newline, least, hex}
 use Rattle.text_pieces.specs.Pieces.{lines}
 use Rattle.rules.specs.Bytes.{spanAt}
 use Rattle.rules.specs.Limits.{limits}
@@ -15,9 +15,6 @@ use Rattle.pitvorgas_answers.specs.declared.NewerAnswer.{NewerAnswer}
 use Rattle.pitvorgas_answers.specs.declared.TranslateAnswer.{TranslateAnswer}
 use Rattle.pitvorgas_answers.specs.declared.RunAnswer.{RunAnswer}
 use Rattle.conformance_lines.specs.Format.{format}
-
-abbrev pub newline : Bytes
-newline = 10 ∷ []
 
 unfoldable pub refusedText : ℕ → ℕ → Bytes
 refusedText number place = format (ascii "refused % %" ++ newline) (number ∷ place ∷ [])
@@ -77,8 +74,7 @@ imageText b k =
 
 -- the first n slots
 unfoldable pub slotsText : Bytes → ℕ → Bytes
-slotsText b zero = []
-slotsText b (suc k) = slotsText b k ++ (nameText b k ++ imageText b k)
+slotsText b n = lines (λ k. nameText b k ++ imageText b k) n
 
 -- where the events end in the trace
 abbrev pub eventsEnd : ℕ → Bytes → ℕ

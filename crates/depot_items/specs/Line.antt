@@ -7,13 +7,10 @@ use lib.ListN.{length, replicate}
 use Rattle.rules.specs.Bytes.{Bytes, part}
 use Rattle.rules.specs.Limits.{limits}
 use Rattle.rules.specs.Cbor.{NUMBER, BYTES, TEXT, ARRAY, MAP, FALSE, TRUE, NIL}
-use Rattle.text.specs.Text.{ascii, decimal, padded, hex, quoted}
+use Rattle.text.specs.Text.{ascii, newline, decimal, padded, hex, quoted}
 use Rattle.text_pieces.specs.Pieces.{labelled, counted, coded}
 use Rattle.text_names.specs.Words.{commandWords, parameterWords}
 use Rattle.depot_items.specs.declared.Item.{Item}
-
-abbrev pub newline : Bytes
-newline = 10 ∷ []
 
 -- what stands for an item that is not there
 abbrev pub mark : Bytes

@@ -8,7 +8,7 @@ use Rattle.rules.specs.Limits.{limits}
 use Rattle.rules.specs.Slots.{slotBytes, idFrom, imageFrom, digestFrom, slotAt}
 use Rattle.text.specs.Text.{Bytes, ascii, hex, least}
 use Rattle.text_names.specs.Words.{endWords}
-use Rattle.text_pieces.specs.Pieces.{part, labelled, counted, lines}
+use Rattle.text_pieces.specs.Pieces.{between, labelled, counted, lines}
 use Rattle.depot_refusals.specs.Refusals.{refusedText}
 use Rattle.depot_events.specs.Events.{eventsText}
 use Rattle.pitvorgas_answers.specs.declared.RunAnswer.{RunAnswer}
@@ -24,7 +24,7 @@ ranText a = endText (a .end) (a .place) ++ countsText (a .events) (a .used) ++ l
 
 -- the identifier of the slot at p
 unfoldable pub nameText : Bytes → ℕ → Bytes
-nameText s p = ascii "  " ++ hex (part s (p + idFrom) (p + idFrom + least (getD s p 0) (limits .identifier)))
+nameText s p = ascii "  " ++ hex (between s (p + idFrom) (p + idFrom + least (getD s p 0) (limits .identifier)))
 
 abbrev pub presentText : ℕ → Bytes
 presentText present = cond (eqb present 0) (ascii "  absent ") (ascii "  present")
@@ -33,7 +33,7 @@ presentText present = cond (eqb present 0) (ascii "  absent ") (ascii "  present
 unfoldable pub imageText : Bytes → ℕ → Bytes
 imageText s k =
     presentText (getD s (slotBytes * k + imageFrom) 0) ++ labelled (ascii "  size ") (slotAt s k .size) ++ ascii "  digest "
-    ++ hex (part s (slotBytes * k + (imageFrom + digestFrom)) (slotBytes * k + slotBytes)) ++ ascii "\n"
+    ++ hex (between s (slotBytes * k + (imageFrom + digestFrom)) (slotBytes * k + slotBytes)) ++ ascii "\n"
 
 unfoldable pub slotText : Bytes → ℕ → Bytes
 slotText s k = labelled (ascii "slot ") k ++ nameText s (slotBytes * k) ++ labelled (ascii "  capacity ") (slotAt s k .capacity) ++ imageText s k

@@ -42,7 +42,7 @@ fn put_counts(room: &mut [u8], at: usize, events: usize, used: usize) -> usize
 }
 
 // The end of a run that was not refused.
-pub(crate) fn put_ran(room: &mut [u8], at: usize, answer: RunAnswer) -> usize
+fn put_ran(room: &mut [u8], at: usize, answer: RunAnswer) -> usize
     ensures { λ r. ⌜ Writes (ranText answer) at room r ⌝ }
 {
     let a = put_end(room, at, answer.end, answer.place);
@@ -92,7 +92,7 @@ fn put_slot(room: &mut [u8], at: usize, slots: &[u8], k: usize) -> usize
 }
 
 // The slots, as many as are whole.
-pub(crate) fn put_slots(room: &mut [u8], at: usize, slots: &[u8]) -> usize
+fn put_slots(room: &mut [u8], at: usize, slots: &[u8]) -> usize
     ensures { λ r. ⌜ Writes (slotsText (was slots)) at room r ⌝ }
 {
     let n = slots.len() / SLOT_BYTES;

@@ -8,7 +8,7 @@ use Rattle.rules.specs.declared.answers.Refusal.the-variants.{NotCbor, NotVerif
 use Rattle.rules.specs.Answers.{refusalNumber}
 use Rattle.text.specs.Text.{Bytes, ascii, hex}
 use Rattle.text_names.specs.Words.{refusalWords}
-use Rattle.text_pieces.specs.Pieces.{part, spaced, labelled}
+use Rattle.text_pieces.specs.Pieces.{between, spaced, labelled}
 
 unfoldable pub refusedLine : ℕ → ℕ → Bytes
 refusedLine n p = labelled (ascii "refused with ") n ++ labelled (ascii " at ") p ++ ascii ": " ++ refusalWords n ++ ascii "\n"
@@ -19,13 +19,13 @@ shown = 8
 
 -- the place where the bytes begin that are shown, and those before p
 unfoldable pub beforeText : Bytes → ℕ → Bytes
-beforeText s p = labelled (ascii "  ") (p - shown) ++ ascii ":" ++ spaced (part s (p - shown) p)
+beforeText s p = labelled (ascii "  ") (p - shown) ++ ascii ":" ++ spaced (between s (p - shown) p)
 
 -- bytes before the place and after it; the byte at the place in brackets
 unfoldable pub aroundText : Bytes → ℕ → Bytes
 aroundText s p =
     cond (ltb p (length s))
-    (beforeText s p ++ ascii " [" ++ hex (part s p (p + 1)) ++ ascii "]" ++ spaced (part s (p + 1) (p + (1 + shown))) ++ ascii "\n")
+    (beforeText s p ++ ascii " [" ++ hex (between s p (p + 1)) ++ ascii "]" ++ spaced (between s (p + 1) (p + (1 + shown))) ++ ascii "\n")
     (beforeText s (length s) ++ ascii " [end]\n")
 
 -- that an envelope is too long is no matter of a place, and from 80 on the place is 0

@@ -4,7 +4,7 @@ ghost use Prim.Native.Nat.{_<_, _+_, _-_};
 ghost use lib.ListN.{length};
 ghost use Rattle.rules.specs.Lent.{was};
 ghost use Rattle.text.specs.Text.{Writes};
-ghost use Rattle.text_pieces.specs.Pieces.{part, spaced};
+ghost use Rattle.text_pieces.specs.Pieces.{between, spaced};
 ghost use Rattle.depot_refusals.specs.Refusals.{shown, refusedLine, beforeText, aroundText, refusedText};
 use rules::answers::Refusal;
 use text::put;
@@ -50,7 +50,7 @@ fn put_before(room: &mut [u8], at: usize, s: &[u8], p: usize) -> usize
 // The bytes shown after p, or as many as there are.
 fn put_after(room: &mut [u8], at: usize, s: &[u8], p: usize) -> usize
     requires { ⌜ p < length (now s) ⌝ }
-    ensures { λ r. ⌜ Writes (spaced (part (was s) (p + 1) (p + (1 + shown)))) at room r ⌝ }
+    ensures { λ r. ⌜ Writes (spaced (between (was s) (p + 1) (p + (1 + shown)))) at room r ⌝ }
 {
     let end = s.len();
     if end - p < END {

@@ -13,7 +13,8 @@ use Rattle.cbor.proofs.ReadingLaws.{above}
 use Rattle.depot_items.specs.declared.Item.{Item}
 use Rattle.depot_show.specs.declared.walk.Put.{Put}
 use Rattle.depot_items.specs.Items.{itemAt, itemOf}
-use Rattle.depot_items.specs.Line.{newline, titleText, argumentText, parameterText, alternativeText}
+use Rattle.text.specs.Text.{newline}
+use Rattle.depot_items.specs.Line.{titleText, argumentText, parameterText, alternativeText}
 use Rattle.depot_show.specs.Shown.{Shown, Shows, none, behind, andThen, stopped, parametersShown, nestedShown, alternativesShown, commandShown, commandsShown, sequenceShown}
 use Rattle.depot_show.proofs.ShownLaws.{Rest, rest-shown}
 

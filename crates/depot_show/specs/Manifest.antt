@@ -7,10 +7,10 @@ use lib.ListN.{getD}
 use Rattle.rules.specs.Bytes.{Bytes}
 use Rattle.rules.specs.Cbor.{BYTES}
 use Rattle.rules.specs.Limits.{limits, sectionCount}
-use Rattle.text.specs.Text.{ascii, least}
+use Rattle.text.specs.Text.{ascii, newline, least}
 use Rattle.text_pieces.specs.Pieces.{labelled, coded, lines}
 use Rattle.text_names.specs.Words.{sectionKey, sectionWords}
-use Rattle.depot_items.specs.Line.{newline, stringText}
+use Rattle.depot_items.specs.Line.{stringText}
 use Rattle.depot_show.specs.Shown.{sequenceShown}
 
 -- component k, whose identifier stands from `from` to `to`

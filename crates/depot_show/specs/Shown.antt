@@ -8,10 +8,10 @@ use lib.Dec.{eqb, leb}
 use Rattle.rules.specs.Bytes.{Bytes}
 use Rattle.rules.specs.Cbor.{NUMBER, BYTES, ARRAY, MAP}
 use Rattle.rules_kinds.specs.Kinds.{kindOf, isSequence}
-use Rattle.text.specs.Text.{Wrote}
+use Rattle.text.specs.Text.{Wrote, newline}
 use Rattle.depot_show.specs.declared.walk.Put.{Put}
 use Rattle.depot_items.specs.Items.{itemAt, itemOf}
-use Rattle.depot_items.specs.Line.{newline, mark, titleText, argumentText, alternativeText, parameterText, marginText}
+use Rattle.depot_items.specs.Line.{mark, titleText, argumentText, alternativeText, parameterText, marginText}
 
 -- a text, and the place after what it shows
 abbrev pub Shown : Type 0

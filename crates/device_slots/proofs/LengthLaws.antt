@@ -2,7 +2,7 @@
 use Prim.Native.Nat.{ℕ, zero, suc, _-_, _/_, _%_, _≤_}
 use mathlib.Core.Path.{_≡_, refl, _∙_}
 use mathlib.Core.List.{[], _∷_, _++_, append-nil}
-use mathlib.Core.Bool.{Bool, true, false, cond}
+use mathlib.Core.Bool.{Bool, true, false, cond, false≢true}
 use lib.Dec.{eqb, ltb}
 use borrow.Author.Tests.{eqb-true, ltb-false}
 use native.Mathlib.Omega.{arith}
@@ -16,17 +16,14 @@ use Rattle.text.specs.Text.{ascii}
 use Rattle.device_text.specs.Words.{word, rest, number, isNumber, unhex, bytes, isBytes, upToBytes}
 use Rattle.device_slots.specs.SlotText.{contentBytes, zeros, isImage, image, isState, isSlot, identifier, slot, isAnswer, answer, status}
 
-no : false ≡ true → ⊥
-no e = let z : _≡_ {A = ℕ} 0 1 = cc in omega arith
-
 -- two tests that both pass
 both : (x y : Bool) → cond x y false ≡ true → (x ≡ true) × (y ≡ true)
 both true y h = (refl, h)
-both false y h = absurd (no h)
+both false y h = absurd (false≢true h)
 
 -- the first fails, the second passes
 second : (x y : Bool) → cond x false y ≡ true → (x ≡ false) × (y ≡ true)
-second true y h = absurd (no h)
+second true y h = absurd (false≢true h)
 second false y h = (refl, h)
 
 length-unhex : (n : ℕ) (s : Bytes) → length (unhex n s) ≡ n
@@ -71,7 +68,7 @@ state w t h = go (same w (ascii "present")) (same w (ascii "absent")) (eqb (leng
     go true y z e k = given t k
     go false true true e k = left-out t e
     go false true false e k = given t k
-    go false false z e k = absurd (no k)
+    go false false z e k = absurd (false≢true k)
 
 -- an identifier
 short : (w : Bytes) → upToBytes (limits .identifier) w ≡ true → length w / 2 ≤ limits .identifier

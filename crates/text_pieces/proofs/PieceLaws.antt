@@ -8,22 +8,22 @@ use lib.ListN.{length, take, drop, length-drop, drop-of-length-le}
 use lib.Seq.{take-nil, take-all}
 use Rattle.text.specs.Text.{Bytes, Wrote, hex}
 use Rattle.text.proofs.TextLaws.{wrote-none, wrote-then}
-use Rattle.text_pieces.specs.Pieces.{part, spaced, lines}
+use Rattle.text_pieces.specs.Pieces.{between, spaced, lines}
 
 module _ (s : Bytes) (from to : ℕ) where
-  pub part-none : to ≤ from → part s 0 0 ≡ part s from to
-  unfolding part
-  part-none h =
+  pub between-none : to ≤ from → between s 0 0 ≡ between s from to
+  unfolding between
+  between-none h =
       let none : to - from ≡ 0 = omega arith in
       rw none
 
-  pub part-past : length s ≤ from → part s 0 0 ≡ part s from to
-  unfolding part
-  part-past h = rw (drop-of-length-le s h) (sym (take-nil (to - from)))
+  pub between-past : length s ≤ from → between s 0 0 ≡ between s from to
+  unfolding between
+  between-past h = rw (drop-of-length-le s h) (sym (take-nil (to - from)))
 
-  pub part-end : length s ≤ to → part s from (length s) ≡ part s from to
-  unfolding part
-  part-end h = all (length s) (omega arith) ∙ sym (all to h)
+  pub between-end : length s ≤ to → between s from (length s) ≡ between s from to
+  unfolding between
+  between-end h = all (length s) (omega arith) ∙ sym (all to h)
     where
       all : (e : ℕ) → length s ≤ e → take (e - from) (drop from s) ≡ drop from s
       all e l = take-all (e - from) (drop from s) (rw (length-drop from s) (omega arith))

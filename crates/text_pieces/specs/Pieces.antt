@@ -7,8 +7,8 @@ use lib.ListN.{take, drop}
 use Rattle.text.specs.Text.{Bytes, ascii, decimal, hex}
 
 -- the bytes from one place to before another, as many of them as there are
-unfoldable pub part : Bytes → ℕ → ℕ → Bytes
-part s from to = take (to - from) (drop from s)
+unfoldable pub between : Bytes → ℕ → ℕ → Bytes
+between s from to = take (to - from) (drop from s)
 
 -- each byte behind a space
 unfoldable pub spaced : Bytes → Bytes

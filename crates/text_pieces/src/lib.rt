@@ -5,7 +5,7 @@ ghost use Prim.Native.Nat.{_≤_};
 ghost use lib.ListN.{length};
 ghost use Rattle.rules.specs.Lent.{was};
 ghost use Rattle.text.specs.Text.{Writes, hex};
-ghost use Rattle.text_pieces.specs.Pieces.{part, spaced, labelled, counted, coded};
+ghost use Rattle.text_pieces.specs.Pieces.{between, spaced, labelled, counted, coded};
 use text::put;
 use text::put_byte;
 use text::put_decimal;
@@ -18,7 +18,7 @@ struct Range {
 
 // The part's own places in the bytes.
 fn within(s: &[u8], from: usize, to: usize) -> Range
-    ensures { λ r. ⌜ (r .from ≤ r .to) × (r .to ≤ length (was s)) × (part (was s) (r .from) (r .to) ≡ part (was s) from to) ⌝ }
+    ensures { λ r. ⌜ (r .from ≤ r .to) × (r .to ≤ length (was s)) × (between (was s) (r .from) (r .to) ≡ between (was s) from to) ⌝ }
 {
     let end = s.len();
     if to <= from {
@@ -35,7 +35,7 @@ fn within(s: &[u8], from: usize, to: usize) -> Range
 
 // The bytes from one place to before another.
 pub fn put_part(room: &mut [u8], at: usize, s: &[u8], from: usize, to: usize) -> usize
-    ensures { λ r. ⌜ Writes (hex (part (was s) from to)) at room r ⌝ }
+    ensures { λ r. ⌜ Writes (hex (between (was s) from to)) at room r ⌝ }
 {
     let p = within(s, from, to);
     let a = p.from;
@@ -45,7 +45,7 @@ pub fn put_part(room: &mut [u8], at: usize, s: &[u8], from: usize, to: usize) ->
 
 // The same, each byte behind a space.
 pub fn put_spaced(room: &mut [u8], at: usize, s: &[u8], from: usize, to: usize) -> usize
-    ensures { λ r. ⌜ Writes (spaced (part (was s) from to)) at room r ⌝ }
+    ensures { λ r. ⌜ Writes (spaced (between (was s) from to)) at room r ⌝ }
 {
     let p = within(s, from, to);
     let a = p.from;
