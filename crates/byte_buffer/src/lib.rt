@@ -72,3 +72,13 @@ pub fn copy(s: &[u8], from: usize, n: usize, room: &mut [u8], to: usize)
         i += 1;
     }
 }
+
+// Whether a is b.
+pub fn is(a: &[u8], b: &[u8]) -> bool
+    ensures { λ r. ⌜ r ≡ same (was a) (was b) ⌝ }
+{
+    if a.len() != b.len() {
+        return false;
+    }
+    equal(a, 0, b, 0, a.len())
+}

@@ -2,10 +2,9 @@
 ghost use mathlib.Core.Path.{_≡_};
 ghost use lib.ListN.{length, drop, replicate};
 ghost use Rattle.rules.specs.Lent.{was, left};
-ghost use Rattle.rules.specs.Bytes.{same as Bytes·same};
 ghost use Rattle.text.specs.Text.{Writes};
 ghost use Rattle.conformance_cases.specs.Lent.{allAre, alteredText, translationLine, keptAll, ranLine};
-use byte_buffer::equal;
+use byte_buffer::is;
 use conformance_lines::events_end;
 use conformance_lines::put_ran;
 use conformance_lines::put_translated;
@@ -48,15 +47,6 @@ fn all_are(b: &[u8], at: usize, x: u8) -> bool
     true
 }
 
-fn same(a: &[u8], b: &[u8]) -> bool
-    ensures { λ r. ⌜ r ≡ Bytes·same (was a) (was b) ⌝ }
-{
-    if a.len() != b.len() {
-        return false;
-    }
-    equal(a, 0, b, 0, a.len())
-}
-
 fn put_altered(room: &mut [u8], at: usize, kept: bool) -> usize
     ensures { λ r. ⌜ Writes (alteredText kept) at room r ⌝ }
 {
@@ -85,7 +75,7 @@ fn kept_all(answer: RunAnswer, before: &[u8], slots: &[u8], fill: u8, trace: &[u
     if answer.refusal == 0 {
         return true;
     }
-    same(before, slots)
+    is(before, slots)
 }
 
 pub(crate) fn put_run(

@@ -2,7 +2,7 @@
 ghost use mathlib.Core.Path.{_≡_};
 ghost use Rattle.rules.specs.Lent.{was};
 ghost use Rattle.depot_usage.specs.Usage.{named, jobOf, askedOf};
-use device_text::is;
+use byte_buffer::is;
 
 pub enum Job {
     Check,

@@ -10,7 +10,7 @@ ghost use Rattle.text.specs.Text.{Writes};
 ghost use Rattle.device_text.specs.Words as Words;
 ghost use Rattle.device_slots.specs.SlotText as Rule;
 use crate::shape::status;
-use device_text::is;
+use byte_buffer::is;
 use device_text::read::decimal;
 use device_text::read::digit;
 use device_text::rest;

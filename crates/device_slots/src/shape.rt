@@ -2,7 +2,7 @@
 ghost use mathlib.Core.Path.{_≡_};
 ghost use Rattle.rules.specs.Lent.{was};
 ghost use Rattle.device_slots.specs.SlotText as Rule;
-use device_text::is;
+use byte_buffer::is;
 use device_text::read::NO_NUMBER;
 use device_text::read::decimal;
 use device_text::read::is_bytes;

@@ -3,9 +3,7 @@ ghost use mathlib.Core.Path.{_≡_};
 ghost use Prim.Native.Nat.{_≤_};
 ghost use lib.ListN.{length, take};
 ghost use Rattle.rules.specs.Lent.{was};
-ghost use Rattle.rules.specs.Bytes.{same};
 ghost use Rattle.device_text.specs.Words as Words;
-use byte_buffer::equal;
 use text::position;
 
 pub mod line;
@@ -35,15 +33,6 @@ pub fn rest(s: &[u8]) -> &[u8]
         return &s[from..];
     }
     &s[n..]
-}
-
-pub fn is(a: &[u8], b: &[u8]) -> bool
-    ensures { λ r. ⌜ r ≡ same (was a) (was b) ⌝ }
-{
-    if a.len() != b.len() {
-        return false;
-    }
-    equal(a, 0, b, 0, a.len())
 }
 
 fn blank(x: u8) -> bool

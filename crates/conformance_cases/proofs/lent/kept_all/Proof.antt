@@ -25,7 +25,7 @@ returns-3 c =
     let if1 = if2 .before .before in
     let all-are = if1 .before in
     let events-end = all-are .before in
-    rw (← events-end .events-end .ensures, ← all-are .all-are .ensures, not-false (all-are .all-are .result) (if1 .if1 .left), ne-eqb _ _ (if2 .if2 .left)) (c .same .ensures)
+    rw (← events-end .events-end .ensures, ← all-are .all-are .ensures, not-false (all-are .all-are .result) (if1 .if1 .left), ne-eqb _ _ (if2 .if2 .left)) (c .is .ensures)
 
 pub kept-all-spec : {M : Type 1} → statement M
 kept-all-spec = tie.close (tie.spec (λ c κs. tt) (λ c κs. tt) returns returns-2 (λ c κs. tt) returns-3)

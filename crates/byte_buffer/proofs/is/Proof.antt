@@ -4,8 +4,8 @@ use borrow.Author.Needs.{needs}
 use lib.ListN.{length}
 use lib.Seq.{take-length, take-all}
 use Rattle.rules.proofs.SameLaws.{same-lengths}
-use Rattle.device_text.proofs.is.Statement.{statement}
-use Rattle.device_text.proofs.is.Tie as tie
+use Rattle.byte_buffer.proofs.is.Statement.{statement}
+use Rattle.byte_buffer.proofs.is.Tie as tie
 
 returns : tie.Need-returns
 returns c =
