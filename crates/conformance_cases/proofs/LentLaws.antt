@@ -1,5 +1,5 @@
 -- Bytes that are filled, compared and copied.
-use Prim.Native.Nat.{ℕ, zero, suc, _+_, _-_, _≤_, _<_}
+use Prim.Native.Nat.{ℕ, zero, suc, _+_, _≤_, _<_}
 use mathlib.Core.Path.{_≡_, refl, ap, _∙_}
 use mathlib.Core.List.{_∷_, _++_, append-nil}
 use mathlib.Core.Bool.{true, false}
@@ -7,8 +7,8 @@ use native.Mathlib.Omega.{arith}
 use native.Mathlib.Nat.{zero-add}
 use native.Mathlib.Numerals.{add-one}
 use borrow.Author.Tests.{eq-eqb, ne-eqb}
-use lib.ListN.{length, getD, set, take, drop, replicate, length-replicate, length-drop, drop-of-length-le}
-use lib.Seq.{sets-eq, set-at, drop-cons, take-all}
+use lib.ListN.{length, getD, set, drop, replicate, length-replicate, drop-of-length-le}
+use lib.Seq.{sets-eq, set-at, drop-cons}
 use Rattle.text.specs.Text.{Wrote}
 use Rattle.rules.specs.Bytes.{Bytes}
 use Rattle.conformance_cases.specs.Lent.{allAre}
@@ -48,7 +48,3 @@ module _ (b : Bytes) (x : ℕ) where
 pub wrote-whole : {b : Bytes} {room : Bytes} {r : ℕ} {room′ : Bytes} → length room ≡ length b → Wrote b 0 room r room′ → room′ ≡ b
 wrote-whole {b} {room} e w =
     w .filled ∙ sets-eq b room 0 (omega arith) ∙ rw (zero-add (length b), drop-of-length-le room {i = length b} (omega arith)) (append-nil b)
-
--- a part that goes to the end
-pub to-end : (k : ℕ) (b : Bytes) → take (length b - k) (drop k b) ≡ drop k b
-to-end k b = take-all (length b - k) (drop k b) (simp length-drop (omega arith))

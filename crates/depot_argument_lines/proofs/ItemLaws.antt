@@ -4,10 +4,11 @@ use mathlib.Core.Path.{_≡_, refl, sym, _∙_}
 use mathlib.Core.List.{[], _++_}
 use mathlib.Core.Bool.{Bool, true, false}
 use lib.Dec.{leb}
-use lib.ListN.{length, take, drop, length-drop}
-use lib.Seq.{sets, length-sets, take-all}
+use lib.ListN.{length, take, drop}
+use lib.Seq.{sets, length-sets}
 use native.Mathlib.Omega.{arith}
 use borrow.Author.Tests.{leb-true, leb-false, lt-ltb, le-ltb, eq-eqb, ne-eqb}
+use Rattle.rules.proofs.BytesLaws.{part-rest}
 use Rattle.text.specs.Text.{Bytes, Wrote, least}
 use Rattle.text.proofs.TextLaws.{wrote-none, wrote-then, wrote-length}
 use Rattle.depot_argument_lines.specs.Items.{sizeIn, itemsText}
@@ -43,7 +44,7 @@ size-lies s head more k h = go (leb (head + more) (length s)) refl
 
 -- the part of the bytes from a place on
 pub from-drop : (s : Bytes) (k m : ℕ) → k ≡ m → take (length s - k) (drop k s) ≡ drop m s
-from-drop s k m e = rw e (take-all (length s - m) (drop m s) (rw (length-drop m s) (omega arith)))
+from-drop s k m e = rw e (part-rest s m)
 
 -- whatever writes `left` from here on writes `whole` from the start
 pub record Leads (whole : Bytes) (at : ℕ) (room₀ left : Bytes) (to : ℕ) (room : Bytes) : Type 0 where

@@ -13,7 +13,7 @@ use Rattle.rules.specs.Limits.{limits}
 use Rattle.rules.specs.Bytes.{Bytes, same, put}
 use Rattle.rules.specs.Slots.{slotBytes, answerBytes}
 use Rattle.text.specs.Text.{ascii}
-use Rattle.text.proofs.TextLaws.{sets-append}
+use Rattle.rules.proofs.BytesLaws.{put-append}
 use Rattle.device_text.specs.Words.{lines, trim, word, rest, isNumber, bytes, isBytes}
 use Rattle.device_slots.specs.SlotText.{isSlot, slot, isAnswer, answer}
 use Rattle.device_slots.proofs.LengthLaws.{slot-length, answer-length}
@@ -178,7 +178,7 @@ pub record Left (whole : Said) (slots₀ answers₀ : Bytes) (x : Said) (d : Sce
 
 -- bytes behind bytes
 behind : (room : Bytes) (at next : ℕ) (x y : Bytes) (room′ : Bytes) → next ≡ at + length x → room′ ≡ put room at x → put room at (x ++ y) ≡ put room′ next y
-behind room at next x y room′ e h = rw (e, h) (sym (sets-append room at x y))
+behind room at next x y room′ e h = rw (e, h) (sym (put-append room at x y))
 
 module _ (m k n : ℕ) (d : Scenario) (l : Bytes) (ls : List Bytes) where
   go-on : (r : Scenario) → r ≡ line m k n d (trim l) .scenario → r .refused ≡ 0 → linesFrom m k n d (l ∷ ls) ≡ (line m k n d (trim l) then linesFrom m k (suc n) r ls)

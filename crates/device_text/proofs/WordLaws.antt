@@ -8,8 +8,9 @@ use borrow.Author.Tests.{lt-ltb, le-ltb}
 use native.Mathlib.Omega.{arith}
 use native.Mathlib.Numerals.{add-one}
 use lib.ListN.{length, take, drop, getD, length-drop, drop-of-length-le}
-use lib.Seq.{drop-cons, drop-drop, drop-length, take-suc, take-all}
+use lib.Seq.{drop-cons, drop-drop, drop-length, take-suc}
 use Rattle.rules.specs.Bytes.{Bytes}
+use Rattle.rules.proofs.BytesLaws.{part-rest}
 use Rattle.text.specs.Text.{position}
 use Rattle.device_text.specs.Words.{before, after, rest, lines, lineFeed, blank, kept, trim, oneMore, numberFrom, digit, allDigits, pair, unhex}
 
@@ -61,18 +62,14 @@ module _ (s : Bytes) (i : ℕ) where
   unfolding allDigits
   digits-end h = rw (drop-of-length-le s h)
 
--- all that is left behind a place
-pub left-all : (s : Bytes) (i : ℕ) → take (length s - i) (drop i s) ≡ drop i s
-left-all s i = take-all (length s - i) (drop i s) (rw (length-drop i s) (omega arith))
-
 module _ (s : Bytes) (n : ℕ) (e : n ≡ position 32 s) where
   pub rest-more : take (length s - (n + 1)) (drop (n + 1) s) ≡ rest s
   unfolding rest
-  rest-more = left-all s (n + 1) ∙ rw (add-one n, e)
+  rest-more = part-rest s (n + 1) ∙ rw (add-one n, e)
 
   pub rest-none : length s ≤ n → take (length s - n) (drop n s) ≡ rest s
   unfolding rest
-  rest-none h = left-all s n ∙ drop-of-length-le s h ∙ sym (drop-of-length-le s {i = suc (position 32 s)} (omega arith))
+  rest-none h = part-rest s n ∙ drop-of-length-le s h ∙ sym (drop-of-length-le s {i = suc (position 32 s)} (omega arith))
 
 pub unhex-next : (n : ℕ) (s : Bytes) → unhex n s ++ (pair (getD s (n * 2) 0) (getD s (n * 2 + 1) 0) ∷ []) ≡ unhex (n + 1) s
 unfolding unhex

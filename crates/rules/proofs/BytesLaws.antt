@@ -2,6 +2,10 @@
 use Prim.Native.Nat.{ℕ, zero, suc, _+_, _-_, _*_, _≤_, _<_}
 use mathlib.Core.Path.{_≡_, refl}
 use mathlib.Core.List.{[], _∷_, _++_}
+use native.Mathlib.Nat.{add-suc, suc-add}
+use lib.ListN.{set}
+use lib.Seq.{take-all}
+use Rattle.rules.specs.Bytes.{put}
 use native.Mathlib.Omega.{arith}
 use native.Mathlib.Numerals.{add-one}
 use native.Mathlib.Nat.{add-zero}
@@ -15,6 +19,15 @@ length-part s at k h = simp (length-take, length-drop) (omega arith)
 pub part-cons : (s : Bytes) (at n : ℕ) → 0 < n → at < length s → part s at n ≡ getD s at 0 ∷ part s (at + 1) (n - 1)
 part-cons s at zero l h = absurd (omega arith)
 part-cons s at (suc n) l h = let k : suc n - 1 ≡ n = omega arith in rw (k, add-one, drop-cons s at 0 h)
+
+-- all that is left behind a place
+pub part-rest : (s : Bytes) (at : ℕ) → part s at (length s - at) ≡ drop at s
+part-rest s at = take-all (length s - at) (drop at s) (simp length-drop (omega arith))
+
+-- what is put behind what was put
+pub put-append : (s : Bytes) (at : ℕ) (a b : Bytes) → put (put s at a) (at + length a) b ≡ put s at (a ++ b)
+put-append s at [] b = rw (add-zero at)
+put-append s at (x ∷ a) b = rw (add-suc at (length a), ← suc-add at (length a)) (put-append (set s at x) (suc at) a b)
 
 num-snoc : (n : ℕ) (xs : Bytes) (b : ℕ) → numFrom n (xs ++ (b ∷ [])) ≡ numFrom n xs * 256 + b
 num-snoc n [] b = refl

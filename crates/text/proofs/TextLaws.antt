@@ -6,15 +6,11 @@ use mathlib.Core.Bool.{Bool, true, false, cond}
 use lib.Dec.{leb, ltb}
 use borrow.Author.Tests.{leb-true, leb-false, lt-ltb, le-ltb, eq-eqb, ne-eqb}
 use native.Mathlib.Omega.{arith}
-use native.Mathlib.Nat.{add-zero, add-suc, suc-add}
 use native.Mathlib.Numerals.{add-one}
-use lib.ListN.{length, set, take, drop, getD, length-append, replicate, drop-of-length-le}
+use lib.ListN.{length, take, drop, getD, length-append, replicate, drop-of-length-le}
 use lib.Seq.{sets, set-out, length-sets, take-suc, take-all, drop-cons}
+use Rattle.rules.proofs.BytesLaws.{put-append}
 use Rattle.text.specs.Text.{Bytes, Wrote, least, position, digit, digits, hex}
-
-pub sets-append : (r : Bytes) (i : ℕ) (a b : Bytes) → sets (sets r i a) (i + length a) b ≡ sets r i (a ++ b)
-sets-append r i [] b = rw (add-zero i)
-sets-append r i (x ∷ a) b = rw (add-suc i (length a), ← suc-add i (length a)) (sets-append (set r i x) (suc i) a b)
 
 pub sets-past : (r : Bytes) (i : ℕ) (a : Bytes) → length r ≤ i → sets r i a ≡ r
 sets-past r i [] h = refl
@@ -50,7 +46,7 @@ wrote-then {a} {b} {at} {room} {p} {room₁} {q} {room₂} f g =
     fits : at + length a ≤ length room → Wrote (a ++ b) at room q room₂
     fits h =
         let e : p ≡ at + length a = omega (arith, f .next) in
-        record { filled = g .filled ∙ (rw (f .filled, e) (sets-append room at a b)); next = g .next ∙ (rw (same, e, length-append a b) (least-fits at (length a) (length b) (length room) h)) }
+        record { filled = g .filled ∙ (rw (f .filled, e) (put-append room at a b)); next = g .next ∙ (rw (same, e, length-append a b) (least-fits at (length a) (length b) (length room) h)) }
 
     past : length room < at + length a → Wrote (a ++ b) at room q room₂
     past h =
@@ -58,7 +54,7 @@ wrote-then {a} {b} {at} {room} {p} {room₁} {q} {room₂} f g =
         record {
           filled =
               g .filled ∙ sets-past room₁ p b (rw same after) ∙ f .filled
-              ∙ sym (sym (sets-append room at a b) ∙ sets-past (sets room at a) (at + length a) b (rw (length-sets room at a) (omega arith)));
+              ∙ sym (sym (put-append room at a b) ∙ sets-past (sets room at a) (at + length a) b (rw (length-sets room at a) (omega arith)));
           next = g .next ∙ (rw (same, length-append a b) (least-none p (length b) (length room) after ∙ f .next ∙ least-more at (length a) (length b) (length room) h));
         }
 

@@ -4,11 +4,12 @@ use mathlib.Core.Path.{_≡_, refl, sym, ap, _∙_}
 use mathlib.Core.Bool.{Bool, true, false, cond, false≢true}
 use mathlib.Core.List.{List, [], _∷_, _++_, append-nil, append-assoc}
 use lib.Dec.{eqb}
-use lib.ListN.{length, take, drop, getD, length-drop, drop-of-length-le}
-use lib.Seq.{take-all, take-suc, drop-cons}
+use lib.ListN.{length, take, drop, getD, drop-of-length-le}
+use lib.Seq.{take-suc, drop-cons}
 use native.Mathlib.Omega.{arith}
 use native.Mathlib.Numerals.{add-one}
 use borrow.Author.Tests.{eq-eqb, ne-eqb}
+use Rattle.rules.proofs.BytesLaws.{part-rest}
 use Rattle.text.specs.Text.{Bytes, Wrote, position}
 use Rattle.text_names.specs.Words.{wide}
 use Rattle.text_names.specs.Rows.{Row, wordOf, numbers, words, before, after, barless, plain}
@@ -55,8 +56,7 @@ pub word-part : (s : Bytes) (k from to : ℕ) → drop from s ≡ after k s → 
     take (to - 0) (drop 0 (take (length s - from) (drop from s))) ≡ before (after k s)
 word-part s k from to e q =
     let none : to - 0 ≡ to = omega arith in
-    let whole : take (length s - from) (drop from s) ≡ drop from s = take-all (length s - from) (drop from s) (rw (length-drop from s) (omega arith)) in
-    rw none (q ∙ ap before (whole ∙ e))
+    rw none (q ∙ ap before (part-rest s from ∙ e))
 
 first-word : (w t : Bytes) → barless w ≡ true → before (w ++ (124 ∷ t)) ≡ w
 unfolding before barless

@@ -1,4 +1,4 @@
-use Rattle.conformance_cases.proofs.LentLaws.{to-end}
+use Rattle.rules.proofs.BytesLaws.{part-rest}
 use borrow.Author.Tests.{eq-eqb, ne-eqb}
 use Rattle.conformance_cases.specs.Cases.{lineOf}
 use borrow.Author.Needs.{needs}
@@ -18,7 +18,7 @@ returns-2 c =
     let job-line = c .before .before in
     let if1 = job-line .before .before .before .before in
     let start = if1 .before .before .before in
-    rw (ne-eqb _ _ (if1 .if1 .left)) (rw (to-end 1 (start .args .case .now)) at (job-line .job-line .ensures))
+    rw (ne-eqb _ _ (if1 .if1 .left)) (rw (part-rest (start .args .case .now) 1) at (job-line .job-line .ensures))
 
 pub answer-spec : {M : Type 1} → statement M
 answer-spec = tie.close (tie.spec (λ c κs. tt) (λ c. search needs) returns (λ c. search needs) (λ c. search needs) (λ c. search needs) (λ c. search needs) (λ c κs. tt) (λ c. search needs) returns-2)

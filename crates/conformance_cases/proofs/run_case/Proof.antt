@@ -1,5 +1,5 @@
 use Rattle.conformance_cases.specs.Fields.{runHead}
-use Rattle.conformance_cases.proofs.LentLaws.{to-end}
+use Rattle.rules.proofs.BytesLaws.{part-rest}
 use mathlib.Core.Path.{sym}
 use lib.Seq.{length-take-le}
 use borrow.Author.Tests.{lt-ltb, le-ltb}
@@ -33,7 +33,7 @@ returns-2 c =
     let run-slots = c .before .before in
     let if1 = run-slots .before .before .before .before in
     let start = if1 .before .before .before in
-    rw (le-ltb _ _ (if1 .if1 .left)) (rw (to-end runHead (start .args .b .now)) at (run-slots .run-slots .ensures))
+    rw (le-ltb _ _ (if1 .if1 .left)) (rw (part-rest (start .args .b .now) runHead) at (run-slots .run-slots .ensures))
 
 pub run-case-spec : {M : Type 1} → statement M
 run-case-spec = tie.close (tie.spec (λ c κs. tt) (λ c. search needs) returns slice-aggregate-run-slots (λ c. search needs) (λ c. search needs)

@@ -1,4 +1,4 @@
-use Rattle.conformance_cases.proofs.LentLaws.{to-end}
+use Rattle.rules.proofs.BytesLaws.{part-rest}
 use borrow.Author.Tests.{lt-ltb, le-ltb}
 use Rattle.conformance_cases.specs.Cases.{translateCase}
 use borrow.Author.Needs.{needs}
@@ -19,7 +19,7 @@ returns-2 c =
     let two = translate-line .before .before in
     let if1 = two .before .before .before in
     let start = if1 .before .before .before in
-    rw (le-ltb _ _ (if1 .if1 .left)) (rw (two .two .ensures .0, to-end 3 (start .args .b .now)) at (translate-line .translate-line .ensures))
+    rw (le-ltb _ _ (if1 .if1 .left)) (rw (two .two .ensures .0, part-rest (start .args .b .now) 3) at (translate-line .translate-line .ensures))
 
 pub translate-case-spec : {M : Type 1} → statement M
 translate-case-spec = tie.close (tie.spec (λ c κs. tt) (λ c. search needs) returns (λ c. search needs) (λ c. search needs) (λ c. search needs)

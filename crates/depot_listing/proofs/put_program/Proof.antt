@@ -1,10 +1,9 @@
-use mathlib.Core.Path.{refl}
 use lib.ListN.{length}
 use borrow.Author.Tests.{lt-ltb, le-ltb}
 use Rattle.rules.specs.ProgramFormat.{startSize}
 use Rattle.depot_listing.specs.Listing.{programText}
 use Rattle.text.proofs.TextLaws.{wrote-then}
-use Rattle.depot_argument_lines.proofs.ItemLaws.{from-drop}
+use Rattle.rules.proofs.BytesLaws.{part-rest}
 use borrow.Author.Needs.{needs}
 use Rattle.depot_listing.proofs.put_program.Statement.{statement}
 use Rattle.depot_listing.proofs.put_program.Tie as tie
@@ -30,7 +29,7 @@ returns-2 c =
     let start = at-if1 .before .before .before in
     rw (
       le-ltb (length (start .args .p .now)) startSize (at-if1 .if1 .left),
-      ← from-drop (start .args .p .now) startSize startSize refl,
+      ← part-rest (start .args .p .now) startSize,
       ← at-wide .wide .ensures .0,
       ← at-two .two .ensures .0,
       ← at-after-components .after-components .ensures,
