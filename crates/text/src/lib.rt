@@ -5,7 +5,8 @@ ghost use Prim.Native.Nat.{_<_, _≤_};
 ghost use lib.ListN.{length, replicate};
 ghost use Rattle.rules.specs.Lent.{was};
 ghost use Rattle.text.specs.Text.{Writes, decimal, padded, hex, quoted};
-ghost use Rattle.text.specs.Text.{digits as Text·digits, digit as Text·digit, least as Text·least, printable as Text·printable, position as Text·position};
+ghost use Rattle.text.specs.Text.{digits as Text·digits, digit as Text·digit, least as Text·least, printable as Text·printable};
+ghost use Rattle.text.specs.Text.{position as Text·position};
 
 // A decimal number of 64 bits.
 const DIGITS: usize = 20;
