@@ -54,7 +54,6 @@ fn act(
     ensures { λ r. ⌜ Acts s command given vendor class answers slots memory r ⌝ }
 {
     let i = command.index;
-    let p = load(memory, i);
     let k = memory[i];
     let value = command.value;
     let events = command.events;
@@ -63,21 +62,23 @@ fn act(
     match code {
         VENDOR => ended(equal_sixteen(s, value, vendor), events, used),
         CLASS => ended(equal_sixteen(s, value, class), events, used),
-        IMAGE_MATCH => ended(matches(s, p, slots, k), events, used),
+        IMAGE_MATCH => ended(matches(s, load(memory, i), slots, k), events, used),
         SET_INDEX => ended(End::FINISHED, events, used),
         ABORT => ended(Failure::ABORTED, events, used),
         SET_PARAMETERS => {
+            let p = load(memory, i);
             store(memory, i, over(p, given));
             ended(End::FINISHED, events, used)
         }
         OVERRIDE_PARAMETERS => {
+            let p = load(memory, i);
             store(memory, i, over(given, p));
             ended(End::FINISHED, events, used)
         }
-        FETCH => fetch(p, answers, events, used, slots, k),
-        COPY => ended(copy(p, memory, slots, k), events, used),
+        FETCH => fetch(load(memory, i), answers, events, used, slots, k),
+        COPY => ended(copy(load(memory, i), memory, slots, k), events, used),
         RUN => ended(runs(slots, k), events, used),
-        _ => ended(swap(p, memory, slots, k), events, used),
+        _ => ended(swap(load(memory, i), memory, slots, k), events, used),
     }
 }
 

@@ -12,18 +12,12 @@ use Rattle.run_commands.proofs.PerformLaws.{is-at, source-at, set-param
 use Rattle.run_commands.proofs.perform.act.Statement.{statement}
 use Rattle.run_commands.proofs.perform.act.Tie as tie
 
--- from the match: where the component's parameters were loaded, and the start
-abbrev loaded : tie.After-k → tie.After-load
-loaded c = c .before
-
+-- back to the start, from the match
 abbrev start : tie.After-k → tie.Start
-start c = loaded c .before .before .before .before .before
-
-inside : tie.Need-load-requires
-inside c κs = c .before .before .before .before .pre .inside
+start c = c .before .before .before .before
 
 element : tie.Need-element-copy-out-k
-element c = omega (arith, c .before .before .before .before .before .pre .inside)
+element c = omega (arith, c .before .before .before .pre .inside)
 
 vendor-lies : tie.Need-equal-sixteen-requires
 vendor-lies c κs = start (c .before) .pre .sixteen (omega (arith, c .match .keys1))
@@ -33,27 +27,27 @@ class-lies c κs = start (c .before) .pre .sixteen (omega (arith, c .match .keys
 
 matches-requires : tie.Need-matches-requires
 matches-requires c κs =
-    let m = c .before .before in
-    let pre = start m .pre in
-    (pre .hold _ (pre .inside), rw (loaded m .load .ensures) (pre .fit _ (pre .inside) .digest))
+    let l = c .before in
+    let pre = start (l .before .before .before) .pre in
+    (pre .hold _ (pre .inside), rw (l .load .ensures) (pre .fit _ (pre .inside) .digest))
 
 fetch-requires : tie.Need-fetch-requires
-fetch-requires c κs = let pre = start (c .before .before) .pre in (pre .hold _ (pre .inside), pre .answered)
+fetch-requires c κs = let pre = start (c .before .before .before .before) .pre in (pre .hold _ (pre .inside), pre .answered)
 
 copy-requires : tie.Need-copy-requires
 copy-requires c κs =
-    let m = c .before .before .before in
-    let pre = start m .pre in
-    (pre .hold _ (pre .inside), pre .hold, rw (loaded m .load .ensures) (pre .fit _ (pre .inside) .source))
+    let l = c .before .before in
+    let pre = start (l .before .before .before) .pre in
+    (pre .hold _ (pre .inside), pre .hold, rw (l .load5 .ensures) (pre .fit _ (pre .inside) .source))
 
 runs-requires : tie.Need-runs-requires
 runs-requires c κs = let pre = start (c .before .before) .pre in pre .hold _ (pre .inside)
 
 swap-requires : tie.Need-swap-requires
 swap-requires c κs =
-    let m = c .before .before .before in
-    let pre = start m .pre in
-    (pre .hold _ (pre .inside), pre .hold, rw (loaded m .load .ensures) (pre .fit _ (pre .inside) .source))
+    let l = c .before .before in
+    let pre = start (l .before .before .before) .pre in
+    (pre .hold _ (pre .inside), pre .hold, rw (l .load6 .ensures) (pre .fit _ (pre .inside) .source))
 
 vendor : tie.Need-returns
 unfolding opOf acts
@@ -84,13 +78,14 @@ class c =
 image-match : tie.Need-returns-3
 unfolding opOf acts
 image-match c =
-    let arm = c .before .before .before in
+    let l = c .before .before .before in
+    let arm = l .before .before in
     let e = c .before .matches .ensures in
     rw (c .ended3 .ensures)
     (record {
       events = refl;
       ends = e .0;
-      does = λ env trace h l f. rw (arm .match .keys3) (e .1 env _ _ (is-at _ env _ _ _ _ _ trace _ _ _ h l _ (loaded (arm .before) .load .ensures) _ refl));
+      does = λ env trace h z f. rw (arm .match .keys3) (e .1 env _ _ (is-at _ env _ _ _ _ _ trace _ _ _ h z _ (l .load .ensures) _ refl));
       fit = λ n f g. f;
       kept = λ i h. refl;
     })
@@ -111,10 +106,10 @@ set-parameters : tie.Need-returns-6
 unfolding opOf acts
 set-parameters c =
     let over = c .before .before in
-    let arm = over .before .before in
+    let arm = over .before .before .before .before in
     let a = start (arm .before) .args in
     let pre = start (arm .before) .pre in
-    let load = loaded (arm .before) .load in
+    let load = over .before .before .load2 in
     let w : length (a .memory .now) ≡ memoryNumbers = over .before .store-arg .given .0 .1 in
     rw (c .ended6 .ensures, c .before .store .ensures)
     (record {
@@ -137,10 +132,10 @@ override-parameters : tie.Need-returns-7
 unfolding opOf acts
 override-parameters c =
     let over = c .before .before in
-    let arm = over .before .before in
+    let arm = over .before .before .before .before in
     let a = start (arm .before) .args in
     let pre = start (arm .before) .pre in
-    let load = loaded (arm .before) .load in
+    let load = over .before .before .load3 in
     let w : length (a .memory .now) ≡ memoryNumbers = over .before .store-arg2 .given .0 .1 in
     rw (c .ended7 .ensures, c .before .store2 .ensures)
     (record {
@@ -162,15 +157,16 @@ override-parameters c =
 fetch : tie.Need-returns-8
 unfolding opOf acts
 fetch c =
-    let arm = c .before .before .before .before in
+    let l = c .before .before .before .before in
+    let arm = l .before .before in
     let d = c .before .before .fetch .ensures in
     record {
       events = d .0;
       ends = d .1;
       does =
-          λ env trace h l f.
+          λ env trace h z f.
           rw (arm .match .keys8, d .0)
-          (d .2 _ env _ _ (is-at _ env _ _ _ _ _ trace _ _ _ h l _ (loaded (arm .before) .load .ensures) _ refl) (h .replies) refl);
+          (d .2 _ env _ _ (is-at _ env _ _ _ _ _ trace _ _ _ h z _ (l .load4 .ensures) _ refl) (h .replies) refl);
       fit = λ n f g. f;
       kept = λ i h. refl;
     }
@@ -179,16 +175,17 @@ copy : tie.Need-returns-9
 unfolding opOf acts
 copy c =
     let done = c .before .before .before in
-    let arm = done .before .before .before in
-    let e = loaded (arm .before) .load .ensures in
+    let l = done .before .before .before in
+    let arm = l .before .before in
+    let e = l .load5 .ensures in
     rw (c .ended8 .ensures)
     (record {
       events = refl;
       ends = done .copy .ensures .0;
       does =
-          λ env trace h l f.
+          λ env trace h z f.
           rw (arm .match .keys9)
-          (done .copy .ensures .1 _ env _ _ (is-at _ env _ _ _ _ _ trace _ _ _ h l _ e _ refl) (source-at _ env _ _ _ _ _ trace _ _ _ h l _ e f));
+          (done .copy .ensures .1 _ env _ _ (is-at _ env _ _ _ _ _ trace _ _ _ h z _ e _ refl) (source-at _ env _ _ _ _ _ trace _ _ _ h z _ e f));
       fit = λ n f g. f;
       kept = λ i h. refl;
     })
@@ -203,7 +200,7 @@ runs c =
       ends = c .before .runs .ensures .0;
       does =
           λ env trace h l f.
-          let a = is-at _ env _ _ _ _ _ trace _ _ _ h l _ (loaded (arm .before) .load .ensures) _ refl in
+          let a = is-at _ env _ _ _ _ _ trace _ _ _ h l _ refl _ refl in
           rw (arm .match .keys10) (c .before .runs .ensures .1 env _ _ (a .lent) (a .number));
       fit = λ n f g. f;
       kept = λ i h. refl;
@@ -213,8 +210,9 @@ swap : tie.Need-returns-11
 unfolding acts
 swap c =
     let done = c .before .before .before in
-    let arm = done .before .before .before in
-    let e = loaded (arm .before) .load .ensures in
+    let l = done .before .before .before in
+    let arm = l .before .before in
+    let e = l .load6 .ensures in
     let r = arm .match .rest in
     let a = start (arm .before) .args in
     let is-swap : commandOf (a .s .now) (a .command) (a .given) ≡ Rules.swap =
@@ -225,9 +223,9 @@ swap c =
       events = refl;
       ends = done .swap .ensures .0;
       does =
-          λ env trace h l f.
+          λ env trace h z f.
           rw is-swap
-          (done .swap .ensures .1 _ env _ _ (is-at _ env _ _ _ _ _ trace _ _ _ h l _ e _ refl) (source-at _ env _ _ _ _ _ trace _ _ _ h l _ e f));
+          (done .swap .ensures .1 _ env _ _ (is-at _ env _ _ _ _ _ trace _ _ _ h z _ e _ refl) (source-at _ env _ _ _ _ _ trace _ _ _ h z _ e f));
       fit = λ n f g. f;
       kept = λ i h. refl;
     })
@@ -236,28 +234,33 @@ pub act-spec : {M : Type 1} → statement M
 act-spec =
     tie.close
     (tie.spec
-    inside
     (λ c. search needs)
     element
     vendor-lies
     (λ c κs. search needs)
     class-lies
     (λ c κs. search needs)
+    (λ c κs. start (c .before .before) .pre .inside)
     matches-requires
     (λ c κs. search needs)
     (λ c κs. search needs)
     (λ c κs. search needs)
+    (λ c κs. start (c .before .before) .pre .inside)
     (λ c κs. search needs)
     (λ c κs. search needs)
     (λ c κs. search needs)
+    (λ c κs. start (c .before .before) .pre .inside)
     (λ c κs. search needs)
     (λ c κs. search needs)
     (λ c κs. search needs)
+    (λ c κs. start (c .before .before) .pre .inside)
     fetch-requires
+    (λ c κs. start (c .before .before) .pre .inside)
     copy-requires
     (λ c κs. search needs)
     runs-requires
     (λ c κs. search needs)
+    (λ c κs. start (c .before .before) .pre .inside)
     swap-requires
     (λ c κs. search needs)
     vendor
