@@ -14,7 +14,7 @@ use text::least;
 use text::put;
 
 // What a room is filled with.
-pub const ROOM_FILL: u8 = 160;
+pub(crate) const ROOM_FILL: u8 = 160;
 
 // Bytes for a length of two bytes; what they are does not matter.
 pub(crate) fn memory() -> [u8; 65536]

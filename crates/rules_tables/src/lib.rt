@@ -16,7 +16,7 @@ use rules::tables::Parameter;
 use rules::tables::ParameterRow;
 
 // The rows of the table of commands; in the table by number one entry for each code, then one for each key.
-pub const ROWS: usize = 13;
+const ROWS: usize = 13;
 
 const CODES: usize = codes::SWAP + 1;
 
@@ -39,9 +39,9 @@ pub const LOAD: u8 = 16;
 
 pub const RUN: u8 = 32;
 
-pub const ANYWHERE: u8 = COMMON + PAYLOAD_FETCH + INSTALL + VALIDATE + LOAD + RUN;
+const ANYWHERE: u8 = COMMON + PAYLOAD_FETCH + INSTALL + VALIDATE + LOAD + RUN;
 
-pub const COMMANDS: [Command; ROWS] = [
+const COMMANDS: [Command; ROWS] = [
     Command {
         code: codes::VENDOR as u8,
         condition: true,
@@ -122,7 +122,7 @@ pub const COMMANDS: [Command; ROWS] = [
     },
 ];
 
-pub const PARAMETERS: [ParameterRow; Controller::PARAMETERS] = [
+const PARAMETERS: [ParameterRow; Controller::PARAMETERS] = [
     ParameterRow {
         key: codes::COERCE as u8,
         parameter: Parameter::Coerce,
