@@ -16,7 +16,7 @@ use Rattle.run_slot_search.specs.Search.{namesAt}
 use Rattle.program_parameters.specs.Entries.{nextIn}
 use Rattle.program_test.specs.declared.test.Tested.{Tested}
 
--- the place after the identifier at `at`, 0 if it is not well formed
+-- 'Per component: mark, FD, length 1, identifier': the place after the one at `at`, 0 if it is not well formed
 abbrev pub nameEnd : Bytes → ℕ → ℕ
 nameEnd p at = nextIn (length p) (idsIn 1 (drop at p))
 
