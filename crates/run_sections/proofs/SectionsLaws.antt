@@ -78,7 +78,7 @@ module _ (s vendor class answers : Bytes) (group : Group) (places : List ℕ) (e
         let e : l .rest ≡ [] = rest-end s (length (env .ids)) places k (l .commands) (l .rest) h (l .stand) in
         let g : runAll env (chosen (sectionsOf group) (l .rest)) (stateBy slots memory trace run) ≡ out Finished (stateBy slots memory trace run) =
         ap (λ (xs : List Section). runAll env (chosen (sectionsOf group) xs) (stateBy slots memory trace run)) e in
-        record { goes = rw (l .going) (sym (l .goes ∙ g)); late = λ z. absurd (omega (arith, l .going)) }
+        record { goes = rw (l .going) (sym (l .goes ∙ g)); ends = rw (l .going) refl; late = λ z. absurd (omega (arith, l .going)) }
 
     -- section k is not there, or not the group's
     not-there : Rest s (length (env .ids)) places (k + 1) (l .commands) (l .rest) → Left slots memory trace run (k + 1)
@@ -120,6 +120,7 @@ module _ (s vendor class answers : Bytes) (group : Group) (places : List ℕ) (e
         stopped n =
             record {
               goes = sym (first ∙ all-stops env (x .section .seq) _ _ _ _ (d .goes) (not-finished (r .end) n));
+              ends = d .ends;
               late = d .late;
             }
 

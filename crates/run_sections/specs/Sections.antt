@@ -18,6 +18,7 @@ use Rattle.rules.specs.Run.{planOf, runAll}
 use Rattle.check_manifest.specs.Sections.{placed}
 use Rattle.manifest_accessors.specs.Arguments.{coerceFalse}
 use Rattle.run_actions.specs.declared.Progress.{Progress}
+use Rattle.run_actions.specs.Action.{Ends}
 use Rattle.run_commands.specs.Machine.{stateAt, outAt}
 use Rattle.run_sequence.specs.declared.Run.{Run}
 use Rattle.run_sequence.specs.Cycle.{doneBy, Ready, SequenceRuns}
@@ -38,6 +39,7 @@ pub record SectionsJob (s : Bytes) (sections : List ℕ) (vendor class answers s
 pub record SectionsRan (s : Bytes) (env : Env) (plan : List Seq) (slots : Bytes) (memory : List ℕ) (trace : Bytes) (r : Progress) (slots′ : Bytes)
     (memory′ : List ℕ) (trace′ : Bytes) : Type 0 where
   pub goes : outAt s (length (env .ids)) memory′ slots′ trace′ r ≡ runAll env plan (stateAt s (length (env .ids)) memory slots trace 0 0)
+  pub ends : Ends (r .end)
   pub late : endNumber Finished < r .end → 0 < r .events
 
 -- what the functions promise of what they are lent: a section that is wanted was run, and else nothing was done

@@ -17,6 +17,7 @@ use Rattle.manifest_accessors.specs.declared.arguments.Args.{Args}
 use Rattle.manifest_accessors.specs.declared.heads.Opened.{Opened}
 use Rattle.run_sequence.specs.declared.Run.{Run}
 use Rattle.run_actions.specs.declared.Progress.{Progress}
+use Rattle.run_actions.specs.Action.{Ends}
 use Rattle.run_slots.specs.Params.{FitAll, SlotsKept}
 use Rattle.run_commands.specs.Op.{opOf, IsCode}
 use Rattle.run_commands.specs.Machine.{stateAt, outAt}
@@ -46,17 +47,18 @@ module _ (s : Bytes) (head : Opened) (run : Run) (vendor class answers slots : B
   pub leaf-room : eventBytes * run .events + eventBytes ≤ length trace
   leaf-room = omega (arith, j .few, j .ready .lent .room)
 
-  pub leaf-ran : (d : Progress) (slots′ : Bytes) (memory′ : List ℕ) (trace′ : Bytes) → d .events ≡ run .events + 1 →
+  pub leaf-ran : (d : Progress) (slots′ : Bytes) (memory′ : List ℕ) (trace′ : Bytes) → d .events ≡ run .events + 1 → Ends (d .end) →
       outAt s (length (j .ready .env .ids)) memory′ slots′ trace′ d
       ≡ step (j .ready .env) (opOf s (head .value) (a .value) (paramsOf a)) i (run .next) (stateAt s (length (j .ready .env .ids)) memory slots trace (run .events) (run .used)) →
       FitAll s (length (j .ready .env .ids)) memory′ → SlotsKept memory memory′ → (c : ℕ) → c ≡ cond (eqb (a .coerce) 0) (run .coerce) (a .coerce) →
       CommandRan s (j .ready .env) (one (run .next) (j .argument .op) (j .argument .coerce)) (j .argument .to) run slots memory trace
       (record { next = a .next; index = i; coerce = c; events = d .events; used = d .used; end = d .end }) slots′ memory′ trace′
-  leaf-ran d slots′ memory′ trace′ ev goes fit same c ec =
+  leaf-ran d slots′ memory′ trace′ ev ends goes fit same c ec =
       record {
         goes = goes ∙ (rw (r .op, leaf-component) (sym (run-one _ _ _ _ _ _)));
         fit = fit;
         same = same;
+        ends = ends;
         late = λ l. omega arith;
         next = λ l. r .next;
         index = λ l. leaf-component;

@@ -14,6 +14,7 @@ use Rattle.rules.specs.Manifest.{Seq, then, Cmd, countCmd}
 use Rattle.rules.specs.Step.{Env, State, Out, out}
 use Rattle.rules.specs.Run.{on, next, runSeq, runCmd, indexAfter, coerceAfter}
 use Rattle.run_slots.specs.Params.{SlotsKept}
+use Rattle.run_actions.specs.Action.{Ends}
 use Rattle.run_commands.specs.Machine.{outAt}
 use Rattle.run_sequence.specs.declared.Run.{Run}
 use Rattle.manifest_accessors.specs.Arguments.{isTrue}
@@ -144,6 +145,10 @@ module _ (s : Bytes) (depth : ℕ) (run : Run) (vendor class answers slots : Byt
     pub command-falls : (t : ℕ) → remaining s depth (run .next) ≡ t → (at : ℕ) → p ≤ at → remaining s (depth - 1) at < t
     command-falls t is at l = omega (arith, depth-falls s depth (run .next) at sequence-deep (omega (arith, q .1, head-later s (run .next) sequence-head)))
 
+caught-ends : (b : Bool) (n : ℕ) → Ends n → Ends (cond b (endNumber Finished) n)
+caught-ends true n e = refl
+caught-ends false n e = e
+
 module _ (s vendor class answers : Bytes) (depth : ℕ) (coercible : Bool) (slots : Bytes) (memory : List ℕ) (trace : Bytes) (left : ℕ) (now : Run)
     (env : Env) (seq : Seq) (run : Run) (slots₀ : Bytes) (memory₀ : List ℕ) (trace₀ : Bytes)
     (l : Loop s vendor class memory₀ answers depth coercible env (runSeq env seq coercible (run .index) false (stateOf s (length (env .ids)) memory₀ slots₀ trace₀ run))
@@ -155,6 +160,7 @@ module _ (s vendor class answers : Bytes) (depth : ℕ) (coercible : Bool) (slot
         goes = sym (loop-done s vendor class memory₀ answers depth coercible slots memory trace left now env _ l z);
         fit = l .kept .lent .fit;
         same = l .same;
+        ends = refl;
         late = λ h. absurd (omega arith);
       }
 
@@ -167,5 +173,6 @@ module _ (s vendor class answers : Bytes) (depth : ℕ) (coercible : Bool) (slot
           goes = loop-stops s vendor class memory₀ answers depth coercible slots memory trace left now env _ l h r slots′ memory′ trace′ ran z;
           fit = ran .fit;
           same = λ i k. ran .same i k ∙ l .same i k;
+          ends = caught-ends (coercible && isTrue (now .coerce) && eqb (r .end) (endNumber ConditionFailed)) (r .end) (ran .ends);
           late = λ p. ran .late (omega (arith, z));
         }

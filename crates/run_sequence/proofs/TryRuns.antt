@@ -19,6 +19,7 @@ use Rattle.rules.specs.Run.{on, next, runSeq, runCmd, runAlts, indexAfter, coer
 use Rattle.run_sequence.specs.declared.Run.{Run}
 use Rattle.run_slots.specs.Params.{FitAll, SlotsKept}
 use Rattle.run_actions.specs.declared.Progress.{Progress}
+use Rattle.run_actions.specs.Action.{Ends}
 use Rattle.run_commands.specs.Machine.{stateAt, outAt}
 use Rattle.manifest_accessors.specs.Heads.{HeadAt, Strings}
 use Rattle.run_sequence.specs.Cycle.{stateOf, doneBy, LeafJob, CommandJob, SequenceJob, CommandRan, SequenceRan, runAt}
@@ -94,14 +95,15 @@ pub record AltsLoop (s vendor class : Bytes) (memory₀ : List ℕ) (answers : B
 holds-sequences : (s : Bytes) (env : Env) (cmd : Cmd) (to : ℕ) (run : Run) (slots : Bytes) (memory : List ℕ) (trace : Bytes) (at : ℕ) (r : Progress)
     (slots′ : Bytes) (memory′ : List ℕ) (trace′ : Bytes) →
     outAt s (length (env .ids)) memory′ slots′ trace′ r ≡ runCmd env cmd (run .index) (stateOf s (length (env .ids)) memory slots trace run) →
-    FitAll s (length (env .ids)) memory′ → SlotsKept memory memory′ → (0 < r .end → 0 < r .events) → (r .end ≡ 0 → at ≡ to) → run .index < length (env .ids) →
+    FitAll s (length (env .ids)) memory′ → SlotsKept memory memory′ → Ends (r .end) → (0 < r .end → 0 < r .events) → (r .end ≡ 0 → at ≡ to) → run .index < length (env .ids) →
     ((i : ℕ) → indexAfter cmd i ≡ i) → ((c : Bool) → coerceAfter cmd c ≡ c) →
     CommandRan s env cmd to run slots memory trace (left run at r) slots′ memory′ trace′
-holds-sequences s env cmd to run slots memory trace at r slots′ memory′ trace′ goes fit same late next inside index coerce =
+holds-sequences s env cmd to run slots memory trace at r slots′ memory′ trace′ goes fit same ends late next inside index coerce =
     record {
       goes = goes;
       fit = fit;
       same = same;
+      ends = ends;
       late = late;
       next = next;
       index = λ z. sym (index (run .index));
@@ -165,7 +167,7 @@ module _ (s : Bytes) (depth : ℕ) (run : Run) (vendor class answers slots : Byt
               let ran = (rw (at, done) at runs) sub-job in
               rw e (holds-sequences s (j .ready .env) (j .place .cmd) (j .place .to) run slots memory trace (from + w) r slots′ memory′ trace′
               (ran .goes ∙ ap (λ (c : Cmd). runCmd (j .ready .env) c (run .index) (stateOf s (length (j .ready .env .ids)) memory slots trace run)) (sym (sub-at .is)))
-              (ran .fit) (ran .same) (ran .late) (λ x. omega (arith, o .0, o .1, sub-at .to)) (j .ready .inside) (λ i. rw (sub-at .is)) (λ c. rw (sub-at .is)))
+              (ran .fit) (ran .same) (ran .ends) (ran .late) (λ x. omega (arith, o .0, o .1, sub-at .to)) (j .ready .inside) (λ i. rw (sub-at .is)) (λ c. rw (sub-at .is)))
 
     -- neither that nor a try each
     module _ (z : v ≡ runSequenceCode → ⊥) (z′ : v ≡ tryEachCode → ⊥) where
@@ -227,7 +229,7 @@ module _ (s vendor class answers : Bytes) (depth : ℕ) (env : Env) (cmd : Cmd) 
       let st : State = stateAt s (length (env .ids)) memory slots trace (now .events) (now .used) in
       rw e (holds-sequences s env cmd to run slots₀ memory₀ trace₀ p (record { events = now .events; used = now .used; end = endNumber ConditionFailed }) slots memory trace
       (sym (l .goes ∙ ap (λ (a : List Seq). tryAll env a (run .index) st) none))
-      (l .kept .lent .fit) (l .same) (λ x. l .final z) (λ x. at) (l .kept .inside) (λ i. rw (l .is)) (λ c. rw (l .is)))
+      (l .kept .lent .fit) (l .same) refl (λ x. l .final z) (λ x. at) (l .kept .inside) (λ i. rw (l .is)) (λ c. rw (l .is)))
 
   module _ (h : 0 < k) where
     abbrev pub its-choice : Choice s (length (env .ids)) depth (now .events) k p to (l .place)
@@ -277,7 +279,7 @@ module _ (s vendor class answers : Bytes) (depth : ℕ) (env : Env) (cmd : Cmd) 
               rw e′ (holds-sequences s env cmd to run slots₀ memory₀ trace₀ at r slots′ memory′ trace′
               (sym (l .goes ∙ ap (λ (a : List Seq). tryAll env a (run .index) st) (its-choice .seqs)
               ∙ try-off env (its-choice .first) (its-choice .rest .seqs) (run .index) st (stateAt s (length (env .ids)) memory′ slots′ trace′ (r .events) (r .used)) (r .end) z (sym (ran .goes))))
-              (ran .fit) (λ i k. ran .same i k ∙ l .same i k) (ran .late) (λ x. e) (l .kept .inside) (λ i. rw (l .is)) (λ c. rw (l .is)))
+              (ran .fit) (λ i k. ran .same i k ∙ l .same i k) (ran .ends) (ran .late) (λ x. e) (l .kept .inside) (λ i. rw (l .is)) (λ c. rw (l .is)))
 
           pub tries-on : r .end ≡ 1 →
               AltsLoop s vendor class memory₀ answers depth env cmd to run (runCmd env cmd (run .index) (stateOf s (length (env .ids)) memory₀ slots₀ trace₀ run))

@@ -18,6 +18,7 @@ use Rattle.run_sequence.specs.declared.Run.{Run}
 use Rattle.run_sequence.specs.declared.Level.{Level}
 use Rattle.run_slots.specs.Params.{FitAll, SlotsKept}
 use Rattle.run_actions.specs.declared.Progress.{Progress}
+use Rattle.run_actions.specs.Action.{Ends}
 use Rattle.run_commands.specs.Machine.{stateAt, outAt, Lends}
 use Rattle.manifest_accessors.specs.Arguments.{isTrue, ArgumentAt}
 use Rattle.manifest_accessors.specs.Places.{CommandAt, SequenceAt}
@@ -74,6 +75,7 @@ pub record CommandRan (s : Bytes) (env : Env) (cmd : Cmd) (to : ℕ) (run : Run)
   pub goes : outOf s (length (env .ids)) memory′ slots′ trace′ r ≡ runCmd env cmd (run .index) (stateOf s (length (env .ids)) memory slots trace run)
   pub fit : FitAll s (length (env .ids)) memory′
   pub same : SlotsKept memory memory′
+  pub ends : Ends (r .end)
   pub late : endNumber Finished < r .end → 0 < r .events
   pub next : r .end ≡ endNumber Finished → r .next ≡ to
   pub index : r .end ≡ endNumber Finished → r .index ≡ indexAfter cmd (run .index)
@@ -86,6 +88,7 @@ pub record SequenceRan (s : Bytes) (env : Env) (seq : Seq) (coercible : Bool) (r
       (stateOf s (length (env .ids)) memory slots trace run)
   pub fit : FitAll s (length (env .ids)) memory′
   pub same : SlotsKept memory memory′
+  pub ends : Ends (r .end)
   pub late : endNumber Finished < r .end → 0 < r .events
 
 -- what each function promises of what it is lent: for every job that it is asked for, it ran as the rule says

@@ -43,7 +43,7 @@ ran c = λ j.
     let e = at .component .ensures in
     let does = d .perform .ensures in
     let n = j .count in
-    leaf-ran _ _ _ _ _ _ _ _ _ j _ r _ e (d .perform .result) _ _ _ (does .events)
+    leaf-ran _ _ _ _ _ _ _ _ _ j _ r _ e (d .perform .result) _ _ _ (does .events) (does .ends)
     (does .does (j .ready .env) (j .ready .lent .host) (leaf-inside _ _ _ _ _ _ _ _ _ j _ r _ e) (j .ready .lent .fit))
     (does .fit _ (j .ready .lent .fit) (rw n at (r .fit))) (does .kept) _ (c .either .ensures)
 
