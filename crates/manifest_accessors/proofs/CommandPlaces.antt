@@ -12,7 +12,7 @@ use Rattle.rules.specs.Bytes.{Bytes, Span}
 use Rattle.rules.specs.Got.{got}
 use Rattle.rules.specs.Cbor.{BYTES, ARRAY, Head, after, item}
 use Rattle.rules.specs.Limits.{limits}
-use Rattle.rules.specs.Commands.{Row, rowOf, commands}
+use Rattle.rules.specs.Commands.{Row, rowOf, commands, runSequenceCode, tryEachCode}
 use Rattle.rules.specs.Manifest.{Seq, sub, try, Alts, last, or, count}
 use Rattle.rules.specs.Check.{Read, number, inBytes, alternativesAt, argument, command, sequenceAt}
 use Rattle.rules.proofs.GotLaws.{passed, split, split₂, both}
@@ -80,24 +80,25 @@ module _ (s : Bytes) (n section depth m e at : ℕ) (a : Seq) (i : InString s (s
         few = few;
       }
 
--- 30
+-- of a run sequence
 pub record Sub (s : Bytes) (n depth events at : ℕ) (x : CommandAt s n depth events at) (p : ℕ) : Type 0 where
   pub seq : Seq
   pub inside : InString s (sequenceAt s n (x .section) depth) (x .m + 1) (x .e) p seq
   pub is : x .cmd ≡ sub seq
   pub to : x .to ≡ inside .head .next + inside .head .num
 
-pub its-sequence : (s : Bytes) (n depth events at : ℕ) (x : CommandAt s n depth events at) (c : Coded s n depth events at x) (p : ℕ) → p ≡ c .from → c .code ≡ 30 → Sub s n depth events at x p
+pub its-sequence : (s : Bytes) (n depth events at : ℕ) (x : CommandAt s n depth events at) (c : Coded s n depth events at x) (p : ℕ) → p ≡ c .from → c .code ≡ runSequenceCode →
+    Sub s n depth events at x p
 unfolding argument
 its-sequence s n depth events at x c p e z =
-    let r : some (c .row) ≡ rowOf 30 commands = sym (c .listed) ∙ ap (λ (k : ℕ). rowOf k commands) z in
+    let r : some (c .row) ≡ rowOf runSequenceCode commands = sym (c .listed) ∙ ap (λ (k : ℕ). rowOf k commands) z in
     let f : c .row .form ≡ Rattle.rules.specs.Commands.sequence = cc in
     split₂ _ (inBytes s (sequenceAt s n (x .section) depth (x .m + 1)) (x .e) p) _ (x .cmd, x .to) (rw (f, ← e) at (c .argument)) λ a q qa q₁.
     let (i, t) = in-string s (sequenceAt s n (x .section) depth) (x .m + 1) (x .e) p a q qa in
     let (ec, et) = both q₁ in
     record { seq = a; inside = i; is = sym ec; to = sym et ∙ t }
 
--- 15
+-- of a try each
 pub record Tries (s : Bytes) (n depth events at : ℕ) (x : CommandAt s n depth events at) (p : ℕ) : Type 0 where
   pub head : Head
   pub item : item ARRAY 1 (limits .alternatives) s (x .e) p ≡ got head
@@ -106,10 +107,11 @@ pub record Tries (s : Bytes) (n depth events at : ℕ) (x : CommandAt s n depth 
   pub is : x .cmd ≡ try alts
   pub some-of : 1 ≤ head .num
 
-pub its-alternatives : (s : Bytes) (n depth events at : ℕ) (x : CommandAt s n depth events at) (c : Coded s n depth events at x) (p : ℕ) → p ≡ c .from → c .code ≡ 15 → Tries s n depth events at x p
+pub its-alternatives : (s : Bytes) (n depth events at : ℕ) (x : CommandAt s n depth events at) (c : Coded s n depth events at x) (p : ℕ) → p ≡ c .from → c .code ≡ tryEachCode →
+    Tries s n depth events at x p
 unfolding argument
 its-alternatives s n depth events at x c p e z =
-    let r : some (c .row) ≡ rowOf 15 commands = sym (c .listed) ∙ ap (λ (k : ℕ). rowOf k commands) z in
+    let r : some (c .row) ≡ rowOf tryEachCode commands = sym (c .listed) ∙ ap (λ (k : ℕ). rowOf k commands) z in
     let f : c .row .form ≡ Rattle.rules.specs.Commands.alternatives = cc in
     split _ (item ARRAY 1 (limits .alternatives) s (x .e) p) _ (x .cmd, x .to) (rw (f, ← e) at (c .argument)) λ h qh q₁.
     split₂ _ (alternativesAt s (sequenceAt s n (x .section) depth) (h .num - 1) (x .m + 1) (x .e) (h .next)) _ (x .cmd, x .to) q₁ λ a q qa q₂.

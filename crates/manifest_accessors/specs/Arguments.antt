@@ -17,9 +17,6 @@ use Rattle.run_slots.specs.declared.params.Params.{Params}
 use Rattle.run_slots.specs.Params.{optional, meaning, Fit}
 use Rattle.run_commands.specs.Op.{opOf, SixteenAt}
 
-abbrev pub paramsOf : Args → Params
-paramsOf a = a .params
-
 -- coerce as a number; 0 is unset
 abbrev pub coerceFalse : ℕ
 coerceFalse = 1

@@ -1,7 +1,7 @@
 -- One record of a program, by its place.
 use Prim.Native.Nat.{ℕ, _+_, _-_, _≤_, _<_}
 use mathlib.Core.Path.{_≡_, refl, sym, ap, _∙_}
-use mathlib.Core.Bool.{Bool, true, false, not, _&&_, _||_}
+use mathlib.Core.Bool.{Bool, true, false, not, _&&_, _||_, true≢false}
 use mathlib.Core.Option.{Option, some, none}
 use native.Mathlib.Omega.{arith}
 use native.Mathlib.Nat.{add-zero}
@@ -166,9 +166,6 @@ module _ (p : Bytes) (at size total n : ℕ) where
         jump-on h = rw (eq-eqb _ _ i, ← q, eq-eqb x 0 z, eq-eqb size 0 s, ← e, lt-ltb n t h)
 
 -- what a look-up of a command found
-no : true ≡ false → ⊥
-no e = let z : _≡_ {A = ℕ} 0 1 = cc in omega arith
-
 module _ (g : Group) (comps total n : ℕ) (p : Bytes) (at to : ℕ) where
   abbrev asked : Got Op
   asked = commandAt g comps total n p at to
@@ -216,7 +213,7 @@ module _ (g : Group) (comps total n : ℕ) (p : Bytes) (at to : ℕ) where
               where
                 go : (y : Got Op) → made ≡ y → false ≡ accepted asked
                 go (refused r q) e = rw (← ec, is-row, ← allowed, not-false a ha, lt-ltb _ _ hc, e)
-                go (got op) e = let z : true ≡ false = ap accepted (sym e) ∙ sym fitting ∙ not-true b h in absurd (no z)
+                go (got op) e = let z : true ≡ false = ap accepted (sym e) ∙ sym fitting ∙ not-true b h in absurd (true≢false z)
 
             is-condition : (op : Op) → made ≡ got op → isCondition op ≡ x .condition
             is-condition op e =
@@ -233,21 +230,21 @@ module _ (g : Group) (comps total n : ℕ) (p : Bytes) (at to : ℕ) where
                 last op false = refl
 
                 go : (m : Got Op) → made ≡ m → u ≡ accepted asked
-                go (refused r q) e = let z : true ≡ false = sym (not-false b h) ∙ fitting ∙ ap accepted e in absurd (no z)
+                go (refused r q) e = let z : true ≡ false = sym (not-false b h) ∙ fitting ∙ ap accepted e in absurd (true≢false z)
                 go (got op) e =
                     rw (← ec, is-row, ← allowed, not-false a ha, lt-ltb _ _ hc, e, ← ey, ← targeted op (x .condition) y n total (is-condition op e), ← eu) (last op u)
 
 accepted-got : {A : Type 0} (x : Got A) → accepted x ≡ true → (a : A) × (x ≡ got a)
-accepted-got (refused r p) e = absurd (no (sym e))
+accepted-got (refused r p) e = absurd (true≢false (sym e))
 accepted-got (got a) e = (a, refl)
 
 not-accepted : {A B : Type 0} (x : Got A) (f : A → B) → accepted x ≡ false → accepted (x >>= λ a. got (f a)) ≡ false
 not-accepted (refused r p) f e = refl
-not-accepted (got a) f e = absurd (no e)
+not-accepted (got a) f e = absurd (true≢false e)
 
 next-none : {A : Type 0} (to : ℕ) (x : Got (A × Bytes)) → accepted x ≡ false → 0 ≡ nextIn to x
 next-none to (refused r p) e = refl
-next-none to (got a) e = absurd (no e)
+next-none to (got a) e = absurd (true≢false e)
 
 module _ (g : Group) (comps total n : ℕ) (p : Bytes) (at : ℕ) where
   abbrev place : ℕ

@@ -150,6 +150,7 @@ LOAD = 11
 abbrev pub RUN : ℕ
 RUN = 12
 
+-- all of them, in the order of a manifest
 abbrev pub allSections : List ℕ
 allSections = COMMON ∷ PAYLOAD_FETCH ∷ INSTALL ∷ VALIDATE ∷ LOAD ∷ RUN ∷ []
 

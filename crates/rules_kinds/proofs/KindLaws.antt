@@ -2,7 +2,7 @@
 use Prim.Native.Nat.{ℕ, _≤_, _<_}
 use mathlib.Core.Path.{_≡_, refl, sym, subst, _∙_}
 use mathlib.Core.List.{List, [], _∷_}
-use mathlib.Core.Bool.{Bool, true, false, not, _||_}
+use mathlib.Core.Bool.{Bool, true, false, not, _||_, true≢false}
 use mathlib.Core.Logic.{_⊎_, inl, inr}
 use mathlib.Core.Option.{Option, some, none}
 use native.Mathlib.Omega.{arith}
@@ -36,9 +36,6 @@ test c Alternatives = other c
 test c Parameters = among c parameterised
 test c Sequence = other c
 
-no : true ≡ false → ⊥
-no e = let z : _≡_ {A = ℕ} 0 1 = cc in omega arith
-
 -- the row of a code has that code
 numbered : (rs : List Row) → Each (λ c r. r .number ≡ c) rs
 numbered [] = tt
@@ -71,7 +68,7 @@ either c j k e = go (eqb c j) (eqb c k) refl refl e
     go : (a b : Bool) → eqb c j ≡ a → eqb c k ≡ b → (a || (b || false)) ≡ true → (c ≡ j) ⊎ (c ≡ k)
     go true b p q h = inl (eqb-true c j p)
     go false true p q h = inr (eqb-true c k q)
-    go false false p q h = absurd (no (sym h))
+    go false false p q h = absurd (true≢false (sym h))
 
 neither : (c : ℕ) → other c ≡ true → Other c
 neither c h = (
@@ -80,7 +77,7 @@ neither c h = (
 )
   where
     is-not : (k : ℕ) → (c ≡ k → other c ≡ false) → c ≡ k → ⊥
-    is-not k f e = no (sym h ∙ f e)
+    is-not k f e = true≢false (sym h ∙ f e)
 
 module _ (c : ℕ) where
   pub sixteen-codes : kindOf c ≡ Sixteen → (c ≡ vendorCode) ⊎ (c ≡ classCode)

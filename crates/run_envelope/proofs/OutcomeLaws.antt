@@ -1,15 +1,13 @@
 -- The answer of a run, by the rule.
-use Prim.Native.Nat.{ℕ, _*_, _≤_, _<_}
+use Prim.Native.Nat.{ℕ}
 use mathlib.Core.Path.{_≡_, ap, _∙_}
 use mathlib.Core.List.{List}
 use native.Mathlib.Omega.{arith}
 use lib.ListN.{length, replicate, length-map}
 use Rattle.rules.specs.declared.answers.Group.{Group}
 use Rattle.rules.specs.declared.answers.Refusal.{Refusal}
-use Rattle.rules.specs.declared.answers.End.the-variants.{Finished}
-use Rattle.rules.specs.Answers.{refusalOf, endNumber, endOf}
+use Rattle.rules.specs.Answers.{refusalOf, endOf}
 use Rattle.rules.specs.Limits.{memoryNumbers}
-use Rattle.rules.specs.Step.{eventBytes}
 use Rattle.rules.specs.Bytes.{Bytes, bytesAt}
 use Rattle.rules.specs.Got.{refused}
 use Rattle.rules.specs.Manifest.{names}
@@ -23,7 +21,7 @@ use Rattle.run_admission.specs.declared.answer.Answer.the-variants.{Refused, Ra
 use Rattle.run_admission.specs.declared.answer.Ending.{Ending}
 use Rattle.run_actions.specs.declared.Progress.{Progress}
 use Rattle.run_slot_search.specs.Search.{namesAt, Found}
-use Rattle.run_admission.specs.Answer.{refusalIn, endingOf, Settles}
+use Rattle.run_admission.specs.Answer.{refusalIn, LastEvent, endingOf, Settles}
 use Rattle.run_commands.specs.Machine.{outAt}
 use Rattle.run_sections.specs.Sections.{SectionsJob, SectionsRan}
 use Rattle.manifest_accessors.specs.Accepted.{Accepted}
@@ -77,7 +75,7 @@ module _ (s : Bytes) (number n : ℕ) (ids sections : List ℕ) (a : Accepted s 
             (state-start group (a .manifest .number) (names s (a .manifest)) x refusal stops z (known s number n ids sections a .some-ids .1) memory
             (rw (named s number n ids sections a) at f) s)
 
-        pub last-event : (endNumber Finished < r .end → 0 < r .events) × (eventBytes * r .events ≤ length trace′)
+        pub last-event : LastEvent (r .end) (r .events) trace′
         unfolding report
         last-event =
             let f = envelope-effects s group (a .manifest) x _ (a .checks)

@@ -21,7 +21,7 @@ use Rattle.run_actions.specs.Action.{Ends}
 use Rattle.run_slots.specs.Params.{FitAll, SlotsKept}
 use Rattle.run_commands.specs.Op.{opOf, IsCode}
 use Rattle.run_commands.specs.Machine.{stateAt, outAt}
-use Rattle.manifest_accessors.specs.Arguments.{paramsOf, componentOf, ArgumentRead}
+use Rattle.manifest_accessors.specs.Arguments.{componentOf, ArgumentRead}
 use Rattle.run_sequence.specs.Cycle.{LeafJob, CommandRan}
 use Rattle.manifest_accessors.proofs.OneLaws.{one-plain, coerce-after}
 
@@ -41,7 +41,7 @@ module _ (s : Bytes) (head : Opened) (run : Run) (vendor class answers slots : B
   pub leaf-fit : FitAll s (limits .components) memory
   leaf-fit k h = record { source = omega (arith, j .ready .lent .fit k h .source, j .ready .lent .host .few); digest = j .ready .lent .fit k h .digest }
 
-  pub leaf-code : IsCode s (head .value) (a .value) (paramsOf a)
+  pub leaf-code : IsCode s (head .value) (a .value) (a .params)
   leaf-code = rw (r .op) (one-plain s (head .value) (head .next) (j .argument) .0)
 
   pub leaf-room : eventBytes * run .events + eventBytes ≤ length trace
@@ -49,7 +49,7 @@ module _ (s : Bytes) (head : Opened) (run : Run) (vendor class answers slots : B
 
   pub leaf-ran : (d : Progress) (slots′ : Bytes) (memory′ : List ℕ) (trace′ : Bytes) → d .events ≡ run .events + 1 → Ends (d .end) →
       outAt s (length (j .ready .env .ids)) memory′ slots′ trace′ d
-      ≡ step (j .ready .env) (opOf s (head .value) (a .value) (paramsOf a)) i (run .next) (stateAt s (length (j .ready .env .ids)) memory slots trace (run .events) (run .used)) →
+      ≡ step (j .ready .env) (opOf s (head .value) (a .value) (a .params)) i (run .next) (stateAt s (length (j .ready .env .ids)) memory slots trace (run .events) (run .used)) →
       FitAll s (length (j .ready .env .ids)) memory′ → SlotsKept memory memory′ → (c : ℕ) → c ≡ cond (eqb (a .coerce) 0) (run .coerce) (a .coerce) →
       CommandRan s (j .ready .env) (one (run .next) (j .argument .op) (j .argument .coerce)) (j .argument .to) run slots memory trace
       (record { next = a .next; index = i; coerce = c; events = d .events; used = d .used; end = d .end }) slots′ memory′ trace′

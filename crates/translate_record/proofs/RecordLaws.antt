@@ -19,7 +19,7 @@ use Rattle.run_slots.specs.declared.params.Params.{Params}
 use Rattle.run_slots.specs.Params.{optional, meaning, Fit}
 use Rattle.run_commands.specs.Op.{opOf, IsCode}
 use Rattle.manifest_accessors.specs.declared.arguments.Args.{Args}
-use Rattle.manifest_accessors.specs.Arguments.{paramsOf, ArgumentRead}
+use Rattle.manifest_accessors.specs.Arguments.{ArgumentRead}
 use Rattle.rules_theorems.proofs.OpLaws.{code-small}
 use Rattle.manifest_accessors.proofs.OneLaws.{one-plain, coerce-after}
 use Rattle.translate_record.specs.declared.record.WriteState.{WriteState}
@@ -117,16 +117,16 @@ module _ (s : Bytes) (table : List ℕ) (c at : ℕ) (state : WriteState) (room 
   is-code : code (j .argument .op) ≡ c
   is-code = one-plain s c at (j .argument) .0
 
-  pub leaf-code : IsCode s c (a .value) (paramsOf a)
+  pub leaf-code : IsCode s c (a .value) (a .params)
   leaf-code = rw (r .op) is-code
 
   pub leaf-small : c < 256
   leaf-small = omega (arith, is-code, code-small (j .argument .op))
 
-  pub leaf-fit : Fit s 256 (paramsOf a)
+  pub leaf-fit : Fit s 256 (a .params)
   leaf-fit = record { source = omega (arith, r .fit .source, j .components); digest = r .fit .digest }
 
-  pub leaf-room : state .to + recordSize + length (argBytes (opOf s c (a .value) (paramsOf a))) ≤ length room
+  pub leaf-room : state .to + recordSize + length (argBytes (opOf s c (a .value) (a .params))) ≤ length room
   leaf-room = rw (r .op) (j .enough)
 
   module _ (i : ℕ) (e : i ≡ cond (eqb c setIndexCode) (a .value) (state .index)) where
@@ -137,7 +137,7 @@ module _ (s : Bytes) (table : List ℕ) (c at : ℕ) (state : WriteState) (room 
     leaf-inside = omega (arith, leaf-component, r .inside (state .index) (j .inside))
 
     pub leaf-wrote : (target t : ℕ) → t ≡ cond (Rules.conditionIn (Rules.rowOf c Rules.commands)) target NONE → (to : ℕ) (room₁ : Bytes) →
-        Filled (argBytes (opOf s c (a .value) (paramsOf a))) (state .to + recordSize) room to room₁ →
+        Filled (argBytes (opOf s c (a .value) (a .params))) (state .to + recordSize) room to room₁ →
         (room₂ : Bytes) → room₂ ≡ put room₁ (state .to) (headBytes c i (state .next) t (to - (state .to + recordSize))) → (b : ℕ) → b ≡ cond (eqb (a .coerce) 0) (state .coerce) (a .coerce) →
         CommandWrote (one (state .next) (j .argument .op) (j .argument .coerce)) (j .argument .to) (j .argument .n) target state room
         (record { next = a .next; index = i; coerce = b; n = state .n + 1; to = to }) room₂

@@ -14,7 +14,7 @@ use Rattle.rules.specs.Run.{indexAfter, coerceAfter}
 use Rattle.run_slots.specs.Params.{optional, Fit}
 use Rattle.run_commands.specs.Op.{opOf, IsCode, SixteenAt}
 use Rattle.manifest_accessors.specs.declared.arguments.Args.{Args}
-use Rattle.manifest_accessors.specs.Arguments.{isTrue, paramsOf, Within, ArgumentAt}
+use Rattle.manifest_accessors.specs.Arguments.{isTrue, Within, ArgumentAt}
 use Rattle.translate_record.specs.declared.record.WriteState.{WriteState}
 
 -- the bytes b were put at `to`, and r is the place after them
@@ -28,12 +28,12 @@ stringEntry s key from n = entry key (λ b. b) (optional from (part s from n))
 
 -- the argument of the command of that code, as bytes
 abbrev pub argumentOf : Bytes → ℕ → Args → Bytes
-argumentOf s code a = argBytes (opOf s code (a .value) (paramsOf a))
+argumentOf s code a = argBytes (opOf s code (a .value) (a .params))
 
 -- it was read from s, its parts fit in a record, and from `to` on there is room for it; and the lent table
 abbrev pub ArgumentFits : Bytes → List ℕ → ℕ → Args → Bytes → ℕ → Type 0
 ArgumentFits s table code a room to =
-    Within s (paramsOf a) × Fit s 256 (paramsOf a) × SixteenAt s code (a .value) × IsCode s code (a .value) (paramsOf a)
+    Within s (a .params) × Fit s 256 (a .params) × SixteenAt s code (a .value) × IsCode s code (a .value) (a .params)
     × (to + length (argumentOf s code a) ≤ length room)
     × (table ≡ byNumber)
 

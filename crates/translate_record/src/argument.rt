@@ -6,7 +6,7 @@ ghost use Rattle.rules.specs.Lent.{was, left};
 ghost use Rattle.rules.specs.Bytes.{be4};
 ghost use Rattle.rules.specs.Program.{entry, paramBytes};
 ghost use Rattle.run_slots.specs.Params.{optional, meaning, Fit};
-ghost use Rattle.manifest_accessors.specs.Arguments.{paramsOf, Within};
+ghost use Rattle.manifest_accessors.specs.Arguments.{Within};
 ghost use Rattle.translate_record.specs.Record.{Filled, stringEntry, argumentOf, ArgumentFits};
 ghost use Rattle.rules.specs.Commands.{sourceKey, sizeKey};
 use byte_buffer::copy;
@@ -65,8 +65,8 @@ fn put_size(size: usize, room: &mut [u8], to: usize) -> usize
 
 // The parameters that are set.
 fn put_parameters(s: &[u8], a: Args, room: &mut [u8], to: usize) -> usize
-    requires { ⌜ Within (now s) (paramsOf a) × Fit (now s) 256 (paramsOf a) × (to + length (paramBytes (meaning (now s) (paramsOf a))) ≤ length (now room)) ⌝ }
-    ensures { λ r. ⌜ Filled (paramBytes (meaning (was s) (paramsOf a))) to (was room) r (left room) ⌝ }
+    requires { ⌜ Within (now s) (a .params) × Fit (now s) 256 (a .params) × (to + length (paramBytes (meaning (now s) (a .params))) ≤ length (now room)) ⌝ }
+    ensures { λ r. ⌜ Filled (paramBytes (meaning (was s) (a .params))) to (was room) r (left room) ⌝ }
 {
     let g = a.params;
     let p = put_string(s, codes::URI as u8, g.uri, g.length, room, to);

@@ -21,7 +21,7 @@ use Rattle.rules_kinds.specs.Kinds.{kindOf}
 use Rattle.run_slots.specs.Params.{optional, meaning, Fit}
 use Rattle.run_commands.specs.Op.{opOf}
 use Rattle.manifest_accessors.specs.declared.arguments.Args.{Args}
-use Rattle.manifest_accessors.specs.Arguments.{paramsOf, ArgumentAt, ArgumentRead, Within}
+use Rattle.manifest_accessors.specs.Arguments.{ArgumentAt, ArgumentRead, Within}
 use Rattle.translate_size.specs.Size.{parametersSize, argumentSize}
 use Rattle.rules_kinds.proofs.KindTests.{on}
 
@@ -54,12 +54,12 @@ digest-size x = go (eqb x 0)
     go true = refl
     go false = refl
 
-parameters-are : (s : Bytes) (n : ℕ) (a : Args) → Fit s n (paramsOf a) → Within s (paramsOf a) → length (paramBytes (meaning s (paramsOf a))) ≡ parametersSize a
+parameters-are : (s : Bytes) (n : ℕ) (a : Args) → Fit s n (a .params) → Within s (a .params) → length (paramBytes (meaning s (a .params))) ≡ parametersSize a
 unfolding meaning
 parameters-are s n a f w =
     omega (
       arith,
-      weight-is (meaning s (paramsOf a)),
+      weight-is (meaning s (a .params)),
       string-size s uriKey (a .params .uri) (a .params .length) (w .inside),
       byte-size sourceKey (a .params .source) (a .params .source - 1),
       string-size s digestKey (a .params .digest) (limits .digest) (f .digest),
@@ -67,8 +67,8 @@ parameters-are s n a f w =
       word-size sizeKey (a .params .size) (a .params .size - 1),
     )
 
-module _ (s : Bytes) (c v n : ℕ) (a : Args) (f : Fit s n (paramsOf a)) (w : Within s (paramsOf a)) (sixteen : c < 3 → v + limits .class ≤ length s) where
-  op-size : argumentSize (kindOf c) a ≡ length (argBytes (opOf s c v (paramsOf a)))
+module _ (s : Bytes) (c v n : ℕ) (a : Args) (f : Fit s n (a .params)) (w : Within s (a .params)) (sixteen : c < 3 → v + limits .class ≤ length s) where
+  op-size : argumentSize (kindOf c) a ≡ length (argBytes (opOf s c v (a .params)))
   unfolding opOf kindOf
   op-size = on c vendorCode (λ z. rw z (sym (length-part s v (limits .class) (sixteen (omega arith)))))
       λ d₁. on c classCode (λ z. rw z (sym (length-part s v (limits .class) (sixteen (omega arith)))))

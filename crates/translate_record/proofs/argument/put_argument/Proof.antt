@@ -2,7 +2,6 @@ use mathlib.Core.Path.{sym, _∙_}
 use mathlib.Core.Logic.{⊎-elim}
 use native.Mathlib.Omega.{arith}
 use borrow.Author.Needs.{needs}
-use Rattle.manifest_accessors.specs.Arguments.{paramsOf}
 use Rattle.rules.proofs.BytesLaws.{length-part}
 use Rattle.rules_kinds.proofs.KindLaws.{sixteen-codes, parameter-codes, nil-codes, index-codes, alternative-codes, sequence-codes}
 use Rattle.translate_record.proofs.FillLaws.{filled-none}
@@ -46,7 +45,7 @@ sixteen c =
     let d = to-entry kinds in
     let (_, _, v, _, l, _) = d .pre in
     let k = sixteen-codes _ (sym (kinds .kind-of .ensures) ∙ sixteen .enum-told .given .1) in
-    sixteen-filled (d .args .s .now) _ (d .args .a .value) (paramsOf (d .args .a)) k (v (⊎-elim (λ i. omega arith) (λ i. omega arith) k)) _ _ _ (c .before .before .copy .ensures)
+    sixteen-filled (d .args .s .now) _ (d .args .a .value) (d .args .a .params) k (v (⊎-elim (λ i. omega arith) (λ i. omega arith) k)) _ _ _ (c .before .before .copy .ensures)
 
 parameters : tie.Need-returns-2
 parameters c =

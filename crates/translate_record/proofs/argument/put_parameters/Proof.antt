@@ -1,6 +1,5 @@
 use native.Mathlib.Omega.{arith}
 use borrow.Author.Needs.{needs}
-use Rattle.manifest_accessors.specs.Arguments.{paramsOf}
 use Rattle.translate_record.proofs.FillLaws.{filled-length}
 use Rattle.translate_record.proofs.RecordLaws.{params-length, params-filled}
 use Rattle.translate_record.proofs.argument.put_parameters.Statement.{statement}
@@ -26,7 +25,7 @@ uri : tie.Need-put-string-requires
 uri c κs =
     let d = c .before .before .before .before in
     let (w, f, l) = d .pre in
-    (w .inside, w .short, omega (arith, l, params-length (d .args .s .now) (paramsOf (d .args .a))))
+    (w .inside, w .short, omega (arith, l, params-length (d .args .s .now) (d .args .a .params)))
 
 source : tie.Need-put-source-requires
 source c κs =
@@ -34,7 +33,7 @@ source c κs =
     let d = to-entry uri in
     let (w, f, l) = d .pre in
     let e = uri .put-string .ensures in
-    (f .source, omega (arith, l, e .next, filled-length _ _ _ _ _ e, params-length (d .args .s .now) (paramsOf (d .args .a))))
+    (f .source, omega (arith, l, e .next, filled-length _ _ _ _ _ e, params-length (d .args .s .now) (d .args .a .params)))
 
 digest : tie.Need-put-string-requires-2
 digest c κs =
@@ -44,7 +43,7 @@ digest c κs =
     let (w, f, l) = d .pre in
     let e₁ = uri .put-string .ensures in
     let e₂ = source .put-source .ensures in
-    (f .digest, omega arith, omega (arith, l, e₁ .next, e₂ .next, filled-length _ _ _ _ _ e₁, filled-length _ _ _ _ _ e₂, params-length (d .args .s .now) (paramsOf (d .args .a))))
+    (f .digest, omega arith, omega (arith, l, e₁ .next, e₂ .next, filled-length _ _ _ _ _ e₁, filled-length _ _ _ _ _ e₂, params-length (d .args .s .now) (d .args .a .params)))
 
 size : tie.Need-put-size-requires
 size c κs =
@@ -65,7 +64,7 @@ size c κs =
       filled-length _ _ _ _ _ e₁,
       filled-length _ _ _ _ _ e₂,
       filled-length _ _ _ _ _ e₃,
-      params-length (d .args .s .now) (paramsOf (d .args .a)),
+      params-length (d .args .s .now) (d .args .a .params),
     )
 
 returns : tie.Need-returns
@@ -74,7 +73,7 @@ returns c =
     let source = to-source digest in
     let uri = to-uri source in
     let d = to-entry uri in
-    params-filled (d .args .s .now) (paramsOf (d .args .a)) _ _ _ _ _ _ _ _ _ _
+    params-filled (d .args .s .now) (d .args .a .params) _ _ _ _ _ _ _ _ _ _
     (uri .put-string .ensures)
     (source .put-source .ensures)
     (digest .put-string2 .ensures)
