@@ -12,7 +12,7 @@ use Rattle.rules.specs.Step.{Env, State, Out, out, withSlots, withUsed, slotNo,
 use Rattle.run_slots.specs.Slot.{Holds}
 use Rattle.run_slots.specs.declared.params.Params.{Params}
 use Rattle.run_slots.specs.Params.{meaning}
-use Rattle.run_actions.specs.declared.Progress.{Progress}
+use Rattle.run_actions.specs.declared.Effect.{Effect}
 
 -- n is the number of an end
 abbrev pub Ends : ℕ → Type 0
@@ -47,7 +47,7 @@ Fills does p memory slots k r =
     out (endOf r) (withSlots st (left slots)) ≡ does env i st
 
 -- and, with the answers used, for a fetch
-abbrev pub Fetches : Params → Lent → ℕ → Lent → ℕ → Progress → Type 0
+abbrev pub Fetches : Params → Lent → ℕ → Lent → ℕ → Effect → Type 0
 Fetches p answers used slots k r =
     (s : Bytes) (env : Env) (i : ℕ) (st : State) → At env i st (was slots) k (meaning s p) → env .answers ≡ was answers → st .used ≡ used →
     out (endOf (r .end)) (withUsed (withSlots st (left slots)) (r .used)) ≡ fetches env i st

@@ -14,7 +14,7 @@ use Rattle.rules.specs.Step.{Env, State, Out, out, eventBytes, event, withEvent
 use Rattle.run_slots.specs.declared.params.Params.{Params}
 use Rattle.run_slots.specs.Params.{paramsAt, stored, meaning, overParams, paramsIn, FitAll}
 use Rattle.run_actions.specs.Action.{At, SourceAt}
-use Rattle.run_actions.specs.declared.Progress.{Progress}
+use Rattle.run_actions.specs.declared.Effect.{Effect}
 use Rattle.run_commands.specs.Op.{opOf}
 use Rattle.run_commands.specs.Machine.{Host, stateAt, outAt}
 use Rattle.run_slots.proofs.ParamsLaws.{meaning-over, params-at, params-stored}
@@ -57,11 +57,11 @@ unfolding step
 step-is env op i place st o e = rw e
 
 -- what a command did, with its event
-pub with-event : (s : Bytes) (env : Env) (n : ℕ) (memory : List ℕ) (slots trace trace′ : Bytes) (op : Op) (c i place events : ℕ) (st : State) (d : Progress) →
-    outAt s n memory slots trace d ≡ acts env op i st → d .events ≡ events → code op ≡ c →
+pub with-event : (s : Bytes) (env : Env) (n : ℕ) (memory : List ℕ) (slots trace trace′ : Bytes) (op : Op) (c i place events : ℕ) (st : State) (d : Effect) →
+    out (endOf (d .end)) (stateAt s n memory slots trace events (d .used)) ≡ acts env op i st → code op ≡ c →
     trace′ ≡ put trace (eventBytes * events) (event c i place (resultNumber (endOf (d .end)))) →
     outAt s n memory slots trace′ (record { events = events + 1; used = d .used; end = d .end }) ≡ step env op i place st
-with-event s env n memory slots trace trace′ op c i place events st d e v q t = rw (step-is env op i place st (outAt s n memory slots trace d) e, t, v, q)
+with-event s env n memory slots trace trace′ op c i place events st d e q t = rw (step-is env op i place st _ e, t, q)
 
 -- a code that is none of the others is that of a swap
 pub swap-left : (s : Bytes) (c v : ℕ) (p : Params) → (c ≡ vendorCode → ⊥) → (c ≡ classCode → ⊥) → (c ≡ imageMatchCode → ⊥) → (c ≡ setIndexCode → ⊥) → (c ≡ abortCode → ⊥) →

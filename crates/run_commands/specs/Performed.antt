@@ -8,11 +8,13 @@ use Rattle.rules.specs.Commands.{Op}
 use Rattle.rules.specs.Lent.{Lent, was, left}
 use Rattle.rules.specs.Limits.{limits}
 use Rattle.rules.specs.Slots.{answerBytes}
-use Rattle.rules.specs.Step.{Env, acts, step, eventBytes}
+use Rattle.rules.specs.Answers.{endOf}
+use Rattle.rules.specs.Step.{Env, out, acts, step, eventBytes}
 use Rattle.run_slots.specs.declared.params.Params.{Params}
 use Rattle.run_slots.specs.Params.{Fit, FitAll, SlotsKept}
 use Rattle.run_actions.specs.Action.{Ends, AllHold}
 use Rattle.run_actions.specs.declared.Progress.{Progress}
+use Rattle.run_actions.specs.declared.Effect.{Effect}
 use Rattle.run_commands.specs.declared.perform.Command.{Command}
 use Rattle.run_commands.specs.Op.{opOf, IsCode, SixteenAt}
 use Rattle.run_commands.specs.Machine.{stateAt, outAt, Host}
@@ -34,16 +36,21 @@ pub record Commanded (s : Bytes) (x : Command) (given : Params) (answers slots :
 abbrev pub RoomFor : ℕ → Bytes → Type 0
 RoomFor events trace = eventBytes * events + eventBytes ≤ length trace
 
--- for every environment that the lent memory is of: the command does what the rule says, its event aside, to whatever trace
-pub record Acts (s : Lent) (x : Command) (given : Params) (vendor class answers slots memory : Lent) (r : Progress) : Type 0 where
-  pub events : r .events ≡ x .events
+-- op at component i, its event aside: for every environment that the lent memory is of, it does what the rule says, to whatever trace. The
+-- memory still fits each number of components that the parameters it gives fit, and keeps the numbers of slots
+pub record Acts (s : Lent) (op : Op) (i used : ℕ) (Gives : ℕ → Type 0) (vendor class answers slots memory : Lent) (r : Effect) : Type 0 where
   pub ends : Ends (r .end)
-  pub does : (env : Env) (trace : Bytes) → Host env (was vendor) (was class) (was answers) (was memory) (was slots) → x .index < length (env .ids) →
+  pub does : (env : Env) (trace : Bytes) (events : ℕ) → Host env (was vendor) (was class) (was answers) (was memory) (was slots) → i < length (env .ids) →
       FitAll (was s) (length (env .ids)) (was memory) →
-      outAt (was s) (length (env .ids)) (left memory) (left slots) trace r
-      ≡ acts env (commandOf (was s) x given) (x .index) (stateAt (was s) (length (env .ids)) (was memory) (was slots) trace (x .events) (x .used))
-  pub fit : (n : ℕ) → FitAll (was s) n (was memory) → Fit (was s) n given → FitAll (was s) n (left memory)
+      out (endOf (r .end)) (stateAt (was s) (length (env .ids)) (left memory) (left slots) trace events (r .used))
+      ≡ acts env op i (stateAt (was s) (length (env .ids)) (was memory) (was slots) trace events used)
+  pub fit : (n : ℕ) → FitAll (was s) n (was memory) → Gives n → FitAll (was s) n (left memory)
   pub kept : SlotsKept (was memory) (left memory)
+
+-- the command was done
+abbrev pub Acted : Lent → Command → Params → Lent → Lent → Lent → Lent → Lent → Effect → Type 0
+Acted s x given vendor class answers slots memory r =
+    Acts s (commandOf (was s) x given) (x .index) (x .used) (λ n. Fit (was s) n given) vendor class answers slots memory r
 
 -- the same with its event, one after those of the trace
 pub record Performs (s : Lent) (x : Command) (given : Params) (vendor class answers slots memory trace : Lent) (r : Progress) : Type 0 where

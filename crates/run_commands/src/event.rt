@@ -31,7 +31,7 @@ fn result(end: usize) -> u8
     end as u8
 }
 
-pub(crate) fn put_event(
+pub fn put_event(
     trace: &mut [u8],
     events: usize,
     code: usize,

@@ -1,5 +1,5 @@
 // What each command that writes an event does, whether it stands in an envelope or in a program.
-ghost use Rattle.run_commands.specs.Performed.{Commanded, RoomFor, Acts, Performs};
+ghost use Rattle.run_commands.specs.Performed.{Commanded, RoomFor, Acted, Performs};
 use crate::event::put_event;
 use rules::answers::End;
 use rules::answers::Failure;
@@ -15,11 +15,12 @@ use rules::codes::SET_PARAMETERS;
 use rules::codes::VENDOR;
 use rules::controller::Memory;
 use rules::controller::Sixteen;
+use run_actions::Effect;
 use run_actions::Progress;
 use run_actions::conditions::equal_sixteen;
 use run_actions::conditions::matches;
 use run_actions::conditions::runs;
-use run_actions::ended;
+use run_actions::effect_of;
 use run_copies::copy;
 use run_copies::swap;
 use run_fetch::fetch;
@@ -49,36 +50,35 @@ fn act(
     answers: &[u8],
     slots: &mut [u8],
     memory: &mut Memory,
-) -> Progress
+) -> Effect
     requires { ⌜ Commanded (now s) command given (now answers) (now slots) (now memory) ⌝ }
-    ensures { λ r. ⌜ Acts s command given vendor class answers slots memory r ⌝ }
+    ensures { λ r. ⌜ Acted s command given vendor class answers slots memory r ⌝ }
 {
     let i = command.index;
     let k = memory[i];
     let value = command.value;
-    let events = command.events;
     let used = command.used;
     let code = command.code;
     match code {
-        VENDOR => ended(equal_sixteen(s, value, vendor), events, used),
-        CLASS => ended(equal_sixteen(s, value, class), events, used),
-        IMAGE_MATCH => ended(matches(s, load(memory, i), slots, k), events, used),
-        SET_INDEX => ended(End::FINISHED, events, used),
-        ABORT => ended(Failure::ABORTED, events, used),
+        VENDOR => effect_of(equal_sixteen(s, value, vendor), used),
+        CLASS => effect_of(equal_sixteen(s, value, class), used),
+        IMAGE_MATCH => effect_of(matches(s, load(memory, i), slots, k), used),
+        SET_INDEX => effect_of(End::FINISHED, used),
+        ABORT => effect_of(Failure::ABORTED, used),
         SET_PARAMETERS => {
             let p = load(memory, i);
             store(memory, i, over(p, given));
-            ended(End::FINISHED, events, used)
+            effect_of(End::FINISHED, used)
         }
         OVERRIDE_PARAMETERS => {
             let p = load(memory, i);
             store(memory, i, over(given, p));
-            ended(End::FINISHED, events, used)
+            effect_of(End::FINISHED, used)
         }
-        FETCH => fetch(load(memory, i), answers, events, used, slots, k),
-        COPY => ended(copy(load(memory, i), memory, slots, k), events, used),
-        RUN => ended(runs(slots, k), events, used),
-        _ => ended(swap(load(memory, i), memory, slots, k), events, used),
+        FETCH => fetch(load(memory, i), answers, used, slots, k),
+        COPY => effect_of(copy(load(memory, i), memory, slots, k), used),
+        RUN => effect_of(runs(slots, k), used),
+        _ => effect_of(swap(load(memory, i), memory, slots, k), used),
     }
 }
 

@@ -27,16 +27,16 @@ to-sized c = c .before .before .before .before
 returns : tie.Need-returns
 returns c =
     let d = c .before in
-    rw (c .ended .ensures)
-    (refl, refl, λ s env i st a x u. rw (fetch-unset s _ env i st _ _ a _ _ x u (d .if1 .taken)))
+    rw (c .effect-of .ensures)
+    (refl, λ s env i st a x u. rw (fetch-unset s _ env i st _ _ a _ _ x u (d .if1 .taken)))
 
 returns-2 : tie.Need-returns-2
 returns-2 c =
     let d = c .before in
     let args = d .before .before .before .before .args in
     let l : length (args .answers .now) ≤ answerBytes * args .used = omega arith in
-    rw (c .ended2 .ensures)
-    (refl, refl, λ s env i st a x u. rw (fetch-none s _ env i st _ _ a _ _ x u (d .before .if1 .left) l))
+    rw (c .effect-of2 .ensures)
+    (refl, λ s env i st a x u. rw (fetch-none s _ env i st _ _ a _ _ x u (d .before .if1 .left) l))
 
 returns-3 : tie.Need-returns-3
 unfolding unless
@@ -44,8 +44,8 @@ returns-3 c =
     let d = c .before in
     let args = to-entry (d .before) .args in
     let l : answerBytes * args .used + answerBytes ≤ length (args .answers .now) = omega arith in
-    rw (c .ended3 .ensures)
-    (refl, refl, λ s env i st a x u. rw (fetch-taken s _ env i st _ _ a _ _ x u (d .before .before .before .if1 .left) l, ne-eqb _ _ (d .if3 .taken)))
+    rw (c .effect-of3 .ensures)
+    (refl, λ s env i st a x u. rw (fetch-taken s _ env i st _ _ a _ _ x u (d .before .before .before .if1 .left) l, ne-eqb _ _ (d .if3 .taken)))
 
 returns-4 : tie.Need-returns-4
 unfolding unless
@@ -57,8 +57,7 @@ returns-4 c =
     let at = answerBytes * args .used in
     let l : at + answerBytes ≤ length (args .answers .now) = omega arith in
     let n : sized .four .result ≡ num (part (args .answers .now) (at + sizeFrom) 4) =
-    rw (num-4 (args .answers .now) (at + sizeFrom) (omega arith)) (sized .four .ensures .0) in rw (c .ended4 .ensures) (
-      refl,
+    rw (num-4 (args .answers .now) (at + sizeFrom) (omega arith)) (sized .four .ensures .0) in rw (c .effect-of4 .ensures) (
       refl,
       λ s env i st a x u.
           rw (
@@ -81,8 +80,7 @@ returns-5 c =
     let at = answerBytes * args .used in
     let l : at + answerBytes ≤ length (args .answers .now) = omega (arith, status .before .if2 .left, entry .pre .1) in
     let n : sized .four .result ≡ num (part (args .answers .now) (at + sizeFrom) 4) =
-    rw (num-4 (args .answers .now) (at + sizeFrom) (omega arith)) (sized .four .ensures .0) in rw (c .ended5 .ensures) (
-      refl,
+    rw (num-4 (args .answers .now) (at + sizeFrom) (omega arith)) (sized .four .ensures .0) in rw (c .effect-of5 .ensures) (
       refl,
       λ s env i st a x u.
           rw (

@@ -53,11 +53,10 @@ vendor : tie.Need-returns
 unfolding opOf acts
 vendor c =
     let e = c .before .equal-sixteen .ensures in
-    rw (c .ended .ensures)
+    rw (c .effect-of .ensures)
     (record {
-      events = refl;
       ends = e .0;
-      does = λ env trace h l f. rw (c .before .before .match .keys1, h .vendors) (e .1 _);
+      does = λ env trace events h l f. rw (c .before .before .match .keys1, h .vendors) (e .1 _);
       fit = λ n f g. f;
       kept = λ i h. refl;
     })
@@ -66,11 +65,10 @@ class : tie.Need-returns-2
 unfolding opOf acts
 class c =
     let e = c .before .equal-sixteen2 .ensures in
-    rw (c .ended2 .ensures)
+    rw (c .effect-of2 .ensures)
     (record {
-      events = refl;
       ends = e .0;
-      does = λ env trace h l f. rw (c .before .before .match .keys2, h .classes) (e .1 _);
+      does = λ env trace events h l f. rw (c .before .before .match .keys2, h .classes) (e .1 _);
       fit = λ n f g. f;
       kept = λ i h. refl;
     })
@@ -81,11 +79,10 @@ image-match c =
     let l = c .before .before .before in
     let arm = l .before .before in
     let e = c .before .matches .ensures in
-    rw (c .ended3 .ensures)
+    rw (c .effect-of3 .ensures)
     (record {
-      events = refl;
       ends = e .0;
-      does = λ env trace h z f. rw (arm .match .keys3) (e .1 env _ _ (is-at _ env _ _ _ _ _ trace _ _ _ h z _ (l .load .ensures) _ refl));
+      does = λ env trace events h z f. rw (arm .match .keys3) (e .1 env _ _ (is-at _ env _ _ _ _ _ trace _ _ _ h z _ (l .load .ensures) _ refl));
       fit = λ n f g. f;
       kept = λ i h. refl;
     })
@@ -93,14 +90,14 @@ image-match c =
 set-index : tie.Need-returns-4
 unfolding opOf acts
 set-index c =
-    rw (c .ended4 .ensures)
-    (record { events = refl; ends = refl; does = λ env trace h l f. rw (c .before .match .keys4); fit = λ n f g. f; kept = λ i h. refl })
+    rw (c .effect-of4 .ensures)
+    (record { ends = refl; does = λ env trace events h l f. rw (c .before .match .keys4); fit = λ n f g. f; kept = λ i h. refl })
 
 abort : tie.Need-returns-5
 unfolding opOf acts
 abort c =
-    rw (c .ended5 .ensures)
-    (record { events = refl; ends = refl; does = λ env trace h l f. rw (c .before .match .keys5); fit = λ n f g. f; kept = λ i h. refl })
+    rw (c .effect-of5 .ensures)
+    (record { ends = refl; does = λ env trace events h l f. rw (c .before .match .keys5); fit = λ n f g. f; kept = λ i h. refl })
 
 set-parameters : tie.Need-returns-6
 unfolding opOf acts
@@ -111,15 +108,14 @@ set-parameters c =
     let pre = start (arm .before) .pre in
     let load = over .before .before .load2 in
     let w : length (a .memory .now) ≡ memoryNumbers = over .before .store-arg .given .0 .1 in
-    rw (c .ended6 .ensures, c .before .store .ensures)
+    rw (c .effect-of6 .ensures, c .before .store .ensures)
     (record {
-      events = refl;
       ends = refl;
       does =
-          λ env trace h l f.
+          λ env trace events h l f.
           rw (
             arm .match .keys6,
-            set-params _ env _ _ _ _ _ trace _ (a .command .events) (a .command .used) h l (load .result) (load .ensures) w (a .given) _ (over .over .ensures),
+            set-params _ env _ _ _ _ _ trace _ events (a .command .used) h l (load .result) (load .ensures) w (a .given) _ (over .over .ensures),
           );
       fit =
           λ n f g.
@@ -137,15 +133,14 @@ override-parameters c =
     let pre = start (arm .before) .pre in
     let load = over .before .before .load3 in
     let w : length (a .memory .now) ≡ memoryNumbers = over .before .store-arg2 .given .0 .1 in
-    rw (c .ended7 .ensures, c .before .store2 .ensures)
+    rw (c .effect-of7 .ensures, c .before .store2 .ensures)
     (record {
-      events = refl;
       ends = refl;
       does =
-          λ env trace h l f.
+          λ env trace events h l f.
           rw (
             arm .match .keys7,
-            override-params _ env _ _ _ _ _ trace _ (a .command .events) (a .command .used) h l (load .result) (load .ensures) w (a .given) _ (over .over2 .ensures),
+            override-params _ env _ _ _ _ _ trace _ events (a .command .used) h l (load .result) (load .ensures) w (a .given) _ (over .over2 .ensures),
           );
       fit =
           λ n f g.
@@ -161,12 +156,11 @@ fetch c =
     let arm = l .before .before in
     let d = c .before .before .fetch .ensures in
     record {
-      events = d .0;
-      ends = d .1;
+      ends = d .0;
       does =
-          λ env trace h z f.
-          rw (arm .match .keys8, d .0)
-          (d .2 _ env _ _ (is-at _ env _ _ _ _ _ trace _ _ _ h z _ (l .load4 .ensures) _ refl) (h .replies) refl);
+          λ env trace events h z f.
+          rw (arm .match .keys8)
+          (d .1 _ env _ _ (is-at _ env _ _ _ _ _ trace _ _ _ h z _ (l .load4 .ensures) _ refl) (h .replies) refl);
       fit = λ n f g. f;
       kept = λ i h. refl;
     }
@@ -178,12 +172,11 @@ copy c =
     let l = done .before .before .before in
     let arm = l .before .before in
     let e = l .load5 .ensures in
-    rw (c .ended8 .ensures)
+    rw (c .effect-of8 .ensures)
     (record {
-      events = refl;
       ends = done .copy .ensures .0;
       does =
-          λ env trace h z f.
+          λ env trace events h z f.
           rw (arm .match .keys9)
           (done .copy .ensures .1 _ env _ _ (is-at _ env _ _ _ _ _ trace _ _ _ h z _ e _ refl) (source-at _ env _ _ _ _ _ trace _ _ _ h z _ e f));
       fit = λ n f g. f;
@@ -194,12 +187,11 @@ runs : tie.Need-returns-10
 unfolding opOf acts
 runs c =
     let arm = c .before .before .before in
-    rw (c .ended9 .ensures)
+    rw (c .effect-of9 .ensures)
     (record {
-      events = refl;
       ends = c .before .runs .ensures .0;
       does =
-          λ env trace h l f.
+          λ env trace events h l f.
           let a = is-at _ env _ _ _ _ _ trace _ _ _ h l _ refl _ refl in
           rw (arm .match .keys10) (c .before .runs .ensures .1 env _ _ (a .lent) (a .number));
       fit = λ n f g. f;
@@ -218,12 +210,11 @@ swap c =
     let is-swap : commandOf (a .s .now) (a .command) (a .given) ≡ Rules.swap =
     swap-left _ _ _ _ (r .0 .0 .0 .0 .0 .0 .0 .0 .0 .1) (r .0 .0 .0 .0 .0 .0 .0 .0 .1) (r .0 .0 .0 .0 .0 .0 .0 .1) (r .0 .0 .0 .0 .0 .0 .1) (r .0 .0 .0 .0 .0 .1)
     (r .0 .0 .0 .0 .1) (r .0 .0 .0 .1) (r .0 .0 .1) (r .0 .1) (r .1) in
-    rw (c .ended10 .ensures)
+    rw (c .effect-of10 .ensures)
     (record {
-      events = refl;
       ends = done .swap .ensures .0;
       does =
-          λ env trace h z f.
+          λ env trace events h z f.
           rw is-swap
           (done .swap .ensures .1 _ env _ _ (is-at _ env _ _ _ _ _ trace _ _ _ h z _ e _ refl) (source-at _ env _ _ _ _ _ trace _ _ _ h z _ e f));
       fit = λ n f g. f;

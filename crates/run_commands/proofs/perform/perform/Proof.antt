@@ -39,7 +39,7 @@ returns c =
       does =
           λ env h l f.
           with-event (a .args .s .now) env _ _ _ _ _ (commandOf (a .args .s .now) (a .args .command) (a .args .given)) _ _ (a .args .command .place) (a .args .command .events) _
-          (at-act .act .result) (d .does env (a .args .trace .now) h l f) (d .events) (a .pre .0 .coded) (put c .put-event .ensures);
+          (at-act .act .result) (d .does env (a .args .trace .now) (a .args .command .events) h l f) (a .pre .0 .coded) (put c .put-event .ensures);
       fit = d .fit;
       kept = d .kept;
     }
