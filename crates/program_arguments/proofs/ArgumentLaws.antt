@@ -21,8 +21,6 @@ use Rattle.rules.specs.Program.{targetOf}
 use Rattle.rules.specs.ProgramFormat.{NONE}
 use Rattle.rules.specs.ProgramTest.{paramsIn, opIn, groupAllows}
 use Rattle.rules.proofs.TableLaws.{rows-agree}
-use Rattle.program_parameters.specs.declared.Entries.{Entries}
-use Rattle.program_parameters.specs.Entries.{ParamsAre}
 use Rattle.program_arguments.specs.Arguments.{accepted, allowsIn, targetFits}
 use Rattle.program_parameters.proofs.PartLaws.{length-to}
 
@@ -97,10 +95,6 @@ empty : (q : Bytes) → same q [] ≡ eqb (length q) 0
 empty [] = refl
 empty (x ∷ q) = sym (ne-eqb (length (x ∷ q)) 0 (λ e. omega arith))
 
-good-is : (p : Bytes) (n from to : ℕ) (x : Got Params) (e : Entries) → ParamsAre p n from to x e → e .good ≡ accepted x
-good-is p n from to (refused r q) e h = ap (λ (y : Entries). y .good) h
-good-is p n from to (got a) e h = ap (λ (y : Entries). y .good) (h .0)
-
 -- by places
 module _ (p : Bytes) (from to n : ℕ) (pre : (0 < from) × (from ≤ to) × (to ≤ length p)) (k : Argument) where
   size : length (part p from (to - from)) ≡ to - from
@@ -125,8 +119,8 @@ module _ (p : Bytes) (from to n : ℕ) (pre : (0 < from) × (from ≤ to) × (to
   pub index-right : k ≡ Index → Right (eqb to from)
   index-right h = none-right (rw h)
 
-  pub parameters-right : k ≡ Parameters → (e : Entries) → ParamsAre p n from to (paramsIn n (part p from (to - from))) e → Right (e .good)
-  parameters-right h g w f i e = kind-tested n i _ f k _ e (rw h (good-is p n from to (paramsIn n (part p from (to - from))) g w))
+  pub parameters-right : k ≡ Parameters → (b : Bool) → b ≡ accepted (paramsIn n (part p from (to - from))) → Right b
+  parameters-right h b w f i e = kind-tested n i _ f k _ e (rw h w)
 
   pub alternatives-right : k ≡ Alternatives → Right false
   alternatives-right h f i e = kind-tested n i _ f k _ e (rw h)

@@ -1,7 +1,8 @@
 -- The command that an argument makes, by the form of its row, and its code.
 use Prim.Native.Nat.{ℕ}
 use mathlib.Core.Path.{_≡_, refl, sym, ap, _∙_}
-use mathlib.Core.List.{[]}
+use mathlib.Core.List.{[], _∷_}
+use mathlib.Core.Bool.{true}
 use mathlib.Core.Option.{some}
 use native.Mathlib.Omega.{arith}
 use lib.Dec.{eqb}
@@ -18,6 +19,10 @@ use Rattle.rules.proofs.TableLaws.{Each, each-row, _&_}
 
 value-is : {A : Type 0} (a b : A) → _≡_ {A = Got A} (got a) (got b) → b ≡ a
 value-is a b e = let f : a ≡ b = cc in sym f
+
+none-same : (q : Bytes) → same q [] ≡ true → length q ≡ 0
+none-same [] e = refl
+none-same (x ∷ q) e = let z : _≡_ {A = ℕ} 0 1 = cc in absurd (omega arith)
 
 -- whatever the argument is, a command of the form has that code
 abbrev Coded : ℕ → Form → Type 0
@@ -41,13 +46,13 @@ module _ (n i : ℕ) (q : Bytes) (op : Op) where
   unfolding opIn
   sixteen-is make e = let (t, e₁) = passed (eqb (length q) (limits .class)) BadProgram 0 _ op e in (eqb-true _ _ t, value-is _ _ e₁)
 
-  pub nil-is : (make : Op) → Reads (nil make) → op ≡ make
+  pub nil-is : (make : Op) → Reads (nil make) → (length q ≡ 0) × (op ≡ make)
   unfolding opIn
-  nil-is make e = let (t, e₁) = passed (same q []) BadProgram 0 _ op e in value-is _ _ e₁
+  nil-is make e = let (t, e₁) = passed (same q []) BadProgram 0 _ op e in (none-same q t, value-is _ _ e₁)
 
-  pub below-is : (make : ℕ → Op) → Reads (below make) → op ≡ make i
+  pub below-is : (make : ℕ → Op) → Reads (below make) → (length q ≡ 0) × (op ≡ make i)
   unfolding opIn
-  below-is make e = let (t, e₁) = passed (same q []) BadProgram 0 _ op e in value-is _ _ e₁
+  below-is make e = let (t, e₁) = passed (same q []) BadProgram 0 _ op e in (none-same q t, value-is _ _ e₁)
 
   pub parameters-is : (make : Params → Op) → Reads (parameters make) → (ps : Params) × (paramsIn n q ≡ got ps) × (op ≡ make ps)
   unfolding opIn
@@ -63,8 +68,8 @@ module _ (n i : ℕ) (q : Bytes) (op : Op) where
 
   form-code : (c : ℕ) (f : Form) → Coded c f → Reads f → code op ≡ c
   form-code c (sixteen make) h e = ap code (sixteen-is make e .1) ∙ h q
-  form-code c (nil make) h e = ap code (nil-is make e) ∙ h
-  form-code c (below make) h e = ap code (below-is make e) ∙ h i
+  form-code c (nil make) h e = ap code (nil-is make e .1) ∙ h
+  form-code c (below make) h e = ap code (below-is make e .1) ∙ h i
   form-code c alternatives h e = absurd (no-try e)
   form-code c (parameters make) h e = let (ps, _, s) = parameters-is make e in ap code s ∙ h ps
   form-code c sequence h e = absurd (no-sub e)

@@ -8,7 +8,7 @@ ghost use Rattle.rules.specs.Commands.{Form};
 ghost use Rattle.rules.specs.Tables.{kindOf};
 ghost use Rattle.rules.specs.ProgramTest as Rule;
 ghost use Rattle.program_arguments.specs.Arguments.{accepted, allowsIn, targetFits};
-use program_parameters::read_params;
+use program_parameters::params_fit;
 use rules::answers::Group;
 use rules::controller::Controller;
 use rules::program_format::NO_TARGET;
@@ -34,10 +34,7 @@ pub fn argument_fits(p: &[u8], argument: Argument, from: usize, to: usize, n: us
         Argument::Sixteen => to - from == Controller::CLASS_BYTES,
         Argument::Nil => to == from,
         Argument::Index => to == from,
-        Argument::Parameters => {
-            let e = read_params(p, from, to, n);
-            e.good
-        }
+        Argument::Parameters => params_fit(p, from, to, n),
         Argument::Alternatives => false,
         Argument::Sequence => false,
     }

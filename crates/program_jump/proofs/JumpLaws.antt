@@ -1,20 +1,20 @@
--- A run that passes over records, and one that follows jumps.
+-- A run that passes over records, and one at a jump.
 use Prim.Native.Nat.{ℕ, zero, suc, _+_, _-_, _≤_, _<_}
-use mathlib.Core.Path.{_≡_, refl, sym, ap, _∙_}
+use mathlib.Core.Path.{_≡_, sym, ap, _∙_}
 use mathlib.Core.List.{List, [], _∷_}
 use native.Mathlib.Omega.{arith}
 use native.Mathlib.Numerals.{add-one}
 use native.Mathlib.Nat.{add-zero, add-suc, suc-add}
-use lib.ListN.{length, getD, drop}
+use lib.ListN.{length, drop}
 use lib.Seq.{drop-drop, drop-nil}
 use Rattle.rules.specs.declared.answers.Group.{Group}
 use Rattle.rules.specs.Bytes.{Bytes, twoAt}
 use Rattle.rules.specs.Program.{Rec, does, jump}
-use Rattle.rules.specs.ProgramFormat.{JUMP, codeFrom, targetFrom, argumentFrom, recordSize}
+use Rattle.rules.specs.ProgramFormat.{targetFrom, argumentFrom, recordSize}
 use Rattle.rules.specs.ProgramRun.{exec}
 use Rattle.rules.specs.ProgramTest.{nonJumps}
 use Rattle.rules.specs.Step.{Env, State}
-use Rattle.program_jump.specs.Jump.{RecordsAt, AdvanceJob, Advanced, Reached}
+use Rattle.program_jump.specs.Jump.{RecordsAt, AdvanceJob, Advanced, JumpJob, Jumped}
 use Rattle.program_jump.proofs.FirstRecord.{First, first-of}
 use Rattle.program_records.proofs.ReadRecord.{Jumps}
 
@@ -58,50 +58,46 @@ module _ (p : Bytes) (g : Group) (comps total n at : ℕ) (x : RecordsAt p g com
         let q : drop (k - n) (x .records) ≡ here .first ∷ here .others .records = sym (a .records) ∙ here .records in
         record { place = here .others; records = rw (e, ← drop-drop 1 (k - n) (x .records), q) }
 
--- a run through jumps
-module _ (p : Bytes) (g : Group) (comps total n at : ℕ) (x : RecordsAt p g comps total n at) where
-  pub reach-start : Reached p g comps total n at x n at
-  reach-start = record { place = x; up = omega arith; few = omega arith; goes = λ env st. refl }
+-- a run at a jump
+module _ (p : Bytes) (at n : ℕ) (j : JumpJob p at n) where
+  abbrev jumper : First p (j .group) (j .components) (j .total) n at (j .place)
+  jumper = first-of p (j .group) (j .components) (j .total) n at (j .place) (j .before)
 
-  module _ (k next : ℕ) (a : Reached p g comps total n at x k next) (l : k < total) where
-    abbrev jumper : First p g comps total k next (a .place)
-    jumper = first-of p g comps total k next (a .place) l
+  pub jump-room : at + recordSize ≤ length p
+  jump-room = omega (arith, jumper .room)
 
-    pub reach-room : next + recordSize ≤ length p
-    reach-room = omega (arith, jumper .room)
+  pub jumps : Jumps (j .group) (j .components) (j .total) n (jumper .first) (twoAt p (at + targetFrom)) (twoAt p (at + argumentFrom))
+  jumps = jumper .kind .jumps (j .stands)
 
-    module _ (code target : ℕ) (ec : code ≡ getD p (next + codeFrom) 0) (c : code ≡ JUMP) (et : target ≡ twoAt p (next + targetFrom)) where
-      pub jumps : Jumps g comps total k (jumper .first) (twoAt p (next + targetFrom)) (twoAt p (next + argumentFrom))
-      jumps = jumper .kind .jumps (sym ec ∙ c)
+  module _ (target : ℕ) (et : target ≡ twoAt p (at + targetFrom)) where
+    pub jump-forward : n < target
+    jump-forward = omega (arith, jumps .forward)
 
-      pub reach-far : (k < target) × (target ≤ total)
-      reach-far = (omega (arith, jumps .forward), omega (arith, jumps .within))
+    abbrev pub jump-advances : AdvanceJob p (at + recordSize) (n + 1) target
+    jump-advances =
+        let z : at + recordSize + twoAt p (at + argumentFrom) ≡ at + recordSize = omega (arith, jumps .none) in
+        let o = jumper .others in
+        record {
+          group = j .group;
+          components = j .components;
+          total = j .total;
+          place = record { records = o .records; below = o .below; fits = omega (arith, o .fits); reads = rw z at (o .reads) };
+          forward = omega (arith, jumps .forward);
+          within = omega (arith, jumps .within);
+        }
 
-      abbrev pub jump-job : AdvanceJob p (next + recordSize) (k + 1) target
-      jump-job =
-          let z : next + recordSize + twoAt p (next + argumentFrom) ≡ next + recordSize = omega (arith, jumps .none) in
-          let o = jumper .others in
-          record {
-            group = g;
-            components = comps;
-            total = total;
-            place = record { records = o .records; below = o .below; fits = omega (arith, o .fits); reads = rw z at (o .reads) };
-            forward = omega (arith, jumps .forward);
-            within = omega (arith, jumps .within);
-          }
-
-      pub reach-next : (r : ℕ) → Advanced p g comps total (k + 1) (next + recordSize) (jump-job .place) target r → Reached p g comps total n at x target r
-      reach-next r b =
-          let w : k < target = omega (arith, jumps .forward) in
-          let e : a .place .records ≡ jump target ∷ jumper .others .records =
-          jumper .records ∙ ap (λ (y : Rec). y ∷ jumper .others .records) (jumps .is ∙ ap jump (sym et)) in
-          let m : nonJumps (a .place .records) ≡ nonJumps (jumper .others .records) = ap nonJumps e in
-          let m′ : nonJumps (b .place .records) ≡ nonJumps (drop (target - (k + 1)) (jumper .others .records)) = ap nonJumps (b .records) in
-          record {
-            place = b .place;
-            up = omega (arith, a .up);
-            few = omega (arith, a .few, fewer (target - (k + 1)) (jumper .others .records));
-            goes = λ env st.
-                a .goes env st ∙ ap (λ (rs : List Rec). exec env rs k 0 st) e ∙ exec-jump env target k (jumper .others .records) st w
-                ∙ ap (λ (rs : List Rec). exec env rs target 0 st) (sym (b .records));
-          }
+    pub jumped : (r : ℕ) → Advanced p (j .group) (j .components) (j .total) (n + 1) (at + recordSize) (jump-advances .place) target r →
+        Jumped p at n j (record { at = r; n = target })
+    jumped r b =
+        let e : j .place .records ≡ jump target ∷ jumper .others .records =
+        jumper .records ∙ ap (λ (y : Rec). y ∷ jumper .others .records) (jumps .is ∙ ap jump (sym et)) in
+        let m : nonJumps (j .place .records) ≡ nonJumps (jumper .others .records) = ap nonJumps e in
+        let m′ : nonJumps (b .place .records) ≡ nonJumps (drop (target - (n + 1)) (jumper .others .records)) = ap nonJumps (b .records) in
+        record {
+          place = b .place;
+          further = jump-forward;
+          few = omega (arith, fewer (target - (n + 1)) (jumper .others .records));
+          goes = λ env st.
+              ap (λ (rs : List Rec). exec env rs n 0 st) e ∙ exec-jump env target n (jumper .others .records) st jump-forward
+              ∙ ap (λ (rs : List Rec). exec env rs target 0 st) (sym (b .records));
+        }

@@ -34,20 +34,18 @@ pub record Advanced (p : Bytes) (group : Group) (components total n at : ℕ) (x
   pub place : RecordsAt p group components total t r
   pub records : place .records ≡ drop (t - n) (x .records)
 
--- the first command from record n on, or the end
-pub record LandJob (p : Bytes) (at n total : ℕ) : Type 0 where
+-- record n at `at`, which is a jump
+pub record JumpJob (p : Bytes) (at n : ℕ) : Type 0 where
   pub group : Group
   pub components : ℕ
+  pub total : ℕ
   pub place : RecordsAt p group components total n at
+  pub before : n < total
+  pub stands : getD p (at + codeFrom) 0 ≡ JUMP
 
--- a run from record n goes on at record m, with nothing done
-pub record Reached (p : Bytes) (group : Group) (components total n at : ℕ) (x : RecordsAt p group components total n at) (m to : ℕ) : Type 0 where
-  pub place : RecordsAt p group components total m to
-  pub up : n ≤ m
-  pub few : nonJumps (place .records) ≤ nonJumps (x .records)
-  pub goes : (env : Env) (st : State) → exec env (x .records) n 0 st ≡ exec env (place .records) m 0 st
-
--- and that is a command, or the end
-pub record Landed (p : Bytes) (group : Group) (components total n at : ℕ) (x : RecordsAt p group components total n at) (r : RecordPlace) : Type 0 where
-  pub reached : Reached p group components total n at x (r .n) (r .at)
-  pub stands : r .n < total → getD p (r .at + codeFrom) 0 ≡ JUMP → ⊥
+-- a run goes on at r, a later record or the end, with nothing done
+pub record Jumped (p : Bytes) (at n : ℕ) (j : JumpJob p at n) (r : RecordPlace) : Type 0 where
+  pub place : RecordsAt p (j .group) (j .components) (j .total) (r .n) (r .at)
+  pub further : n < r .n
+  pub few : nonJumps (place .records) ≤ nonJumps (j .place .records)
+  pub goes : (env : Env) (st : State) → exec env (j .place .records) n 0 st ≡ exec env (place .records) (r .n) 0 st

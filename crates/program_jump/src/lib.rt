@@ -1,11 +1,8 @@
 // The way through a program's records, which only goes forward.
 ghost use Rattle.rules.specs.Lent.{was};
-ghost use Rattle.program_jump.specs.Jump.{AdvanceJob, Advanced, LandJob, Landed};
+ghost use Rattle.program_jump.specs.Jump.{AdvanceJob, Advanced, JumpJob, Jumped};
 use byte_buffer::two;
-use byte_buffer::wide;
 use rules::program_format::ARGUMENT_LENGTH;
-use rules::program_format::CODE;
-use rules::program_format::JUMP;
 use rules::program_format::RECORD_BYTES;
 use rules::program_format::TARGET;
 
@@ -29,20 +26,14 @@ pub fn advance(p: &[u8], at: usize, n: usize, t: usize) -> usize
     next
 }
 
-// The first record from number n at `at` on that is no jump, through the jumps before it; or the end.
-pub fn land(p: &[u8], at: usize, n: usize, total: usize) -> RecordPlace
-    requires { ⌜ LandJob (now p) at n total ⌝ }
-    ensures { λ r. ⌜ ((j : LandJob (was p) at n total) → Landed (was p) (j .group) (j .components) total n at (j .place) r) ⌝ }
+// Where the jump at `at`, which is record n, leads.
+pub fn jump(p: &[u8], at: usize, n: usize) -> RecordPlace
+    requires { ⌜ JumpJob (now p) at n ⌝ }
+    ensures { λ r. ⌜ ((j : JumpJob (was p) at n) → Jumped (was p) at n j r) ⌝ }
 {
-    let mut next = at;
-    let mut k = n;
-    while k < total {
-        if wide(p[next + CODE]) != JUMP {
-            return RecordPlace { at: next, n: k };
-        }
-        let target = two(p, next + TARGET);
-        next = advance(p, next + RECORD_BYTES, k + 1, target);
-        k = target;
+    let target = two(p, at + TARGET);
+    RecordPlace {
+        at: advance(p, at + RECORD_BYTES, n + 1, target),
+        n: target,
     }
-    RecordPlace { at: next, n: k }
 }

@@ -14,8 +14,20 @@ use Rattle.rules.specs.Got.{Got, got}
 use Rattle.rules.specs.ProgramFormat.{entrySize, sourceBytes, sizeBytes}
 use Rattle.rules.specs.ProgramTest.{bad, optional}
 use Rattle.rules.proofs.BytesLaws.{part-cons, num-1, num-4}
-use Rattle.program_parameters.specs.Entries.{nextIn, valueIn, sourceIn, sizeIn}
+use Rattle.program_parameters.specs.Entries.{accepted, nextIn, endAt, WellFormed, valueIn, sourceIn, sizeIn}
 use Rattle.program_parameters.proofs.PartLaws.{part-none, take-part, drop-part, length-to}
+
+-- what is refused is not accepted
+pub refused-not : {A : Type 0} {x : Got A} → x ≡ bad → accepted x ≡ true → ⊥
+refused-not e f = let z : _≡_ {A = ℕ} 0 1 = cc in omega arith
+
+-- what `past` asks of a key at a place, and what it says of the end r
+module _ (p : Bytes) (at to key : ℕ) where
+  abbrev pub Ahead : Type 0
+  Ahead = (at ≤ to) × (to ≤ length p) × ((lo : ℕ) × (hi : ℕ) × WellFormed p to key lo hi at)
+
+  abbrev pub Past : ℕ → Type 0
+  Past r = (lo hi : ℕ) → WellFormed p to key lo hi at → r ≡ endAt p to key lo hi at
 
 module _ (p : Bytes) (at to key lo hi : ℕ) where
   abbrev pub reading : Got (Option Bytes × Bytes)
@@ -122,34 +134,70 @@ module _ (p : Bytes) (at to key lo hi : ℕ) where
     pub next-long : at + 1 < to → getD p at 0 ≡ key → lo ≤ size → size ≤ hi → to < at + entrySize + size → 0 ≡ nextIn to reading
     next-long h k t u s = next-bad (reading-long h k t u s)
 
+    -- a parameter that is whole: its length, and the bytes of its value
+    abbrev pub Whole : Type 0
+    Whole = (at + 1 < to) × (lo ≤ size) × (size ≤ hi) × (at + entrySize + size ≤ to)
+
+    keyed : at < to → getD p at 0 ≡ key → (reading ≡ bad) ⊎ Whole
+    keyed h k = cut (leb entrySize (to - at)) refl
+      where
+        long : at + 1 < to → lo ≤ size → size ≤ hi → (b : Bool) → leb (at + entrySize + size) to ≡ b → (reading ≡ bad) ⊎ Whole
+        long h t u true e = inr (h, t, u, leb-true _ _ e)
+        long h t u false e = inl (reading-long h k t u (leb-false _ _ e))
+
+        high : at + 1 < to → lo ≤ size → (b : Bool) → leb size hi ≡ b → (reading ≡ bad) ⊎ Whole
+        high h t true e = long h t (leb-true _ _ e) (leb (at + entrySize + size) to) refl
+        high h t false e = inl (reading-high h k t (leb-false _ _ e))
+
+        low : at + 1 < to → (b : Bool) → leb lo size ≡ b → (reading ≡ bad) ⊎ Whole
+        low h true e = high h (leb-true _ _ e) (leb size hi) refl
+        low h false e = inl (reading-low h k (leb-false _ _ e))
+
+        cut : (b : Bool) → leb entrySize (to - at) ≡ b → (reading ≡ bad) ⊎ Whole
+        cut true e = low (omega (arith, leb-true entrySize (to - at) e)) (leb lo size) refl
+        cut false e = inl (reading-cut h k (leb-false _ _ e))
+
     cases : (reading ≡ bad) ⊎ ((r : ℕ) × Step r)
     cases = ended (eqb at to) refl
       where
-        long : at + 1 < to → getD p at 0 ≡ key → lo ≤ size → size ≤ hi → (b : Bool) → leb (at + entrySize + size) to ≡ b → (reading ≡ bad) ⊎ ((r : ℕ) × Step r)
-        long h k t u true e = inr (at + entrySize + size, step-some h k t u (leb-true _ _ e))
-        long h k t u false e = inl (reading-long h k t u (leb-false _ _ e))
-
-        high : at + 1 < to → getD p at 0 ≡ key → lo ≤ size → (b : Bool) → leb size hi ≡ b → (reading ≡ bad) ⊎ ((r : ℕ) × Step r)
-        high h k t true e = long h k t (leb-true _ _ e) (leb (at + entrySize + size) to) refl
-        high h k t false e = inl (reading-high h k t (leb-false _ _ e))
-
-        low : at + 1 < to → getD p at 0 ≡ key → (b : Bool) → leb lo size ≡ b → (reading ≡ bad) ⊎ ((r : ℕ) × Step r)
-        low h k true e = high h k (leb-true _ _ e) (leb size hi) refl
-        low h k false e = inl (reading-low h k (leb-false _ _ e))
-
-        cut : at < to → getD p at 0 ≡ key → (b : Bool) → leb entrySize (to - at) ≡ b → (reading ≡ bad) ⊎ ((r : ℕ) × Step r)
-        cut h k true e = low (omega (arith, leb-true entrySize (to - at) e)) k (leb lo size) refl
-        cut h k false e = inl (reading-cut h k (leb-false _ _ e))
+        there : getD p at 0 ≡ key → (reading ≡ bad) ⊎ Whole → (reading ≡ bad) ⊎ ((r : ℕ) × Step r)
+        there k (inl e) = inl e
+        there k (inr (h, t, u, s)) = inr (at + entrySize + size, step-some h k t u s)
 
         other : at < to → (b : Bool) → eqb (getD p at 0) key ≡ b → (reading ≡ bad) ⊎ ((r : ℕ) × Step r)
-        other h true e = cut h (eqb-true _ _ e) (leb entrySize (to - at)) refl
+        other h true e = let k = eqb-true _ _ e in there k (keyed h k)
         other h false e = inr (at, step-none (reading-other h (eqb-false _ _ e)))
 
         ended : (b : Bool) → eqb at to ≡ b → (reading ≡ bad) ⊎ ((r : ℕ) × Step r)
         ended true e = inr (at, step-none (reading-end (eqb-true _ _ e)))
         ended false e = other (omega (arith, eqb-false at to e)) (eqb (getD p at 0) key) refl
 
-    -- what an answer tells
+    pub formed-whole : WellFormed p to key lo hi at → at < to → getD p at 0 ≡ key → Whole
+    formed-whole f h k = go (keyed h k)
+      where
+        go : (reading ≡ bad) ⊎ Whole → Whole
+        go (inl e) = absurd (refused-not e f)
+        go (inr w) = w
+
+    -- a reading that is not refused went on to its end
+    module _ (n : reading ≡ bad → ⊥) where
+      pub to-end : (r : ℕ) → r ≡ nextIn to reading → Step r
+      to-end r q = go cases
+        where
+          go : (reading ≡ bad) ⊎ ((r : ℕ) × Step r) → Step r
+          go (inl e) = absurd (n e)
+          go (inr (k, s)) = rw (q ∙ sym (step-next k s)) s
+
+      formed : WellFormed p to key lo hi at
+      formed = rw (to-end (nextIn to reading) refl .reads)
+
+      pub ahead : Ahead p at to key
+      ahead = (o, l, (lo, hi, formed))
+
+      pub passed : (r : ℕ) → Past p at to key r → Step r
+      passed r e = to-end r (e lo hi formed)
+
+    -- what the answer of `optional` tells
     module _ (r : ℕ) (lead : 0 < at) (q : r ≡ nextIn to reading) where
       pub was-bad : r ≡ 0 → reading ≡ bad
       was-bad z = go cases
@@ -159,11 +207,7 @@ module _ (p : Bytes) (at to key lo hi : ℕ) where
           go (inr (k, s)) = absurd (omega (arith, s .up, step-next k s))
 
       pub was-step : (r ≡ 0 → ⊥) → Step r
-      was-step n = go cases
-        where
-          go : (reading ≡ bad) ⊎ ((r : ℕ) × Step r) → Step r
-          go (inl e) = absurd (n (q ∙ sym (next-bad e)))
-          go (inr (k, s)) = rw (q ∙ sym (step-next k s)) s
+      was-step n = to-end (λ e. n (q ∙ sym (next-bad e))) r q
 
 module _ (p : Bytes) (at next : ℕ) (s : at ≡ next → ⊥) where
   pub source-set : (x : ℕ) → at + entrySize + sourceBytes ≤ length p → x ≡ getD p (at + entrySize) 0 → x + 1 ≡ sourceIn p at next

@@ -1,13 +1,13 @@
 -- The parameters of a command, by the places where the reading of each ended.
 use Prim.Native.Nat.{ℕ, _+_, _-_, _≤_, _<_}
-use mathlib.Core.Path.{_≡_, refl, ap, _∙_}
+use mathlib.Core.Path.{_≡_, refl, sym, _∙_}
 use mathlib.Core.List.{[], _∷_}
 use mathlib.Core.Bool.{Bool, true, false, _&&_, cond}
 use mathlib.Core.Option.{Option, some, none, Option·map}
 use native.Mathlib.Omega.{arith}
 use lib.Dec.{eqb, leb}
 use lib.ListN.{length}
-use borrow.Author.Tests.{ne-eqb, lt-ltb, le-ltb, eqb-true, eqb-false}
+use borrow.Author.Tests.{ne-eqb, lt-ltb, le-ltb, eqb-true, eqb-false, leb-true, leb-false}
 use Rattle.rules.specs.Limits.{limits}
 use Rattle.rules.specs.Bytes.{Bytes, part, num, same}
 use Rattle.rules.specs.Commands as Rules
@@ -17,10 +17,9 @@ use Rattle.rules.specs.ProgramTest.{bad, need, optional, isBelow, paramsIn}
 use Rattle.rules.proofs.SameLaws.{same-lengths}
 use Rattle.run_slots.specs.Params.{meaning}
 use Rattle.run_slots.specs.Params as Words
-use Rattle.program_parameters.specs.declared.Entries.{Entries}
-use Rattle.program_parameters.specs.Entries.{nextIn, valueIn, placeIn, lengthIn, sourceIn, sizeIn, noEntries, entriesAt, endAt, uriEnd, sourceEnd, digestEnd, ParamsAre}
+use Rattle.program_parameters.specs.Entries.{accepted, endAt, valueIn, placeIn, lengthIn, sourceIn, sizeIn, ParametersAt, Taken}
 use Rattle.program_parameters.proofs.PartLaws.{part-none, length-to}
-use Rattle.program_parameters.proofs.EntryLaws.{reading, Step, was-bad, was-step}
+use Rattle.program_parameters.proofs.EntryLaws.{refused-not, reading, Step, Past, Ahead, ahead, passed, to-end, was-bad, was-step}
 
 -- what is made of a parameter's bytes does not change how they are read
 abbrev made : {A : Type 0} → (Bytes → A) → Got (Option Bytes × Bytes) → Got (Option A × Bytes)
@@ -41,39 +40,6 @@ by-bytes k lo hi f (x ∷ n ∷ q) = go (eqb x k) (leb lo n && leb n hi && leb n
     go true true e h = rw (e, optional, h)
     go true false e h = rw (e, optional, h)
     go false t e h = rw (e, optional)
-
--- the parameters that stand one after the other from `from` to d
-abbrev given : Bytes → ℕ → ℕ → ℕ → ℕ → ℕ → Rules.Params
-given p from a b c d =
-    record { uri = valueIn p from a; source = Option·map num (valueIn p a b); digest = valueIn p b c; size = Option·map num (valueIn p c d) }
-
-module _ (p : Bytes) (n from to : ℕ) where
-  abbrev answer : Got Rules.Params
-  answer = paramsIn n (part p from (to - from))
-
-  params-1 : reading p from to Rules.uriKey 1 (limits .uri) ≡ bad → answer ≡ bad
-  unfolding paramsIn
-  params-1 q = rw q
-
-  module _ (a : ℕ) (x : Step p from to Rules.uriKey 1 (limits .uri) a) where
-    params-2 : reading p a to Rules.sourceKey sourceBytes sourceBytes ≡ bad → answer ≡ bad
-    unfolding paramsIn
-    params-2 q = rw (x .reads, by-bytes Rules.sourceKey sourceBytes sourceBytes num, q)
-
-    module _ (b : ℕ) (y : Step p a to Rules.sourceKey sourceBytes sourceBytes b) where
-      params-3 : reading p b to Rules.digestKey (limits .digest) (limits .digest) ≡ bad → answer ≡ bad
-      unfolding paramsIn
-      params-3 q = rw (x .reads, by-bytes Rules.sourceKey sourceBytes sourceBytes num, y .reads, q)
-
-      module _ (c : ℕ) (z : Step p b to Rules.digestKey (limits .digest) (limits .digest) c) where
-        params-4 : reading p c to Rules.sizeKey sizeBytes sizeBytes ≡ bad → answer ≡ bad
-        unfolding paramsIn
-        params-4 q = rw (x .reads, by-bytes Rules.sourceKey sourceBytes sourceBytes num, y .reads, z .reads, by-bytes Rules.sizeKey sizeBytes sizeBytes num, q)
-
-        params-5 : (d : ℕ) → Step p c to Rules.sizeKey sizeBytes sizeBytes d →
-            answer ≡ (need (same (part p d (to - d)) []) >>= λ _. need (isBelow (Option·map num (valueIn p a b)) n) >>= λ _. got (given p from a b c d))
-        unfolding paramsIn
-        params-5 d w = rw (x .reads, by-bytes Rules.sourceKey sourceBytes sourceBytes num, y .reads, z .reads, by-bytes Rules.sizeKey sizeBytes sizeBytes num, w .reads)
 
 -- the numbers of a parameter mean its value
 module _ (p : Bytes) (at r : ℕ) where
@@ -127,24 +93,73 @@ module _ (p : Bytes) (at r : ℕ) where
         go true e h = absurd (omega arith)
         go false e h = rw (width (eqb-false at r e)) (le-ltb _ n (omega arith))
 
-refuses : (p : Bytes) (n from to : ℕ) (x : Got Rules.Params) (e : Entries) → x ≡ bad → e ≡ noEntries → ParamsAre p n from to x e
-refuses p n from to x e q g = rw q g
+-- the parameters that stand one after the other from `from` to d
+abbrev given : Bytes → ℕ → ℕ → ℕ → ℕ → ℕ → Rules.Params
+given p from a b c d =
+    record { uri = valueIn p from a; source = Option·map num (valueIn p a b); digest = valueIn p b c; size = Option·map num (valueIn p c d) }
 
-module _ (p : Bytes) (n from to : ℕ) (pre : (0 < from) × (from ≤ to) × (to ≤ length p)) (a : ℕ) (qa : a ≡ nextIn to (reading p from to Rules.uriKey 1 (limits .uri))) where
-  pub no-uri : a ≡ 0 → (e : Entries) → e ≡ noEntries → ParamsAre p n from to (answer p n from to) e
-  no-uri z e g = refuses p n from to _ e (params-1 p n from to (was-bad p from to Rules.uriKey 1 (limits .uri) (pre .1) (pre .2) a (pre .0) qa z)) g
+module _ (p : Bytes) (n from to : ℕ) where
+  abbrev answer : Got Rules.Params
+  answer = paramsIn n (part p from (to - from))
+
+  params-1 : reading p from to Rules.uriKey 1 (limits .uri) ≡ bad → answer ≡ bad
+  unfolding paramsIn
+  params-1 q = rw q
+
+  module _ (a : ℕ) (x : Step p from to Rules.uriKey 1 (limits .uri) a) where
+    params-2 : reading p a to Rules.sourceKey sourceBytes sourceBytes ≡ bad → answer ≡ bad
+    unfolding paramsIn
+    params-2 q = rw (x .reads, by-bytes Rules.sourceKey sourceBytes sourceBytes num, q)
+
+    module _ (b : ℕ) (y : Step p a to Rules.sourceKey sourceBytes sourceBytes b) where
+      params-3 : reading p b to Rules.digestKey (limits .digest) (limits .digest) ≡ bad → answer ≡ bad
+      unfolding paramsIn
+      params-3 q = rw (x .reads, by-bytes Rules.sourceKey sourceBytes sourceBytes num, y .reads, q)
+
+      module _ (c : ℕ) (z : Step p b to Rules.digestKey (limits .digest) (limits .digest) c) where
+        params-4 : reading p c to Rules.sizeKey sizeBytes sizeBytes ≡ bad → answer ≡ bad
+        unfolding paramsIn
+        params-4 q = rw (x .reads, by-bytes Rules.sourceKey sourceBytes sourceBytes num, y .reads, z .reads, by-bytes Rules.sizeKey sizeBytes sizeBytes num, q)
+
+        module _ (d : ℕ) (w : Step p c to Rules.sizeKey sizeBytes sizeBytes d) where
+          params-5 :
+              answer ≡ (need (same (part p d (to - d)) []) >>= λ _. need (isBelow (Option·map num (valueIn p a b)) n) >>= λ _. got (given p from a b c d))
+          unfolding paramsIn
+          params-5 =
+              rw (x .reads, by-bytes Rules.sourceKey sourceBytes sourceBytes num, y .reads, z .reads, by-bytes Rules.sizeKey sizeBytes sizeBytes num, w .reads)
+
+          -- bytes after the last
+          more : to ≤ length p → (d ≡ to → ⊥) → answer ≡ bad
+          more l h = rw (params-5, same-lengths (part p d (to - d)) [] (λ q. h (omega (arith, w .fits, length-to p d to (w .fits) l))))
+
+          module _ (hd : d ≡ to) where
+            whole : answer ≡ (need (isBelow (Option·map num (valueIn p a b)) n) >>= λ _. got (given p from a b c d))
+            whole = params-5 ∙ rw (part-none p d (to - d) (omega arith))
+
+            no-component : n < sourceIn p a b → answer ≡ bad
+            no-component h = rw (whole, not-below p a b sourceBytes (y .wide) n h)
+
+            all-read : sourceIn p a b ≤ n → answer ≡ got (given p from a b c d)
+            all-read h = rw (whole, below p a b sourceBytes (y .wide) n h)
+
+pub refuses : {x : Got Rules.Params} → x ≡ bad → false ≡ accepted x
+refuses q = rw q
+
+-- what the tests of the parameters tell
+module _ (p : Bytes) (n from to : ℕ) (pre : (0 < from) × (from ≤ to) × (to ≤ length p)) (a : ℕ) (qa : a ≡ endAt p to Rules.uriKey 1 (limits .uri) from) where
+  pub no-uri : a ≡ 0 → answer p n from to ≡ bad
+  no-uri z = params-1 p n from to (was-bad p from to Rules.uriKey 1 (limits .uri) (pre .1) (pre .2) a (pre .0) qa z)
 
   module _ (ha : a ≡ 0 → ⊥) where
-    pub uri-step : Step p from to Rules.uriKey 1 (limits .uri) a
+    uri-step : Step p from to Rules.uriKey 1 (limits .uri) a
     uri-step = was-step p from to Rules.uriKey 1 (limits .uri) (pre .1) (pre .2) a (pre .0) qa ha
 
     pub source-pre : (0 < a) × (a ≤ to) × (to ≤ length p)
     source-pre = (omega (arith, ha), uri-step .fits, pre .2)
 
-    module _ (b : ℕ) (qb : b ≡ nextIn to (reading p a to Rules.sourceKey sourceBytes sourceBytes)) where
-      pub no-source : b ≡ 0 → (e : Entries) → e ≡ noEntries → ParamsAre p n from to (answer p n from to) e
-      no-source z e g =
-          refuses p n from to _ e (params-2 p n from to a uri-step (was-bad p a to Rules.sourceKey sourceBytes sourceBytes (source-pre .1) (source-pre .2) b (source-pre .0) qb z)) g
+    module _ (b : ℕ) (qb : b ≡ endAt p to Rules.sourceKey sourceBytes sourceBytes a) where
+      pub no-source : b ≡ 0 → answer p n from to ≡ bad
+      no-source z = params-2 p n from to a uri-step (was-bad p a to Rules.sourceKey sourceBytes sourceBytes (source-pre .1) (source-pre .2) b (source-pre .0) qb z)
 
       module _ (hb : b ≡ 0 → ⊥) where
         pub source-step : Step p a to Rules.sourceKey sourceBytes sourceBytes b
@@ -153,20 +168,19 @@ module _ (p : Bytes) (n from to : ℕ) (pre : (0 < from) × (from ≤ to) × (to
         pub digest-pre : (0 < b) × (b ≤ to) × (to ≤ length p)
         digest-pre = (omega (arith, hb), source-step .fits, pre .2)
 
-        module _ (c : ℕ) (qc : c ≡ nextIn to (reading p b to Rules.digestKey (limits .digest) (limits .digest))) where
-          pub no-digest : c ≡ 0 → (e : Entries) → e ≡ noEntries → ParamsAre p n from to (answer p n from to) e
-          no-digest z e g =
-              refuses p n from to _ e
-              (params-3 p n from to a uri-step b source-step (was-bad p b to Rules.digestKey (limits .digest) (limits .digest) (digest-pre .1) (digest-pre .2) c (digest-pre .0) qc z)) g
+        module _ (c : ℕ) (qc : c ≡ endAt p to Rules.digestKey (limits .digest) (limits .digest) b) where
+          pub no-digest : c ≡ 0 → answer p n from to ≡ bad
+          no-digest z =
+              params-3 p n from to a uri-step b source-step (was-bad p b to Rules.digestKey (limits .digest) (limits .digest) (digest-pre .1) (digest-pre .2) c (digest-pre .0) qc z)
 
           module _ (hc : c ≡ 0 → ⊥) where
-            pub digest-step : Step p b to Rules.digestKey (limits .digest) (limits .digest) c
+            digest-step : Step p b to Rules.digestKey (limits .digest) (limits .digest) c
             digest-step = was-step p b to Rules.digestKey (limits .digest) (limits .digest) (digest-pre .1) (digest-pre .2) c (digest-pre .0) qc hc
 
             pub size-pre : (0 < c) × (c ≤ to) × (to ≤ length p)
             size-pre = (omega (arith, hc), digest-step .fits, pre .2)
 
-            module _ (d : ℕ) (qd : d ≡ nextIn to (reading p c to Rules.sizeKey sizeBytes sizeBytes)) where
+            module _ (d : ℕ) (qd : d ≡ endAt p to Rules.sizeKey sizeBytes sizeBytes c) where
               no-size : d ≡ 0 → answer p n from to ≡ bad
               no-size z =
                   params-4 p n from to a uri-step b source-step c digest-step (was-bad p c to Rules.sizeKey sizeBytes sizeBytes (size-pre .1) (size-pre .2) d (size-pre .0) qd z)
@@ -175,44 +189,95 @@ module _ (p : Bytes) (n from to : ℕ) (pre : (0 < from) × (from ≤ to) × (to
               some-step hd = was-step p c to Rules.sizeKey sizeBytes sizeBytes (size-pre .1) (size-pre .2) d (size-pre .0) qd hd
 
               -- a fourth that is not well formed, or bytes after it
-              pub not-all : (d ≡ to → ⊥) → (e : Entries) → e ≡ noEntries → ParamsAre p n from to (answer p n from to) e
-              not-all h e g = refuses p n from to _ e (go (eqb d 0) refl) g
+              pub not-all : (d ≡ to → ⊥) → answer p n from to ≡ bad
+              not-all h = go (eqb d 0) refl
                 where
                   go : (t : Bool) → eqb d 0 ≡ t → answer p n from to ≡ bad
                   go true z = no-size (eqb-true d 0 z)
-                  go false z =
-                      let w : Step p c to Rules.sizeKey sizeBytes sizeBytes d = some-step (eqb-false d 0 z) in
-                      params-5 p n from to a uri-step b source-step c digest-step d w
-                      ∙ rw (same-lengths (part p d (to - d)) [] (λ q. h (omega (arith, w .fits, length-to p d to (w .fits) (pre .2)))))
+                  go false z = more p n from to a uri-step b source-step c digest-step d (some-step (eqb-false d 0 z)) (pre .2) h
 
-              module _ (hd : d ≡ to) where
-                pub size-step : Step p c to Rules.sizeKey sizeBytes sizeBytes d
-                size-step = some-step (λ z. omega arith)
+              pub counted : d ≡ to → (s : ℕ) → s ≡ sourceIn p a b → leb s n ≡ accepted (answer p n from to)
+              counted h s e = rw e (go (leb (sourceIn p a b) n) refl)
+                where
+                  size-step : Step p c to Rules.sizeKey sizeBytes sizeBytes d
+                  size-step = some-step (λ z. omega arith)
 
-                whole : answer p n from to ≡ (need (isBelow (Option·map num (valueIn p a b)) n) >>= λ _. got (given p from a b c d))
-                whole = params-5 p n from to a uri-step b source-step c digest-step d size-step ∙ rw (part-none p d (to - d) (omega arith))
+                  go : (t : Bool) → leb (sourceIn p a b) n ≡ t → t ≡ accepted (answer p n from to)
+                  go true q = rw (all-read p n from to a uri-step b source-step c digest-step d size-step h (leb-true _ n q))
+                  go false q = rw (no-component p n from to a uri-step b source-step c digest-step d size-step h (leb-false _ n q))
 
-                pub no-component : n < sourceIn p a b → (e : Entries) → e ≡ noEntries → ParamsAre p n from to (answer p n from to) e
-                no-component h e g =
-                    let q : answer p n from to ≡ bad = rw (whole, not-below p a b sourceBytes (source-step .wide) n h) in
-                    refuses p n from to _ e q g
+-- parameters that the test has read, taken
+module _ (p : Bytes) (from to : ℕ) (x : ParametersAt p from to) where
+  good : answer p (x .n) from to ≡ bad → ⊥
+  good e = refused-not e (rw (x .reads))
 
-                -- these places are those of the contract
-                placed : entriesAt p from a b c d ≡ entriesAt p from (uriEnd p from to) (sourceEnd p from to) (digestEnd p from to) to
-                placed =
-                    let eb : b ≡ sourceEnd p from to = qb ∙ ap (endAt p to Rules.sourceKey sourceBytes sourceBytes) qa in
-                    let ec : c ≡ digestEnd p from to = qc ∙ ap (endAt p to Rules.digestKey (limits .digest) (limits .digest)) eb in
-                    ap (λ (x : ℕ). entriesAt p from x b c d) qa
-                    ∙ ap (λ (x : ℕ). entriesAt p from (uriEnd p from to) x c d) eb
-                    ∙ ap (λ (x : ℕ). entriesAt p from (uriEnd p from to) (sourceEnd p from to) x d) ec
-                    ∙ ap (λ (x : ℕ). entriesAt p from (uriEnd p from to) (sourceEnd p from to) (digestEnd p from to) x) hd
+  uri-good : reading p from to Rules.uriKey 1 (limits .uri) ≡ bad → ⊥
+  uri-good e = good (params-1 p (x .n) from to e)
 
-                pub all-read : (u l s v z : ℕ) → u ≡ placeIn from a → l ≡ lengthIn from a → s ≡ sourceIn p a b → v ≡ placeIn b c → z ≡ sizeIn p c d → s ≤ n →
-                    ParamsAre p n from to (answer p n from to) (record { good = true; params = record { uri = u; length = l; source = s; digest = v; size = z } })
-                unfolding meaning
-                all-read u l s v z eu el es ev ez h =
-                    rw (whole, eu, el, es, ev, ez, below p a b sourceBytes (source-step .wide) n (rw (← es) h)) (
-                      placed,
-                      rw (uri-is p from a, number-is p a b sourceBytes (source-step .wide), string-is p b c (limits .digest) (digest-step .wide), number-is p c d sizeBytes (size-step .wide)),
-                      record { source = rw (← es) h; digest = string-fits p b c (limits .digest) (digest-step .wide) to (digest-step .fits) (pre .2) },
-                    )
+  pub uri-ahead : Ahead p from to Rules.uriKey
+  uri-ahead = ahead p from to Rules.uriKey 1 (limits .uri) (x .up) (x .fits) uri-good
+
+  module _ (a : ℕ) (ea : Past p from to Rules.uriKey a) where
+    pub uri-taken : Step p from to Rules.uriKey 1 (limits .uri) a
+    uri-taken = passed p from to Rules.uriKey 1 (limits .uri) (x .up) (x .fits) uri-good a ea
+
+    source-good : reading p a to Rules.sourceKey sourceBytes sourceBytes ≡ bad → ⊥
+    source-good e = good (params-2 p (x .n) from to a uri-taken e)
+
+    pub source-ahead : Ahead p a to Rules.sourceKey
+    source-ahead = ahead p a to Rules.sourceKey sourceBytes sourceBytes (uri-taken .fits) (x .fits) source-good
+
+    module _ (b : ℕ) (eb : Past p a to Rules.sourceKey b) where
+      pub source-taken : Step p a to Rules.sourceKey sourceBytes sourceBytes b
+      source-taken = passed p a to Rules.sourceKey sourceBytes sourceBytes (uri-taken .fits) (x .fits) source-good b eb
+
+      digest-good : reading p b to Rules.digestKey (limits .digest) (limits .digest) ≡ bad → ⊥
+      digest-good e = good (params-3 p (x .n) from to a uri-taken b source-taken e)
+
+      pub digest-ahead : Ahead p b to Rules.digestKey
+      digest-ahead = ahead p b to Rules.digestKey (limits .digest) (limits .digest) (source-taken .fits) (x .fits) digest-good
+
+      module _ (c : ℕ) (ec : Past p b to Rules.digestKey c) where
+        pub digest-taken : Step p b to Rules.digestKey (limits .digest) (limits .digest) c
+        digest-taken = passed p b to Rules.digestKey (limits .digest) (limits .digest) (source-taken .fits) (x .fits) digest-good c ec
+
+        size-end : (d : ℕ) → d ≡ endAt p to Rules.sizeKey sizeBytes sizeBytes c → Step p c to Rules.sizeKey sizeBytes sizeBytes d
+        size-end =
+            to-end p c to Rules.sizeKey sizeBytes sizeBytes (digest-taken .fits) (x .fits)
+            (λ e. good (params-4 p (x .n) from to a uri-taken b source-taken c digest-taken e))
+
+        last : endAt p to Rules.sizeKey sizeBytes sizeBytes c ≡ to
+        last = go (eqb (endAt p to Rules.sizeKey sizeBytes sizeBytes c) to) refl
+          where
+            go : (t : Bool) → eqb (endAt p to Rules.sizeKey sizeBytes sizeBytes c) to ≡ t → endAt p to Rules.sizeKey sizeBytes sizeBytes c ≡ to
+            go true e = eqb-true _ to e
+            go false e =
+                absurd (good (more p (x .n) from to a uri-taken b source-taken c digest-taken _ (size-end _ refl) (x .fits) (eqb-false _ to e)))
+
+        pub size-taken : Step p c to Rules.sizeKey sizeBytes sizeBytes to
+        size-taken = size-end to (sym last)
+
+        counts : sourceIn p a b ≤ x .n
+        counts = go (leb (sourceIn p a b) (x .n)) refl
+          where
+            go : (t : Bool) → leb (sourceIn p a b) (x .n) ≡ t → sourceIn p a b ≤ x .n
+            go true e = leb-true _ (x .n) e
+            go false e =
+                absurd (good (no-component p (x .n) from to a uri-taken b source-taken c digest-taken to size-taken refl (leb-false _ (x .n) e)))
+
+        are : given p from a b c to ≡ x .params
+        are =
+            let e : got (given p from a b c to) ≡ got (x .params) = sym (all-read p (x .n) from to a uri-taken b source-taken c digest-taken to size-taken refl counts) ∙ x .reads in
+            cc
+
+        pub all-taken : (u l s v z : ℕ) → u ≡ placeIn from a → l ≡ lengthIn from a → s ≡ sourceIn p a b → v ≡ placeIn b c → z ≡ sizeIn p c to →
+            Taken p from to x (record { uri = u; length = l; source = s; digest = v; size = z })
+        unfolding meaning
+        all-taken u l s v z eu el es ev ez =
+            rw (eu, el, es, ev, ez)
+            (record {
+              means =
+                  rw (uri-is p from a, number-is p a b sourceBytes (source-taken .wide), string-is p b c (limits .digest) (digest-taken .wide), number-is p c to sizeBytes (size-taken .wide))
+                  are;
+              fit = record { source = counts; digest = string-fits p b c (limits .digest) (digest-taken .wide) to (digest-taken .fits) (x .fits) };
+            })

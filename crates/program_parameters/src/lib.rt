@@ -1,12 +1,13 @@
 // The parameters of a command, as a program writes them: key, length, value.
 ghost use mathlib.Core.Path.{_≡_};
-ghost use Prim.Native.Nat.{_+_, _-_, _≤_, _<_};
+ghost use Prim.Native.Nat.{ℕ, _+_, _-_, _≤_, _<_};
 ghost use lib.ListN.{length};
 ghost use Rattle.rules.specs.Lent.{was};
 ghost use Rattle.rules.specs.Bytes.{part};
 ghost use Rattle.rules.specs.ProgramFormat.{entrySize, sourceBytes, sizeBytes};
 ghost use Rattle.rules.specs.ProgramTest as Rule;
-ghost use Rattle.program_parameters.specs.Entries.{nextIn, placeIn, lengthIn, sourceIn, sizeIn, noEntries, ParamsAre};
+ghost use Rattle.program_parameters.specs.Entries.{accepted, endAt, WellFormed, placeIn, lengthIn, sourceIn, sizeIn};
+ghost use Rattle.program_parameters.specs.Entries.{ParametersAt, Taken};
 use byte_buffer::four;
 use byte_buffer::wide;
 use rules::codes;
@@ -17,16 +18,10 @@ use rules::program_format::SIZE_BYTES;
 use rules::program_format::SOURCE_BYTES;
 use run_slots::params::Params;
 
-// Whether the argument is well formed, and its parameters; none where it is not.
-pub struct Entries {
-    pub good: bool,
-    pub params: Params,
-}
-
 // The place after the parameter of that key, of lo to hi bytes, if it stands at `at` before `to`; 0 if it is not well formed.
 fn optional(p: &[u8], at: usize, to: usize, key: usize, lo: usize, hi: usize) -> usize
     requires { ⌜ (0 < at) × (at ≤ to) × (to ≤ length (now p)) ⌝ }
-    ensures { λ r. ⌜ r ≡ nextIn to (Rule.optional key lo hi (λ b. b) (part (was p) at (to - at))) ⌝ }
+    ensures { λ r. ⌜ r ≡ endAt (was p) to key lo hi at ⌝ }
 {
     if at == to {
         return at;
@@ -51,19 +46,18 @@ fn optional(p: &[u8], at: usize, to: usize, key: usize, lo: usize, hi: usize) ->
     at + ENTRY_BYTES + n
 }
 
-fn bad() -> Entries
-    ensures { λ r. ⌜ r ≡ noEntries ⌝ }
+// The place after the parameter of that key, if it stands at `at` before `to`; what stands there is well formed.
+fn past(p: &[u8], at: usize, to: usize, key: usize) -> usize
+    requires { ⌜ (at ≤ to) × (to ≤ length (now p)) × ((lo : ℕ) × (hi : ℕ) × WellFormed (now p) to key lo hi at) ⌝ }
+    ensures { λ r. ⌜ ((lo hi : ℕ) → WellFormed (was p) to key lo hi at → r ≡ endAt (was p) to key lo hi at) ⌝ }
 {
-    Entries {
-        good: false,
-        params: Params {
-            uri: 0,
-            length: 0,
-            source: 0,
-            digest: 0,
-            size: 0,
-        },
+    if at == to {
+        return at;
     }
+    if wide(p[at]) != key {
+        return at;
+    }
+    at + ENTRY_BYTES + wide(p[at + ENTRY_LENGTH])
 }
 
 // Of a parameter that stands from `at` to `next`, where its value starts, and its length; 0 if there is none.
@@ -108,18 +102,18 @@ fn size_of(p: &[u8], at: usize, next: usize) -> usize
     four(p, at + ENTRY_BYTES) + 1
 }
 
-// The parameters from `from` to `to`, for n components.
-pub fn read_params(p: &[u8], from: usize, to: usize, n: usize) -> Entries
+// Whether the bytes from `from` to `to` are parameters, for n components.
+pub fn params_fit(p: &[u8], from: usize, to: usize, n: usize) -> bool
     requires { ⌜ (0 < from) × (from ≤ to) × (to ≤ length (now p)) ⌝ }
-    ensures { λ r. ⌜ ParamsAre (was p) n from to (Rule.paramsIn n (part (was p) from (to - from))) r ⌝ }
+    ensures { λ r. ⌜ r ≡ accepted (Rule.paramsIn n (part (was p) from (to - from))) ⌝ }
 {
     let a = optional(p, from, to, codes::URI, 1, Controller::URI_BYTES);
     if a == 0 {
-        return bad();
+        return false;
     }
     let b = optional(p, a, to, codes::SOURCE, SOURCE_BYTES, SOURCE_BYTES);
     if b == 0 {
-        return bad();
+        return false;
     }
     let c = optional(
         p,
@@ -130,24 +124,27 @@ pub fn read_params(p: &[u8], from: usize, to: usize, n: usize) -> Entries
         Controller::DIGEST_BYTES,
     );
     if c == 0 {
-        return bad();
+        return false;
     }
-    let d = optional(p, c, to, codes::SIZE, SIZE_BYTES, SIZE_BYTES);
-    if d != to {
-        return bad();
+    if optional(p, c, to, codes::SIZE, SIZE_BYTES, SIZE_BYTES) != to {
+        return false;
     }
-    let source = source_of(p, a, b);
-    if n < source {
-        return bad();
-    }
-    Entries {
-        good: true,
-        params: Params {
-            uri: place_of(from, a),
-            length: length_of(from, a),
-            source,
-            digest: place_of(b, c),
-            size: size_of(p, c, d),
-        },
+    source_of(p, a, b) <= n
+}
+
+// The parameters from `from` to `to`, which are well formed.
+pub fn take_params(p: &[u8], from: usize, to: usize) -> Params
+    requires { ⌜ ParametersAt (now p) from to ⌝ }
+    ensures { λ r. ⌜ ((x : ParametersAt (was p) from to) → Taken (was p) from to x r) ⌝ }
+{
+    let a = past(p, from, to, codes::URI);
+    let b = past(p, a, to, codes::SOURCE);
+    let c = past(p, b, to, codes::DIGEST);
+    Params {
+        uri: place_of(from, a),
+        length: length_of(from, a),
+        source: source_of(p, a, b),
+        digest: place_of(b, c),
+        size: size_of(p, c, to),
     }
 }

@@ -1,4 +1,4 @@
-pub mod GivenLaws
+pub mod ToldLaws
 pub mod OnwardLaws
 pub mod ExecuteLaws
 pub mod StepLaws

@@ -26,7 +26,7 @@ use Rattle.program_run.specs.declared.step.ProgramState.{ProgramState}
 use Rattle.program_test.specs.declared.test.Tested.{Tested}
 use Rattle.program_test.specs.Test.{TestedAs}
 use Rattle.program_run.specs.Known.{Known}
-use Rattle.program_run.specs.Step.{StepJob, stateOf, startAt, Ran}
+use Rattle.program_run.specs.Step.{RunJob, stateOf, startAt, Ran}
 use Rattle.rules.specs.Step.{out}
 use Rattle.rules_theorems.proofs.Effects.{program-effects}
 use Rattle.rules_theorems.proofs.ProgramFaults.{Only97, program97}
@@ -64,11 +64,12 @@ module _ (p : Bytes) (t : Tested) (a : Known p t) where
     refused-answer = Frame.refused-answer (a .program .group) (a .program .number) (a .program .ids) x _ (runProgram p x) is-run refusal stops
 
     module _ (z : refusal ≡ 0) (memory : List ℕ) (f : Found (namesAt p (t .ids) (t .components)) (x .slots) (replicate memoryNumbers 0) memory) where
-      unfoldable pub job : StepJob p (t .components) (t .records) (startAt (t .from)) (x .device .vendor) (x .device .class) (x .answers) (x .slots) memory (x .trace)
+      unfoldable pub job : RunJob p (t .records) (startAt (t .from)) (x .device .vendor) (x .device .class) (x .answers) (x .slots) memory (x .trace)
       job =
           record {
             env = envOf (a .program .ids) x;
             group = a .program .group;
+            components = t .components;
             ready =
                 record {
                   lent = lent-start (a .program .group) (a .program .number) (a .program .ids) x refusal stops z (omega (arith, few, counted)) memory (rw (a .stands .names) at f) p;
@@ -87,9 +88,9 @@ module _ (p : Bytes) (t : Tested) (a : Known p t) where
           }
 
       module _ (r : ProgramState) (slots′ : Bytes) (memory′ : List ℕ) (trace′ : Bytes)
-          (d : (j : StepJob p (t .components) (t .records) (startAt (t .from)) (x .device .vendor) (x .device .class) (x .answers) (x .slots) memory (x .trace)) →
-          Ran p (t .components) (t .records) (t .from) (x .device .vendor) (x .device .class) (x .answers) (x .slots) memory (x .trace) j r slots′ memory′ trace′) where
-        ran : Ran p (t .components) (t .records) (t .from) (x .device .vendor) (x .device .class) (x .answers) (x .slots) memory (x .trace) job r slots′ memory′ trace′
+          (d : (j : RunJob p (t .records) (startAt (t .from)) (x .device .vendor) (x .device .class) (x .answers) (x .slots) memory (x .trace)) →
+          Ran p (t .records) (t .from) (x .device .vendor) (x .device .class) (x .answers) (x .slots) memory (x .trace) j r slots′ memory′ trace′) where
+        ran : Ran p (t .records) (t .from) (x .device .vendor) (x .device .class) (x .answers) (x .slots) memory (x .trace) job r slots′ memory′ trace′
         ran = d job
 
         done : out (endOf (r .end)) (stateOf p (t .components) memory′ slots′ trace′ r) ≡ exec (envOf (a .program .ids) x) (a .program .records) 0 0 (startState (a .program .ids) x)

@@ -12,7 +12,7 @@ use Rattle.rules.specs.ProgramRun.{exec}
 use Rattle.rules.specs.Step.{Env, Out}
 use Rattle.run_commands.specs.Machine.{stateAt}
 use Rattle.program_run.specs.declared.step.ProgramState.{ProgramState}
-use Rattle.program_run.specs.Step.{stateOf, Ready, rest, StepJob, Stepped, startAt, Ran}
+use Rattle.program_run.specs.Step.{stateOf, Ready, rest, RunJob, StepAsked, Stepped, startAt, Ran}
 use Rattle.program_jump.proofs.FirstRecord.{none-left}
 
 pub record Loop (p : Bytes) (components total : ℕ) (vendor class answers : Bytes) (env : Env) (group : Group) (whole : Out)
@@ -21,8 +21,11 @@ pub record Loop (p : Bytes) (components total : ℕ) (vendor class answers : Byt
   pub goes : whole ≡ rest env group p components total current (ready .place) slots memory trace
   pub calm : current .end ≡ endNumber Finished
 
-module _ (p : Bytes) (components total from : ℕ) (vendor class answers slots₀ : Bytes) (memory₀ : List ℕ) (trace₀ : Bytes)
-    (j : StepJob p components total (startAt from) vendor class answers slots₀ memory₀ trace₀) where
+module _ (p : Bytes) (total from : ℕ) (vendor class answers slots₀ : Bytes) (memory₀ : List ℕ) (trace₀ : Bytes)
+    (j : RunJob p total (startAt from) vendor class answers slots₀ memory₀ trace₀) where
+  abbrev components : ℕ
+  components = j .components
+
   abbrev pub whole : Out
   whole = exec (j .env) (j .ready .place .records) 0 0 (stateAt p components memory₀ slots₀ trace₀ 0 0)
 
@@ -33,10 +36,7 @@ module _ (p : Bytes) (components total from : ℕ) (vendor class answers slots�
   loop-starts = record { ready = j .ready; goes = refl; calm = refl }
 
   module _ (slots : Bytes) (memory : List ℕ) (trace : Bytes) (current : ProgramState) (l : LoopAt slots memory trace current) where
-    abbrev pub loop-job : StepJob p components total current vendor class answers slots memory trace
-    loop-job = record { env = j .env; group = j .group; ready = l .ready; going = l .calm }
-
-    pub loop-done : total ≤ current .n → Ran p components total from vendor class answers slots₀ memory₀ trace₀ j current slots memory trace
+    pub loop-done : total ≤ current .n → Ran p total from vendor class answers slots₀ memory₀ trace₀ j current slots memory trace
     unfolding exec
     loop-done h =
         let e : l .ready .place .records ≡ [] = none-left p (j .group) components total (current .n) (current .at) (l .ready .place) (omega (arith, l .ready .place .below)) in
@@ -46,9 +46,12 @@ module _ (p : Bytes) (components total from : ℕ) (vendor class answers slots�
           few = omega (arith, l .ready .few);
         }
 
+    abbrev pub loop-job : current .n < total → StepAsked p total current vendor class answers slots memory trace
+    loop-job h = (record { env = j .env; group = j .group; components = j .components; ready = l .ready; going = l .calm }, h)
+
     module _ (h : current .n < total) (r : ProgramState) (slots′ : Bytes) (memory′ : List ℕ) (trace′ : Bytes)
-        (s : Stepped p components total current vendor class answers slots memory trace loop-job r slots′ memory′ trace′) where
-      pub loop-stops : (r .end ≡ endNumber Finished → ⊥) → Ran p components total from vendor class answers slots₀ memory₀ trace₀ j r slots′ memory′ trace′
+        (s : Stepped p total current vendor class answers slots memory trace (loop-job h .0) r slots′ memory′ trace′) where
+      pub loop-stops : (r .end ≡ endNumber Finished → ⊥) → Ran p total from vendor class answers slots₀ memory₀ trace₀ j r slots′ memory′ trace′
       loop-stops z =
           let w : 0 < r .end = omega (arith, z) in
           record { goes = sym (l .goes ∙ s .moved .stops w); late = λ _. omega (arith, s .late w); few = omega (arith, s .moved .ready .few) }
@@ -57,4 +60,4 @@ module _ (p : Bytes) (components total from : ℕ) (vendor class answers slots�
       loop-goes-on z = record { ready = s .moved .ready; goes = l .goes ∙ s .moved .goes z; calm = z }
 
       pub loop-further : (current .n < r .n) × (r .n ≤ total)
-      loop-further = (s .further h, s .moved .ready .place .below)
+      loop-further = (s .further, s .moved .ready .place .below)

@@ -1,3 +1,4 @@
+pub mod Act
 pub mod Step
 pub mod Known
 pub mod Program

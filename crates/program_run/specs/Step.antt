@@ -1,51 +1,22 @@
 -- One step of a program's run, and the whole run.
 use Prim.Native.Nat.{ℕ, _+_, _-_, _≤_, _<_}
 use mathlib.Core.Path.{_≡_}
-use mathlib.Core.Bool.{cond}
 use mathlib.Core.List.{List}
-use mathlib.Core.Option.{some}
-use lib.Dec.{eqb}
 use lib.ListN.{length, getD}
 use Rattle.rules.specs.declared.answers.End.the-variants.{Finished}
 use Rattle.rules.specs.declared.answers.Group.{Group}
 use Rattle.rules.specs.Answers.{endNumber, endOf}
-use Rattle.rules.specs.Bytes.{Bytes, part}
-use Rattle.rules.specs.Commands.{Op, setIndex, code, Row, rowOf, commands}
-use Rattle.rules.specs.Got.{got}
+use Rattle.rules.specs.Bytes.{Bytes}
 use Rattle.rules.specs.Limits.{limits}
 use Rattle.rules.specs.ProgramFormat.{JUMP, NONE, codeFrom}
 use Rattle.rules.specs.ProgramRun.{exec, resume}
-use Rattle.rules.specs.ProgramTest.{opIn, nonJumps}
+use Rattle.rules.specs.ProgramTest.{nonJumps}
 use Rattle.rules.specs.Step.{Env, State, Out, out}
-use Rattle.run_slots.specs.declared.params.Params.{Params}
-use Rattle.run_slots.specs.Params.{Fit}
 use Rattle.run_actions.specs.declared.Progress.{Progress}
 use Rattle.run_commands.specs.Machine.{stateAt, Lends}
-use Rattle.run_commands.specs.Op.{opOf}
 use Rattle.rules.specs.Lent.{Lent, was, left}
 use Rattle.program_run.specs.declared.step.ProgramState.{ProgramState}
-use Rattle.program_run.specs.declared.step.Extent.{Extent}
 use Rattle.program_jump.specs.Jump.{RecordsAt}
-
--- the argument of a command, as the program test read it
-pub record ArgumentAt (p : Bytes) (components code from to : ℕ) : Type 0 where
-  pub i : ℕ
-  pub row : Row
-  pub listed : rowOf code commands ≡ some row
-  pub op : Op
-  pub lead : 0 < from
-  pub up : from ≤ to
-  pub fits : to ≤ length p
-  pub reads : opIn components i (row .form) (part p from (to - from)) ≡ got op
-
--- what the command of code c has beside its parameters: set index the new index, any other the place of its argument
-abbrev pub valueOf : ℕ → ℕ → ℕ → ℕ
-valueOf c i from = cond (eqb c (code (setIndex i))) i from
-
--- it was read: the parameters r, which fit
-pub record GivenAs (p : Bytes) (components code from to : ℕ) (x : ArgumentAt p components code from to) (r : Params) : Type 0 where
-  pub op : opOf p code (valueOf code (x .i) from) r ≡ x .op
-  pub fit : Fit p components r
 
 -- record n at `at`, and a target, which is no record or a later one
 pub record OnwardJob (p : Bytes) (at n target : ℕ) : Type 0 where
@@ -89,68 +60,68 @@ pub record Moved (env : Env) (group : Group) (p : Bytes) (components total : ℕ
   pub stops : 0 < r .end → rest env group p components total current (x .place) slots memory trace ≡ out (endOf (r .end)) (stateOf p components memory′ slots′ trace′ r)
 
 -- at a command
-pub record ExecJob (p : Bytes) (components : ℕ) (current : ProgramState) (vendor class answers slots : Bytes) (memory : List ℕ) (trace : Bytes) : Type 0 where
+pub record ExecJob (p : Bytes) (current : ProgramState) (vendor class answers slots : Bytes) (memory : List ℕ) (trace : Bytes) : Type 0 where
   pub env : Env
   pub group : Group
+  pub components : ℕ
   pub total : ℕ
   pub ready : Ready env group p components total current vendor class answers slots memory trace
   pub before : current .n < total
   pub stands : getD p (current .at + codeFrom) 0 ≡ JUMP → ⊥
 
 -- which was done
-pub record Executed (p : Bytes) (components : ℕ) (current : ProgramState) (vendor class answers slots : Bytes) (memory : List ℕ) (trace : Bytes)
-    (j : ExecJob p components current vendor class answers slots memory trace) (r : ProgramState) (slots′ : Bytes) (memory′ : List ℕ) (trace′ : Bytes) : Type 0 where
-  pub moved : Moved (j .env) (j .group) p components (j .total) current vendor class answers slots memory trace (j .ready) r slots′ memory′ trace′
+pub record Executed (p : Bytes) (current : ProgramState) (vendor class answers slots : Bytes) (memory : List ℕ) (trace : Bytes)
+    (j : ExecJob p current vendor class answers slots memory trace) (r : ProgramState) (slots′ : Bytes) (memory′ : List ℕ) (trace′ : Bytes) : Type 0 where
+  pub moved : Moved (j .env) (j .group) p (j .components) (j .total) current vendor class answers slots memory trace (j .ready) r slots′ memory′ trace′
   pub wrote : r .events ≡ current .events + 1
   pub further : current .n < r .n
 
 -- at a record or at the end of them, with no end yet
-pub record StepJob (p : Bytes) (components total : ℕ) (current : ProgramState) (vendor class answers slots : Bytes) (memory : List ℕ) (trace : Bytes) : Type 0 where
+pub record RunJob (p : Bytes) (total : ℕ) (current : ProgramState) (vendor class answers slots : Bytes) (memory : List ℕ) (trace : Bytes) : Type 0 where
   pub env : Env
   pub group : Group
+  pub components : ℕ
   pub ready : Ready env group p components total current vendor class answers slots memory trace
   pub going : current .end ≡ endNumber Finished
 
--- one event was written, or the end was reached without
-pub record Stepped (p : Bytes) (components total : ℕ) (current : ProgramState) (vendor class answers slots : Bytes) (memory : List ℕ) (trace : Bytes)
-    (j : StepJob p components total current vendor class answers slots memory trace) (r : ProgramState) (slots′ : Bytes) (memory′ : List ℕ) (trace′ : Bytes) : Type 0 where
-  pub moved : Moved (j .env) (j .group) p components total current vendor class answers slots memory trace (j .ready) r slots′ memory′ trace′
+-- at a record
+abbrev pub StepAsked : Bytes → ℕ → ProgramState → Bytes → Bytes → Bytes → Bytes → List ℕ → Bytes → Type 0
+StepAsked p total current vendor class answers slots memory trace =
+    RunJob p total current vendor class answers slots memory trace × (current .n < total)
+
+-- of which a jump wrote no event, a command one
+pub record Stepped (p : Bytes) (total : ℕ) (current : ProgramState) (vendor class answers slots : Bytes) (memory : List ℕ) (trace : Bytes)
+    (j : RunJob p total current vendor class answers slots memory trace) (r : ProgramState) (slots′ : Bytes) (memory′ : List ℕ) (trace′ : Bytes) : Type 0 where
+  pub moved : Moved (j .env) (j .group) p (j .components) total current vendor class answers slots memory trace (j .ready) r slots′ memory′ trace′
   pub few : r .events ≤ current .events + 1
-  pub wrote : r .n < total → r .events ≡ current .events + 1
   pub late : 0 < r .end → r .events ≡ current .events + 1
-  pub further : current .n < total → current .n < r .n
+  pub further : current .n < r .n
 
 -- a run at the first record
 abbrev pub startAt : ℕ → ProgramState
 startAt from = record { at = from; n = 0; events = 0; used = 0; end = endNumber Finished }
 
 -- the run from the first record ended at r, as the rule says
-pub record Ran (p : Bytes) (components total from : ℕ) (vendor class answers slots : Bytes) (memory : List ℕ) (trace : Bytes)
-    (j : StepJob p components total (startAt from) vendor class answers slots memory trace) (r : ProgramState) (slots′ : Bytes) (memory′ : List ℕ) (trace′ : Bytes) : Type 0 where
-  pub goes : out (endOf (r .end)) (stateOf p components memory′ slots′ trace′ r) ≡ exec (j .env) (j .ready .place .records) 0 0 (stateAt p components memory slots trace 0 0)
+pub record Ran (p : Bytes) (total from : ℕ) (vendor class answers slots : Bytes) (memory : List ℕ) (trace : Bytes)
+    (j : RunJob p total (startAt from) vendor class answers slots memory trace) (r : ProgramState) (slots′ : Bytes) (memory′ : List ℕ) (trace′ : Bytes) : Type 0 where
+  pub goes : out (endOf (r .end)) (stateOf p (j .components) memory′ slots′ trace′ r) ≡ exec (j .env) (j .ready .place .records) 0 0 (stateAt p (j .components) memory slots trace 0 0)
   pub late : 0 < r .end → 0 < r .events
   pub few : r .events ≤ limits .commands
 
--- a step that is asked for
-abbrev pub StepAsked : Bytes → Extent → ProgramState → Bytes → Bytes → Bytes → Bytes → List ℕ → Bytes → Type 0
-StepAsked p extent current vendor class answers slots memory trace =
-    StepJob p (extent .components) (extent .records) current vendor class answers slots memory trace
-
 -- what each function promises of what it is lent: for every job that it is asked for, the run was taken on as the rule says
-abbrev pub Executes : Lent → ℕ → ProgramState → Lent → Lent → Lent → Lent → Lent → Lent → ProgramState → Type 0
-Executes p components current vendor class answers slots memory trace r =
-    (j : ExecJob (was p) components current (was vendor) (was class) (was answers) (was slots) (was memory) (was trace)) →
-    Executed (was p) components current (was vendor) (was class) (was answers) (was slots) (was memory) (was trace) j r
+abbrev pub Executes : Lent → ProgramState → Lent → Lent → Lent → Lent → Lent → Lent → ProgramState → Type 0
+Executes p current vendor class answers slots memory trace r =
+    (j : ExecJob (was p) current (was vendor) (was class) (was answers) (was slots) (was memory) (was trace)) →
+    Executed (was p) current (was vendor) (was class) (was answers) (was slots) (was memory) (was trace) j r (left slots) (left memory) (left trace)
+
+abbrev pub Steps : Lent → ℕ → ProgramState → Lent → Lent → Lent → Lent → Lent → Lent → ProgramState → Type 0
+Steps p total current vendor class answers slots memory trace r =
+    (j : StepAsked (was p) total current (was vendor) (was class) (was answers) (was slots) (was memory) (was trace)) →
+    Stepped (was p) total current (was vendor) (was class) (was answers) (was slots) (was memory) (was trace) (j .0) r
     (left slots) (left memory) (left trace)
 
-abbrev pub Steps : Lent → Extent → ProgramState → Lent → Lent → Lent → Lent → Lent → Lent → ProgramState → Type 0
-Steps p extent current vendor class answers slots memory trace r =
-    (j : StepAsked (was p) extent current (was vendor) (was class) (was answers) (was slots) (was memory) (was trace)) →
-    Stepped (was p) (extent .components) (extent .records) current (was vendor) (was class) (was answers) (was slots) (was memory) (was trace) j r
-    (left slots) (left memory) (left trace)
-
-abbrev pub RecordsRun : Lent → Extent → ℕ → Lent → Lent → Lent → Lent → Lent → Lent → ProgramState → Type 0
-RecordsRun p extent from vendor class answers slots memory trace r =
-    (j : StepAsked (was p) extent (startAt from) (was vendor) (was class) (was answers) (was slots) (was memory) (was trace)) →
-    Ran (was p) (extent .components) (extent .records) from (was vendor) (was class) (was answers) (was slots) (was memory) (was trace) j r
+abbrev pub RecordsRun : Lent → ℕ → ℕ → Lent → Lent → Lent → Lent → Lent → Lent → ProgramState → Type 0
+RecordsRun p total from vendor class answers slots memory trace r =
+    (j : RunJob (was p) total (startAt from) (was vendor) (was class) (was answers) (was slots) (was memory) (was trace)) →
+    Ran (was p) total from (was vendor) (was class) (was answers) (was slots) (was memory) (was trace) j r
     (left slots) (left memory) (left trace)

@@ -13,9 +13,9 @@ use run_admission::answer::Outcome;
 use run_admission::answer::refused;
 use run_admission::ending::ended;
 use run_admission::ending::number_after;
-use step::Extent;
 use step::run_records;
 
+mod act;
 mod step;
 
 // The run of a program that the test has accepted, by what the test found.
@@ -46,13 +46,9 @@ fn run_tested(
     }
     let vendor = device.vendor;
     let class = device.class;
-    let extent = Extent {
-        components: t.components,
-        records: t.records,
-    };
     let done = run_records(
         p,
-        extent,
+        t.records,
         t.from,
         &vendor,
         &class,

@@ -18,6 +18,6 @@ argument-fits-spec =
     (λ c. sixteen-right _ _ _ _ (c .before .before .before .pre) _ (c .enum-told .given .1))
     (λ c. nil-right _ _ _ _ (c .before .before .before .pre) _ (c .enum-told2 .given .1))
     (λ c. index-right _ _ _ _ (c .before .before .before .pre) _ (c .enum-told3 .given .1))
-    (λ c. parameters-right _ _ _ _ (c .before .before .before .before .pre) _ (c .before .enum-told4 .given .1) _ (c .read-params .ensures))
+    (λ c. parameters-right _ _ _ _ (c .before .before .before .before .pre) _ (c .before .enum-told4 .given .1) _ (c .params-fit .ensures))
     (λ c. alternatives-right _ _ _ _ (c .before .before .before .pre) _ (c .enum-told5 .given .1))
     (λ c. sequence-right _ _ _ _ (c .before .before .before .pre) _ (c .enum-told6 .given .1)))

@@ -1,35 +1,50 @@
+use mathlib.Core.Path.{sym, _∙_}
+use native.Mathlib.Omega.{arith}
 use borrow.Author.Needs.{needs}
-use Rattle.program_run.proofs.StepLaws.{land-job, step-over, execute-job, step-done}
+use Rattle.program_run.proofs.StepLaws.{step-room, jump-here, step-jumped, execute-job, step-done}
 use Rattle.program_run.proofs.step.step.Statement.{statement}
 use Rattle.program_run.proofs.step.step.Tie as tie
 
--- where the jumps led, from where the command there is to be done
-abbrev landed : tie.After-execute-arg3 → tie.Else1
-landed c = c .before .before .before
+-- the way back: to the start from where the code was read; to where it is no jump from where the command is to be done
+abbrev start : tie.After-wide → tie.Start
+start c = c .before .before .before .before .before .before
 
-over : tie.Need-returns
-over c = λ j. step-over _ _ _ _ _ _ _ _ _ _ j _ (c .before .before .land .ensures (land-job _ _ _ _ _ _ _ _ _ _ j)) (c .if1 .taken)
+abbrev command : tie.After-execute-arg3 → tie.Else1
+command c = c .before .before .before
+
+code : tie.Need-shared-slice-read-wide
+code c = omega (arith, step-room _ _ _ _ _ _ _ _ _ (c .before .before .before .before .before .pre))
+
+jumps : tie.Need-jump-requires
+jumps c κs = jump-here _ _ _ _ _ _ _ _ _ (start (c .before) .pre) (sym (c .before .wide .ensures .0) ∙ c .if1 .taken)
+
+jumped : tie.Need-returns
+jumped c = λ j.
+    let t = c .before in
+    let e = sym (t .before .wide .ensures .0) ∙ t .if1 .taken in
+    step-jumped _ _ _ _ _ _ _ _ _ j e _ (c .jump .ensures (jump-here _ _ _ _ _ _ _ _ _ j e))
 
 executes : tie.Need-execute-requires
 executes c κs =
-    let e = landed c in
-    let l = e .before .before in
-    let j = l .before .before .before .before .before .pre in
-    execute-job _ _ _ _ _ _ _ _ _ _ j _ (l .land .ensures (land-job _ _ _ _ _ _ _ _ _ _ j)) (e .if1 .left)
+    let e = command c in
+    execute-job _ _ _ _ _ _ _ _ _ (start (e .before) .pre) (λ k. e .if1 .left (e .before .wide .ensures .0 ∙ k))
 
 done : tie.Need-returns-2
 done c = λ j.
     let d = c .before .before .before .before in
-    let e = landed (d .before) in
-    let l = e .before .before .land .ensures (land-job _ _ _ _ _ _ _ _ _ _ j) in
-    step-done _ _ _ _ _ _ _ _ _ _ j _ l (e .if1 .left) _ _ _ _ (d .execute .ensures (execute-job _ _ _ _ _ _ _ _ _ _ j _ l (e .if1 .left)))
+    let e = command (d .before) in
+    step-done _ _ _ _ _ _ _ _ _ j (λ k. e .if1 .left (e .before .wide .ensures .0 ∙ k)) _ _ _ _
+    (d .execute .ensures (execute-job _ _ _ _ _ _ _ _ _ j (λ k. e .if1 .left (e .before .wide .ensures .0 ∙ k))))
 
 pub step-spec : {M : Type 1} → statement M
 step-spec =
     tie.close
     (tie.spec
-    (λ c κs. land-job _ _ _ _ _ _ _ _ _ _ (c .before .before .before .before .pre))
-    over
+    (λ c. search needs)
+    code
+    (λ c κs. search needs)
+    jumps
+    jumped
     executes
     (λ c. search needs)
     (λ c. search needs)
