@@ -1,11 +1,12 @@
 // The tables of commands and parameters, as data: check, the program test and translation take codes and keys from here.
 ghost use mathlib.Core.Path.{_≡_};
 ghost use mathlib.Core.List.{[], map};
-ghost use Prim.Native.Nat.{_≤_};
+ghost use Prim.Native.Nat.{_≤_, _<_};
 ghost use Rattle.rules.specs.declared.tables.Listed.the-variants as L;
 ghost use Rattle.rules.specs.Commands.{commands, rowOf, params, paramOf};
 ghost use Rattle.rules.specs.Tables.{asCommand, asParameterRow, listed, known, argumentNumber, argumentAt, parameterNumber, knownAt};
-ghost use Rattle.rules.specs.Tables.{bitOf, packed, tableOf, byNumber};
+ghost use Rattle.rules.specs.Tables.{codes, bitOf, packed, tableOf, byNumber};
+ghost use Rattle.rules_tables.specs.Entry.{entryOf};
 use rules::codes;
 use rules::controller::Controller;
 use rules::tables::Argument;
@@ -15,10 +16,12 @@ use rules::tables::Listed;
 use rules::tables::Parameter;
 use rules::tables::ParameterRow;
 
+pub mod kinds;
+
 // The rows of the table of commands; in the table by number one entry for each code, then one for each key.
 const ROWS: usize = 13;
 
-const CODES: usize = codes::SWAP + 1;
+pub const CODES: usize = codes::SWAP + 1;
 
 const KEYS: usize = codes::SIZE + 1;
 
@@ -145,16 +148,17 @@ const PARAMETERS: [ParameterRow; Controller::PARAMETERS] = [
     },
 ];
 
-fn argument_number(argument: Argument) -> u8
-    ensures { λ r. ⌜ r ≡ argumentNumber argument ⌝ }
+// An entry has three bits for it.
+fn argument_number(argument: Argument) -> u16
+    ensures { λ r. ⌜ (r ≡ argumentNumber argument) × (r < 8) ⌝ }
 {
     match argument {
-        Argument::Sixteen => 0,
-        Argument::Nil => 1,
-        Argument::Index => 2,
-        Argument::Alternatives => 3,
-        Argument::Parameters => 4,
-        Argument::Sequence => 5,
+        Argument::Sixteen => kinds::SIXTEEN,
+        Argument::Nil => kinds::NIL,
+        Argument::Index => kinds::INDEX,
+        Argument::Alternatives => kinds::ALTERNATIVES,
+        Argument::Parameters => kinds::PARAMETERS,
+        Argument::Sequence => kinds::SEQUENCE,
     }
 }
 
@@ -162,11 +166,11 @@ fn argument_at(number: u16) -> Argument
     ensures { λ r. ⌜ r ≡ argumentAt number ⌝ }
 {
     match number {
-        0 => Argument::Sixteen,
-        1 => Argument::Nil,
-        2 => Argument::Index,
-        3 => Argument::Alternatives,
-        4 => Argument::Parameters,
+        kinds::SIXTEEN => Argument::Sixteen,
+        kinds::NIL => Argument::Nil,
+        kinds::INDEX => Argument::Index,
+        kinds::ALTERNATIVES => Argument::Alternatives,
+        kinds::PARAMETERS => Argument::Parameters,
         _ => Argument::Sequence,
     }
 }
@@ -178,11 +182,11 @@ fn bit(b: bool) -> u16
 }
 
 // Its entry in the table by number.
-fn entry(row: Command) -> u16
+fn pack(row: Command) -> u16
     ensures { λ r. ⌜ r ≡ packed (L.Command row) ⌝ }
 {
     let argument = row.argument;
-    bit(row.condition) * 512 + argument_number(argument) as u16 * 64 + row.sections as u16
+    bit(row.condition) * 512 + argument_number(argument) * 64 + row.sections as u16
 }
 
 fn parameter_number(parameter: Parameter) -> u16
@@ -231,7 +235,7 @@ fn with_commands(rows: [Command; ROWS]) -> Table
     let mut i = 0;
     while i < ROWS {
         let row = rows[i];
-        table[row.code as usize] = entry(row);
+        table[row.code as usize] = pack(row);
         i += 1;
     }
     table
@@ -259,6 +263,25 @@ pub fn tables() -> Table
     with_parameters(with_commands(command_rows()), parameter_rows())
 }
 
+// An entry of the table by number, taken apart; sections 0 where nothing is listed.
+pub struct Entry {
+    pub sections: u8,
+    pub kind: u16,
+    pub condition: bool,
+}
+
+pub fn entry_at(table: &Table, code: usize) -> Entry
+    requires { ⌜ (now table ≡ byNumber) × (code < codes) ⌝ }
+    ensures { λ r. ⌜ r ≡ entryOf (rowOf code commands) ⌝ }
+{
+    let entry = table[code];
+    Entry {
+        sections: (entry % 64) as u8,
+        kind: entry / 64 % 8,
+        condition: entry / 512 == 1,
+    }
+}
+
 pub fn look_up(table: &Table, code: usize) -> Listed
     requires { ⌜ now table ≡ byNumber ⌝ }
     ensures { λ r. ⌜ r ≡ listed (rowOf code commands) ⌝ }
@@ -266,15 +289,16 @@ pub fn look_up(table: &Table, code: usize) -> Listed
     if CODES <= code {
         return Listed::Unlisted;
     }
-    let entry = table[code];
-    if entry == 0 {
+    let entry = entry_at(table, code);
+    let sections = entry.sections;
+    if sections == 0 {
         return Listed::Unlisted;
     }
     Listed::Command(Command {
         code: code as u8,
-        condition: entry / 512 == 1,
-        argument: argument_at(entry / 64 % 8),
-        sections: (entry % 64) as u8,
+        condition: entry.condition,
+        argument: argument_at(entry.kind),
+        sections,
     })
 }
 

@@ -1,4 +1,4 @@
--- An entry, taken apart, is the rule's row at each code of the table (`listed-at`); above it the rule has none (`no-row`).
+-- The entry of a code tells the rule's row (`listed-at`); above the codes the rule has none (`no-row`).
 use mathlib.Core.Path.{refl, sym, ap}
 use borrow.Author.Needs.{needs}
 use borrow.Author.Tests.{eq-eqb, ne-eqb}
@@ -11,41 +11,17 @@ use Rattle.rules_tables.proofs.look_up.Tie as tie
 returns : tie.Need-returns
 returns c = sym (ap listed (no-row codes commands (c .before .args .code) refl (c .if1 .taken)))
 
-mul-entry : tie.Need-mul-entry
-mul-entry c = search needs
-
-element-copy-out-entry : tie.Need-element-copy-out-entry
-element-copy-out-entry c = search needs
-
 returns-2 : tie.Need-returns-2
 returns-2 c =
-    let s = c .before .before .before in
-    rw (eq-eqb _ _ (c .if2 .taken)) at (listed-at (s .args .table .now) (s .args .code) (s .pre) (search needs))
-
-cast-t9 : tie.Need-cast-t9
-cast-t9 c = search needs
-
-argument-at-requires : tie.Need-argument-at-requires
-argument-at-requires c κs = search needs
-
-cast-t14 : tie.Need-cast-t14
-cast-t14 c = search needs
+    rw (eq-eqb _ _ (c .if2 .taken)) at (listed-at (c .before .before .before .args .code) _ (c .before .entry-at .ensures) (search needs))
 
 returns-3 : tie.Need-returns-3
 returns-3 c =
-    let s = c .before .before .before .before in
+    let found = c .before .before in
     rw (c .argument-at .ensures)
-    (rw (ne-eqb _ _ (c .before .if2 .left)) at (listed-at (s .args .table .now) (s .args .code) (s .pre) (search needs)))
+    (rw (ne-eqb _ _ (c .before .if2 .left)) at (listed-at (found .before .before .args .code) _ (found .entry-at .ensures) (search needs)))
 
 pub look-up-spec : {M : Type 1} → statement M
 look-up-spec =
     tie.close
-    (tie.spec
-    returns
-    mul-entry
-    element-copy-out-entry
-    returns-2
-    cast-t9
-    argument-at-requires
-    cast-t14
-    returns-3)
+    (tie.spec returns (λ c κs. search needs) returns-2 (λ c. search needs) (λ c κs. search needs) returns-3)

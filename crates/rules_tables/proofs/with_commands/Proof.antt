@@ -35,8 +35,8 @@ mul-row c = search needs
 array-copy-out-row : tie.Need-array-copy-out-row Inv-loop μ-loop
 array-copy-out-row c = search needs
 
-entry-requires : tie.Need-entry-requires Inv-loop μ-loop
-entry-requires c κs = search needs
+pack-requires : tie.Need-pack-requires Inv-loop μ-loop
+pack-requires c κs = search needs
 
 cast-table : tie.Need-cast-table Inv-loop μ-loop
 cast-table c = search needs
@@ -58,7 +58,7 @@ loop-less c = search needs
 loop-again : tie.Need-loop-again Inv-loop μ-loop
 loop-again c =
     let l = c .before .before .before .before .loop in
-    (search needs, rw (c .before .entry .ensures) (sym (turn place value _ (l .table) (l .i) _ (search needs)) ∙ l .inv .1))
+    (search needs, rw (c .before .pack .ensures) (sym (turn place value _ (l .table) (l .i) _ (search needs)) ∙ l .inv .1))
 
 returns : tie.Need-returns Inv-loop μ-loop
 returns c = let e : c .before .loop .i ≡ length commands = omega arith in rw (c .before .before .pre, e) at (c .before .loop .inv .1)
@@ -72,7 +72,7 @@ with-commands-spec =
     loop-holds
     mul-row
     array-copy-out-row
-    entry-requires
+    pack-requires
     cast-table
     mul-table
     array-write-table
