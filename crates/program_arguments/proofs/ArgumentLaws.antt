@@ -1,27 +1,27 @@
 -- What a record of a command may hold, by its row of the command table.
 use Prim.Native.Nat.{ℕ, _-_, _≤_, _<_}
-use mathlib.Core.Path.{_≡_, refl, sym, ap, _∙_}
+use mathlib.Core.Path.{_≡_, refl, sym, _∙_}
 use mathlib.Core.List.{[], _∷_}
-use mathlib.Core.Bool.{Bool, true, false, not, _&&_, _||_}
+use mathlib.Core.Bool.{Bool, true, false, cond, not, _&&_, _||_}
 use mathlib.Core.Option.{some}
 use native.Mathlib.Omega.{arith}
 use lib.Dec.{eqb, ltb, leb}
 use lib.ListN.{length}
-use borrow.Author.Tests.{eq-eqb, ne-eqb, le-ltb, lt-ltb, eqb-true, eqb-false, not-true, not-false}
+use borrow.Author.Tests.{eq-eqb, ne-eqb, le-ltb, lt-ltb, le-leb, lt-leb, eqb-true, eqb-false, not-true, not-false}
 use Rattle.rules.specs.declared.answers.Group.{Group}
 use Rattle.rules.specs.declared.answers.Group.the-variants.{Install, Boot}
-use Rattle.rules.specs.declared.tables.Argument.{Argument}
-use Rattle.rules.specs.declared.tables.Argument.the-variants.{Sixteen, Nil, Index, Alternatives, Parameters, Sequence}
+use Rattle.rules.specs.declared.tables.Argument.the-variants.{Sixteen, Index, Parameters}
 use Rattle.rules.specs.Bytes.{Bytes, part, same}
 use Rattle.rules.specs.Commands.{Op, Params, isCondition, Form, sixteen, nil, below, alternatives, parameters, sequence, Row, rowOf, commands}
-use Rattle.rules.specs.Tables.{kindOf, setOf}
+use Rattle.rules.specs.Tables.{kindOf, setOf, argumentNumber}
 use Rattle.rules.specs.Limits.{limits}
 use Rattle.rules.specs.Got.{Got, refused, got}
 use Rattle.rules.specs.Program.{targetOf}
 use Rattle.rules.specs.ProgramFormat.{NONE}
 use Rattle.rules.specs.ProgramTest.{paramsIn, opIn, groupAllows}
 use Rattle.rules.proofs.TableLaws.{rows-agree}
-use Rattle.program_arguments.specs.Arguments.{accepted, allowsIn, targetFits}
+use Rattle.program_parameters.specs.Entries.{accepted}
+use Rattle.program_arguments.specs.Arguments.{allowsIn, targetFits}
 use Rattle.program_parameters.proofs.PartLaws.{length-to}
 
 -- the test by numbers is the rule's, for each row of the table
@@ -53,17 +53,14 @@ targeted op false target n total e = go (eqb target NONE) refl
     go true q = rw (q)
     go false q = rw (e, q, ne-eqb NONE target (λ z. eqb-false target NONE q (sym z)))
 
--- the test of an argument of each kind; a record has no alternatives and no sequence
-abbrev tested : ℕ → Bytes → Argument → Bool
-tested n q Sixteen = eqb (length q) (limits .class)
-tested n q Nil = same q []
-tested n q Index = same q []
-tested n q Alternatives = false
-tested n q Parameters = accepted (paramsIn n q)
-tested n q Sequence = false
+-- the test of an argument, by the number of its kind; a record has no alternatives and no sequence
+abbrev tested : ℕ → Bytes → ℕ → Bool
+tested n q k =
+    cond (eqb k (argumentNumber Sixteen)) (eqb (length q) (limits .class))
+    (cond (leb k (argumentNumber Index)) (same q []) (cond (eqb k (argumentNumber Parameters)) (accepted (paramsIn n q)) false))
 
 module _ (n i : ℕ) (q : Bytes) where
-  form-tested : (f : Form) → tested n q (kindOf f) ≡ accepted (opIn n i f q)
+  form-tested : (f : Form) → tested n q (argumentNumber (kindOf f)) ≡ accepted (opIn n i f q)
   unfolding opIn
   form-tested (sixteen op) = go (eqb (length q) (limits .class)) refl
     where
@@ -88,7 +85,7 @@ module _ (n i : ℕ) (q : Bytes) where
       go (got a) e = rw e
   form-tested sequence = refl
 
-  kind-tested : (f : Form) (k : Argument) (b : Bool) → kindOf f ≡ k → b ≡ tested n q k → b ≡ accepted (opIn n i f q)
+  kind-tested : (f : Form) (k : ℕ) (b : Bool) → argumentNumber (kindOf f) ≡ k → b ≡ tested n q k → b ≡ accepted (opIn n i f q)
   kind-tested f k b e t = t ∙ (rw (← e) (form-tested f))
 
 empty : (q : Bytes) → same q [] ≡ eqb (length q) 0
@@ -96,34 +93,28 @@ empty [] = refl
 empty (x ∷ q) = sym (ne-eqb (length (x ∷ q)) 0 (λ e. omega arith))
 
 -- by places
-module _ (p : Bytes) (from to n : ℕ) (pre : (0 < from) × (from ≤ to) × (to ≤ length p)) (k : Argument) where
+module _ (p : Bytes) (from to n : ℕ) (pre : (0 < from) × (from ≤ to) × (to ≤ length p)) (k : ℕ) where
   size : length (part p from (to - from)) ≡ to - from
   size = length-to p from to (pre .1) (pre .2)
 
   abbrev pub Right : Bool → Type 0
-  Right b = (f : Form) (i : ℕ) → kindOf f ≡ k → b ≡ accepted (opIn n i f (part p from (to - from)))
+  Right b = (f : Form) (i : ℕ) → argumentNumber (kindOf f) ≡ k → b ≡ accepted (opIn n i f (part p from (to - from)))
 
-  pub sixteen-right : k ≡ Sixteen → Right (eqb (to - from) (limits .class))
-  sixteen-right h f i e = kind-tested n i _ f k _ e (rw (h, size))
+  pub sixteen-right : k ≡ argumentNumber Sixteen → Right (eqb (to - from) (limits .class))
+  sixteen-right h f i e = kind-tested n i _ f k _ e (rw (eq-eqb _ _ h, size))
 
-  none-right : tested n (part p from (to - from)) k ≡ same (part p from (to - from)) [] → Right (eqb to from)
-  none-right h f i e = kind-tested n i _ f k _ e (go (eqb to from) refl ∙ (rw (h, empty (part p from (to - from)), size)))
-    where
-      go : (b : Bool) → eqb to from ≡ b → b ≡ eqb (to - from) 0
-      go true q = sym (eq-eqb (to - from) 0 (omega (arith, eqb-true to from q)))
-      go false q = sym (ne-eqb (to - from) 0 (λ z. eqb-false to from q (omega arith)))
+  module _ (d : k ≡ argumentNumber Sixteen → ⊥) where
+    pub none-right : k ≤ argumentNumber Index → Right (eqb to from)
+    none-right h f i e =
+        kind-tested n i _ f k _ e (rw (ne-eqb _ _ d, le-leb _ _ h, empty (part p from (to - from)), size) (go (eqb to from) refl))
+      where
+        go : (b : Bool) → eqb to from ≡ b → b ≡ eqb (to - from) 0
+        go true q = sym (eq-eqb (to - from) 0 (omega (arith, eqb-true to from q)))
+        go false q = sym (ne-eqb (to - from) 0 (λ z. eqb-false to from q (omega arith)))
 
-  pub nil-right : k ≡ Nil → Right (eqb to from)
-  nil-right h = none-right (rw h)
+    module _ (o : argumentNumber Index < k) where
+      pub parameters-right : k ≡ argumentNumber Parameters → (b : Bool) → b ≡ accepted (paramsIn n (part p from (to - from))) → Right b
+      parameters-right h b t f i e = kind-tested n i _ f k _ e (rw (ne-eqb _ _ d, lt-leb _ _ o, eq-eqb _ _ h) t)
 
-  pub index-right : k ≡ Index → Right (eqb to from)
-  index-right h = none-right (rw h)
-
-  pub parameters-right : k ≡ Parameters → (b : Bool) → b ≡ accepted (paramsIn n (part p from (to - from))) → Right b
-  parameters-right h b w f i e = kind-tested n i _ f k _ e (rw h w)
-
-  pub alternatives-right : k ≡ Alternatives → Right false
-  alternatives-right h f i e = kind-tested n i _ f k _ e (rw h)
-
-  pub sequence-right : k ≡ Sequence → Right false
-  sequence-right h f i e = kind-tested n i _ f k _ e (rw h)
+      pub other-right : (k ≡ argumentNumber Parameters → ⊥) → Right false
+      other-right h f i e = kind-tested n i _ f k _ e (rw (ne-eqb _ _ d, lt-leb _ _ o, ne-eqb _ _ h))

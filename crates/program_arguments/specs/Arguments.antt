@@ -1,17 +1,12 @@
--- Whether a reading was accepted, and what a record of a command may hold.
+-- What a record of a command may hold.
 use Prim.Native.Nat.{ℕ}
-use mathlib.Core.Bool.{Bool, true, false, not, _&&_, _||_}
+use mathlib.Core.Bool.{Bool, not, _&&_, _||_}
 use lib.Bits.{bitAnd}
 use lib.Dec.{eqb, ltb, leb}
 use Rattle.rules.specs.declared.answers.Group.{Group}
 use Rattle.rules.specs.ProgramFormat.{NONE}
-use Rattle.rules.specs.Got.{Got, refused, got}
 use Rattle.rules.specs.Run.{sectionsOf}
 use Rattle.rules.specs.Tables.{weights}
-
-abbrev pub accepted : {A : Type 0} → Got A → Bool
-accepted (refused r p) = false
-accepted (got a) = true
 
 -- a command that is allowed in a set of sections may stand in a program of the group: the set has a section of the group
 abbrev pub allowsIn : Group → ℕ → Bool

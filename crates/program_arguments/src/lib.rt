@@ -5,39 +5,43 @@ ghost use lib.ListN.{length};
 ghost use Rattle.rules.specs.Lent.{was};
 ghost use Rattle.rules.specs.Bytes.{part};
 ghost use Rattle.rules.specs.Commands.{Form};
-ghost use Rattle.rules.specs.Tables.{kindOf};
+ghost use Rattle.rules.specs.Tables.{kindOf, argumentNumber};
 ghost use Rattle.rules.specs.ProgramTest as Rule;
-ghost use Rattle.program_arguments.specs.Arguments.{accepted, allowsIn, targetFits};
+ghost use Rattle.program_parameters.specs.Entries.{accepted};
+ghost use Rattle.program_arguments.specs.Arguments.{allowsIn, targetFits};
 use program_parameters::params_fit;
 use rules::answers::Group;
 use rules::controller::Controller;
 use rules::program_format::NO_TARGET;
-use rules::tables::Argument;
 use rules_tables::COMMON;
 use rules_tables::INSTALL;
 use rules_tables::LOAD;
 use rules_tables::PAYLOAD_FETCH;
 use rules_tables::RUN;
 use rules_tables::VALIDATE;
+use rules_tables::kinds;
 
 // The sections of each group, as a set.
 const INSTALL_SECTIONS: u8 = COMMON + PAYLOAD_FETCH + INSTALL;
 
 const BOOT_SECTIONS: u8 = COMMON + VALIDATE + LOAD + RUN;
 
-// Whether the bytes from `from` to `to` are an argument of that kind, for n components.
-pub fn argument_fits(p: &[u8], argument: Argument, from: usize, to: usize, n: usize) -> bool
+// Whether the bytes from `from` to `to` are an argument of the kind with that number, for n components.
+pub fn argument_fits(p: &[u8], kind: u16, from: usize, to: usize, n: usize) -> bool
     requires { ⌜ (0 < from) × (from ≤ to) × (to ≤ length (now p)) ⌝ }
-    ensures { λ r. ⌜ ((form : Form) (i : ℕ) → kindOf form ≡ argument → r ≡ accepted (Rule.opIn n i form (part (was p) from (to - from)))) ⌝ }
+    ensures { λ r. ⌜ ((form : Form) (i : ℕ) → argumentNumber (kindOf form) ≡ kind → r ≡ accepted (Rule.opIn n i form (part (was p) from (to - from)))) ⌝ }
 {
-    match argument {
-        Argument::Sixteen => to - from == Controller::CLASS_BYTES,
-        Argument::Nil => to == from,
-        Argument::Index => to == from,
-        Argument::Parameters => params_fit(p, from, to, n),
-        Argument::Alternatives => false,
-        Argument::Sequence => false,
+    if kind == kinds::SIXTEEN {
+        return to - from == Controller::CLASS_BYTES;
     }
+    // nil and index
+    if kind <= kinds::INDEX {
+        return to == from;
+    }
+    if kind == kinds::PARAMETERS {
+        return params_fit(p, from, to, n);
+    }
+    false
 }
 
 // Whether a command that is allowed in the set of sections may stand in a program of the group.
