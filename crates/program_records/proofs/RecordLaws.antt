@@ -8,26 +8,28 @@ use native.Mathlib.Nat.{add-zero}
 use lib.Dec.{eqb, ltb, leb}
 use lib.ListN.{length, getD, take, drop, length-drop}
 use lib.Seq.{getD-drop, drop-drop}
-use borrow.Author.Tests.{eq-eqb, ne-eqb, lt-ltb, le-ltb, le-leb, lt-leb, leb-true, leb-false, not-true, not-false}
+use borrow.Author.Tests.{eq-eqb, ne-eqb, lt-ltb, le-ltb, le-leb, lt-leb, eqb-true, eqb-false, ltb-true, ltb-false, leb-true, leb-false, not-true, not-false}
 use Rattle.rules.specs.declared.answers.Group.{Group}
+use Rattle.rules.specs.declared.answers.Group.the-variants.{Install, Boot}
 use Rattle.rules.specs.declared.answers.Refusal.the-variants.{BadProgram}
-use Rattle.rules.specs.declared.tables.Command.{Command}
-use Rattle.rules.specs.declared.tables.Listed.the-variants as L
 use Rattle.rules.specs.Bytes.{Bytes, part, num, twoAt, same}
 use Rattle.rules.specs.Commands.{Op, isCondition, Form, Row, rowOf, commands}
-use Rattle.rules.specs.Tables.{kindOf, asCommand, listed}
+use Rattle.rules.specs.Tables.{kindOf, argumentNumber, codes}
 use Rattle.rules.specs.Got.{Got, refused, got, found, _>>=_}
-use Rattle.rules.specs.Program.{does, targetOf}
+use Rattle.rules.specs.Program.{Rec, does, jump, targetOf}
 use Rattle.rules.specs.ProgramFormat.{mark, JUMP, NONE, codeFrom, componentFrom, placeFrom, targetFrom, argumentFrom, recordSize}
 use Rattle.rules.specs.ProgramTest.{need, opIn, groupAllows, recordIn}
 use Rattle.rules.proofs.BytesLaws.{num-2}
-use Rattle.rules.proofs.TableLaws.{listed-some, listed-none}
-use Rattle.program_parameters.specs.Entries.{nextIn}
-use Rattle.program_arguments.specs.Arguments.{accepted, allowsIn, targetFits}
+use Rattle.rules.proofs.GotLaws.{and-true}
+use Rattle.rules_tables.specs.declared.Entry.{Entry}
+use Rattle.rules_tables.specs.Entry.{entryOf}
+use Rattle.rules_tables.proofs.LookUpLaws.{no-row}
+use Rattle.program_parameters.specs.Entries.{accepted}
+use Rattle.program_arguments.specs.Arguments.{allowsIn, targetFits}
 use Rattle.program_arguments.proofs.FormLaws.{op-code}
 use Rattle.program_arguments.proofs.ArgumentLaws.{row-allows, targeted}
-use Rattle.program_records.specs.Records.{mark₁, mark₂, jumpFits, commandAt, recordAt}
-use Rattle.program_parameters.proofs.PartLaws.{part-drop, rest-at, same-2}
+use Rattle.program_records.specs.Records.{mark₁, mark₂, nextAt, recordFits, recordEnd, jumpFits, commandAt, recordAt}
+use Rattle.program_parameters.proofs.PartLaws.{part-drop, same-2}
 
 -- a command's answer is handed on
 handed : {B : Type 0} (o : Option Row) (f : Row → Bool) (t : Bool) (h : Row → Got Op) (u : Op → Bool) (k : Op → B) →
@@ -47,6 +49,14 @@ handed {B} (some row) f t h u k = go (f row) t (h row)
     go true false x = refl
     go true true (refused r p) = refl
     go true true (got op) = last op (u op)
+
+-- nothing lies between the places m and m + n
+nothing : (m n : ℕ) → eqb (m + n) m ≡ eqb n 0
+nothing m n = go (eqb n 0) refl
+  where
+    go : (b : Bool) → eqb n 0 ≡ b → eqb (m + n) m ≡ b
+    go true e = eq-eqb (m + n) m (omega (arith, eqb-true n 0 e))
+    go false e = ne-eqb (m + n) m (λ z. eqb-false n 0 e (omega arith))
 
 module _ (p : Bytes) (at : ℕ) where
   byte : (k : ℕ) → getD (drop at p) k 0 ≡ getD p (at + k) 0
@@ -82,17 +92,20 @@ module _ (p : Bytes) (at : ℕ) where
   short h = lt-leb recordSize (length (drop at p)) (omega (arith, length-drop at p))
 
 module _ (g : Group) (comps total n : ℕ) (p : Bytes) (at : ℕ) where
+  abbrev code : ℕ
+  code = getD p (at + codeFrom) 0
+
   pub record-at : recordIn g comps total n (drop at p) ≡ recordAt g comps total n p at
   unfolding recordIn recordAt commandAt
   record-at = fits (leb (at + recordSize) (length p)) refl
     where
       -- the bytes' places
-      whole : at + recordSize ≤ length p → (a b c d : Bool) → eqb (getD p at 0) mark₁ ≡ a → eqb (getD p (at + 1) 0) mark₂ ≡ b →
-          leb (at + recordSize + num (part p (at + argumentFrom) 2)) (length p) ≡ c → eqb (getD p (at + codeFrom) 0) JUMP ≡ d → recordIn g comps total n (drop at p) ≡ recordAt g comps total n p at
-      whole h false b c d ea eb ec ed = rw (long p at h, marked p at h, le-leb _ _ h, ea)
-      whole h true false c d ea eb ec ed = rw (long p at h, marked p at h, le-leb _ _ h, ea, eb)
-      whole h true true false d ea eb ec ed = rw (long p at h, marked p at h, le-leb _ _ h, ea, eb, number p at argumentFrom, room p at h, ec)
-      whole h true true true true ea eb ec ed = rw (
+      whole : at + recordSize ≤ length p → (a b c d j : Bool) → eqb (getD p at 0) mark₁ ≡ a → eqb (getD p (at + 1) 0) mark₂ ≡ b →
+          leb (nextAt p at) (length p) ≡ c → ltb code codes ≡ d → eqb code JUMP ≡ j → recordIn g comps total n (drop at p) ≡ recordAt g comps total n p at
+      whole h false b c d j ea eb ec ed ej = rw (long p at h, marked p at h, le-leb _ _ h, ea)
+      whole h true false c d j ea eb ec ed ej = rw (long p at h, marked p at h, le-leb _ _ h, ea, eb)
+      whole h true true false d j ea eb ec ed ej = rw (long p at h, marked p at h, le-leb _ _ h, ea, eb, number p at argumentFrom, room p at h, ec)
+      whole h true true true false true ea eb ec ed ej = rw (
         long p at h,
         marked p at h,
         le-leb _ _ h,
@@ -103,15 +116,32 @@ module _ (g : Group) (comps total n : ℕ) (p : Bytes) (at : ℕ) where
         ec,
         byte p at codeFrom,
         ed,
+        ej,
         byte p at componentFrom,
         number p at placeFrom,
         number p at targetFrom,
         rest p at,
         number p at argumentFrom,
+        nothing (at + recordSize),
       )
-      whole h true true true false ea eb ec ed =
+      whole h true true true false false ea eb ec ed ej = rw (
+        long p at h,
+        marked p at h,
+        le-leb _ _ h,
+        ea,
+        eb,
+        number p at argumentFrom,
+        room p at h,
+        ec,
+        byte p at codeFrom,
+        ed,
+        ej,
+        byte p at codeFrom,
+        no-row codes commands code refl (ltb-false _ _ ed),
+      )
+      whole h true true true true j ea eb ec ed ej =
           let target : ℕ = num (part p (at + targetFrom) 2) in
-          let next : ℕ = at + recordSize + num (part p (at + argumentFrom) 2) in
+          let next : ℕ = nextAt p at in
           rw (
             long p at h,
             marked p at h,
@@ -123,6 +153,7 @@ module _ (g : Group) (comps total n : ℕ) (p : Bytes) (at : ℕ) where
             ec,
             byte p at codeFrom,
             ed,
+            ne-eqb code JUMP (λ z. omega (arith, ltb-true code codes ed)),
             byte p at componentFrom,
             number p at placeFrom,
             number p at targetFrom,
@@ -131,166 +162,214 @@ module _ (g : Group) (comps total n : ℕ) (p : Bytes) (at : ℕ) where
             byte p at codeFrom,
             number p at argumentFrom,
           )
-          (handed (rowOf (getD p (at + codeFrom) 0) commands) (λ row. groupAllows g (row .allowed)) (ltb (getD p (at + componentFrom) 0) comps)
+          (handed (rowOf code commands) (λ row. groupAllows g (row .allowed)) (ltb (getD p (at + componentFrom) 0) comps)
           (λ row. opIn comps (getD p (at + componentFrom) 0) (row .form) (part p (at + recordSize) (next - (at + recordSize))))
           (λ op. eqb target NONE || eqb (targetOf op target) target && (ltb n target && leb target total))
           (λ op. (does op (getD p (at + componentFrom) 0) (num (part p (at + placeFrom) 2)) target, drop next p)))
 
       fits : (b : Bool) → leb (at + recordSize) (length p) ≡ b → recordIn g comps total n (drop at p) ≡ recordAt g comps total n p at
       fits true e =
-          whole (leb-true _ _ e) (eqb (getD p at 0) mark₁) (eqb (getD p (at + 1) 0) mark₂) (leb (at + recordSize + num (part p (at + argumentFrom) 2)) (length p))
-          (eqb (getD p (at + codeFrom) 0) JUMP) refl refl refl refl
+          whole (leb-true _ _ e) (eqb (getD p at 0) mark₁) (eqb (getD p (at + 1) 0) mark₂) (leb (nextAt p at) (length p)) (ltb code codes) (eqb code JUMP) refl refl refl refl refl
       fits false e = rw (short p at (leb-false _ _ e), e)
 
 -- two bytes, as the code reads them
 pub two-is : (p : Bytes) (at k x : ℕ) → at + k + 2 ≤ length p → x ≡ twoAt p (at + k) → x ≡ num (part p (at + k) 2)
 two-is p at k x l e = e ∙ sym (num-2 p (at + k) l)
 
-module _ (p : Bytes) (at size total n : ℕ) where
-  pub jump-component : (getD p (at + componentFrom) 0 ≡ 0 → ⊥) → false ≡ jumpFits p at size total n
-  jump-component i = rw (ne-eqb _ _ i)
+-- the place after a record
+module _ (p : Bytes) (at : ℕ) where
+  pub end-short : length p < at + recordSize → 0 ≡ recordEnd p at
+  unfolding recordEnd
+  end-short h = rw (lt-leb _ _ h)
 
-  module _ (i : getD p (at + componentFrom) 0 ≡ 0) (x : ℕ) (q : x ≡ num (part p (at + placeFrom) 2)) where
-    pub jump-place : (x ≡ 0 → ⊥) → false ≡ jumpFits p at size total n
-    jump-place h = rw (eq-eqb _ _ i, ← q, ne-eqb x 0 h)
+  module _ (l : at + recordSize ≤ length p) where
+    pub end-mark : (getD p at 0 ≡ mark₁ → ⊥) → 0 ≡ recordEnd p at
+    unfolding recordEnd
+    end-mark h = rw (le-leb _ _ l, ne-eqb _ _ h)
 
-    module _ (z : x ≡ 0) where
-      pub jump-size : (size ≡ 0 → ⊥) → false ≡ jumpFits p at size total n
-      jump-size h = rw (eq-eqb _ _ i, ← q, eq-eqb x 0 z, ne-eqb size 0 h)
+    module _ (a : getD p at 0 ≡ mark₁) where
+      pub end-mark-2 : (getD p (at + 1) 0 ≡ mark₂ → ⊥) → 0 ≡ recordEnd p at
+      unfolding recordEnd
+      end-mark-2 h = rw (le-leb _ _ l, eq-eqb _ _ a, ne-eqb _ _ h)
 
-      module _ (s : size ≡ 0) (t : ℕ) (e : t ≡ num (part p (at + targetFrom) 2)) where
-        pub jump-back : t ≤ n → false ≡ jumpFits p at size total n
-        jump-back h = rw (eq-eqb _ _ i, ← q, eq-eqb x 0 z, eq-eqb size 0 s, ← e, le-ltb n t h)
+      module _ (b : getD p (at + 1) 0 ≡ mark₂) (x : ℕ) (q : x ≡ num (part p (at + argumentFrom) 2)) where
+        pub end-long : length p < at + recordSize + x → 0 ≡ recordEnd p at
+        unfolding recordEnd
+        end-long h = rw (le-leb _ _ l, eq-eqb _ _ a, eq-eqb _ _ b, ← q, lt-leb _ _ h)
 
-        pub jump-on : n < t → leb t total ≡ jumpFits p at size total n
-        jump-on h = rw (eq-eqb _ _ i, ← q, eq-eqb x 0 z, eq-eqb size 0 s, ← e, lt-ltb n t h)
+        pub end-is : at + recordSize + x ≤ length p → at + recordSize + x ≡ recordEnd p at
+        unfolding recordEnd
+        end-is h = rw (le-leb _ _ l, eq-eqb _ _ a, eq-eqb _ _ b, ← q, le-leb _ _ h)
 
--- what a look-up of a command found
+-- a jump, by its tests
+module _ (p : Bytes) (at next total n : ℕ) where
+  module _ (c : ℕ) (ec : c ≡ getD p (at + codeFrom) 0) where
+    pub jump-code : (c ≡ JUMP → ⊥) → false ≡ jumpFits p at next total n
+    jump-code h = rw (← ec, ne-eqb _ _ h)
+
+    module _ (j : c ≡ JUMP) where
+      pub jump-component : (getD p (at + componentFrom) 0 ≡ 0 → ⊥) → false ≡ jumpFits p at next total n
+      jump-component i = rw (← ec, eq-eqb _ _ j, ne-eqb _ _ i)
+
+      module _ (i : getD p (at + componentFrom) 0 ≡ 0) (x : ℕ) (q : x ≡ num (part p (at + placeFrom) 2)) where
+        pub jump-place : (x ≡ 0 → ⊥) → false ≡ jumpFits p at next total n
+        jump-place h = rw (← ec, eq-eqb _ _ j, eq-eqb _ _ i, ← q, ne-eqb x 0 h)
+
+        module _ (z : x ≡ 0) where
+          pub jump-size : (next ≡ at + recordSize → ⊥) → false ≡ jumpFits p at next total n
+          jump-size h = rw (← ec, eq-eqb _ _ j, eq-eqb _ _ i, ← q, eq-eqb x 0 z, ne-eqb _ _ h)
+
+          module _ (s : next ≡ at + recordSize) (t : ℕ) (e : t ≡ num (part p (at + targetFrom) 2)) where
+            pub jump-back : t ≤ n → false ≡ jumpFits p at next total n
+            jump-back h = rw (← ec, eq-eqb _ _ j, eq-eqb _ _ i, ← q, eq-eqb x 0 z, eq-eqb _ _ s, ← e, le-ltb n t h)
+
+            pub jump-on : n < t → leb t total ≡ jumpFits p at next total n
+            jump-on h = rw (← ec, eq-eqb _ _ j, eq-eqb _ _ i, ← q, eq-eqb x 0 z, eq-eqb _ _ s, ← e, lt-ltb n t h)
+
+-- nothing is allowed where no command is listed
+none-allowed : (g : Group) → allowsIn g 0 ≡ false
+none-allowed Install = refl
+none-allowed Boot = refl
+
+-- a command, by the entry of its code
 module _ (g : Group) (comps total n : ℕ) (p : Bytes) (at to : ℕ) where
   abbrev asked : Got Op
   asked = commandAt g comps total n p at to
 
-  -- by the row that the look-up found
-  module _ (c : ℕ) (ec : c ≡ getD p (at + codeFrom) 0) where
-    pub not-listed : listed (rowOf c commands) ≡ L.Unlisted → false ≡ accepted asked
-    unfolding commandAt
-    not-listed h = rw (← ec, listed-none (rowOf c commands) h)
+  module _ (c : ℕ) (ec : c ≡ getD p (at + codeFrom) 0) (x : Entry) (ex : x ≡ entryOf (rowOf c commands)) (a : Bool) (ea : a ≡ allowsIn g (x .sections)) where
+    allows-row : (row : Row) → rowOf c commands ≡ some row → a ≡ groupAllows g (row .allowed)
+    allows-row row e = ea ∙ ap (λ (y : Entry). allowsIn g (y .sections)) (ex ∙ ap entryOf e) ∙ row-allows c row g e
 
-    module _ (x : Command) (ex : listed (rowOf c commands) ≡ L.Command x) where
+    pub not-allowed : not a ≡ true → false ≡ accepted asked
+    unfolding commandAt
+    not-allowed h = go (rowOf c commands) refl
+      where
+        go : (o : Option Row) → rowOf c commands ≡ o → false ≡ accepted asked
+        go none e = rw (← ec, e)
+        go (some row) e = rw (← ec, e, ← allows-row row e, not-true a h)
+
+    module _ (ha : not a ≡ false) where
+      -- its row
+      found-row : (row : Row) × (rowOf c commands ≡ some row) × (entryOf (some row) ≡ x)
+      found-row = go (rowOf c commands) refl
+        where
+          go : (o : Option Row) → rowOf c commands ≡ o → (row : Row) × (rowOf c commands ≡ some row) × (entryOf (some row) ≡ x)
+          go none e =
+              let z : true ≡ false = sym (not-false a ha) ∙ ea ∙ ap (λ (y : Entry). allowsIn g (y .sections)) (ex ∙ ap entryOf e) ∙ none-allowed g in
+              absurd (true≢false z)
+          go (some row) e = (row, e, sym (ex ∙ ap entryOf e))
+
       abbrev row : Row
-      row = listed-some (rowOf c commands) x ex .0
+      row = found-row .0
 
       is-row : rowOf c commands ≡ some row
-      is-row = listed-some (rowOf c commands) x ex .1
+      is-row = found-row .1
 
-      is-command : asCommand row ≡ x
-      is-command = listed-some (rowOf c commands) x ex .2
+      is-entry : entryOf (some row) ≡ x
+      is-entry = found-row .2
 
-      module _ (a : Bool) (ea : a ≡ allowsIn g (x .sections)) where
-        allowed : a ≡ groupAllows g (row .allowed)
-        allowed = ea ∙ ap (λ (y : Command). allowsIn g (y .sections)) (sym is-command) ∙ row-allows c row g is-row
+      allowed : groupAllows g (row .allowed) ≡ true
+      allowed = sym (allows-row row is-row) ∙ not-false a ha
 
-        pub not-allowed : not a ≡ true → false ≡ accepted asked
+      pub no-component : comps ≤ getD p (at + componentFrom) 0 → false ≡ accepted asked
+      unfolding commandAt
+      no-component h = rw (← ec, is-row, allowed, le-ltb _ _ h)
+
+      module _ (hc : getD p (at + componentFrom) 0 < comps) (b : Bool) (eb : (f : Form) (i : ℕ) → argumentNumber (kindOf f) ≡ x .kind →
+          b ≡ accepted (opIn comps i f (part p (at + recordSize) (to - (at + recordSize))))) where
+        abbrev made : Got Op
+        made = opIn comps (getD p (at + componentFrom) 0) (row .form) (part p (at + recordSize) (to - (at + recordSize)))
+
+        fitting : b ≡ accepted made
+        fitting = eb (row .form) (getD p (at + componentFrom) 0) (ap (λ (y : Entry). y .kind) is-entry)
+
+        pub not-fitting : not b ≡ true → false ≡ accepted asked
         unfolding commandAt
-        not-allowed h = rw (← ec, is-row, ← allowed, not-true a h)
+        not-fitting h = go made refl
+          where
+            go : (y : Got Op) → made ≡ y → false ≡ accepted asked
+            go (refused r q) e = rw (← ec, is-row, allowed, lt-ltb _ _ hc, e)
+            go (got op) e = let z : true ≡ false = ap accepted (sym e) ∙ sym fitting ∙ not-true b h in absurd (true≢false z)
 
-        module _ (ha : not a ≡ false) where
-          pub no-component : comps ≤ getD p (at + componentFrom) 0 → false ≡ accepted asked
-          unfolding commandAt
-          no-component h = rw (← ec, is-row, ← allowed, not-false a ha, le-ltb _ _ h)
+        is-condition : (op : Op) → made ≡ got op → isCondition op ≡ x .condition
+        is-condition op e =
+            rw (op-code comps (getD p (at + componentFrom) 0) _ op c row is-row e, is-row) (ap (λ (y : Entry). y .condition) is-entry)
 
-          module _ (hc : getD p (at + componentFrom) 0 < comps) (b : Bool) (eb : (f : Form) (i : ℕ) → kindOf f ≡ x .argument →
-              b ≡ accepted (opIn comps i f (part p (at + recordSize) (to - (at + recordSize))))) where
-            abbrev made : Got Op
-            made = opIn comps (getD p (at + componentFrom) 0) (row .form) (part p (at + recordSize) (to - (at + recordSize)))
+        -- the command is made, and its target decides
+        pub decided : not b ≡ false → (y : ℕ) → y ≡ num (part p (at + targetFrom) 2) →
+            (u : Bool) → u ≡ targetFits (x .condition) y n total → u ≡ accepted asked
+        unfolding commandAt
+        decided h y ey u eu = go made refl
+          where
+            last : (op : Op) (v : Bool) → v ≡ accepted (need v >>= λ _. got op)
+            last op true = refl
+            last op false = refl
 
-            fitting : b ≡ accepted made
-            fitting = eb (row .form) (getD p (at + componentFrom) 0) (ap (λ (y : Command). y .argument) is-command)
-
-            pub not-fitting : not b ≡ true → false ≡ accepted asked
-            unfolding commandAt
-            not-fitting h = go made refl
-              where
-                go : (y : Got Op) → made ≡ y → false ≡ accepted asked
-                go (refused r q) e = rw (← ec, is-row, ← allowed, not-false a ha, lt-ltb _ _ hc, e)
-                go (got op) e = let z : true ≡ false = ap accepted (sym e) ∙ sym fitting ∙ not-true b h in absurd (true≢false z)
-
-            is-condition : (op : Op) → made ≡ got op → isCondition op ≡ x .condition
-            is-condition op e =
-                rw (op-code comps (getD p (at + componentFrom) 0) _ op c row is-row e, is-row) (ap (λ (y : Command). y .condition) is-command)
-
-            -- the command is made, and its target decides
-            pub decided : not b ≡ false → (y : ℕ) → y ≡ num (part p (at + targetFrom) 2) →
-                (u : Bool) → u ≡ targetFits (x .condition) y n total → u ≡ accepted asked
-            unfolding commandAt
-            decided h y ey u eu = go made refl
-              where
-                last : (op : Op) (v : Bool) → v ≡ accepted (need v >>= λ _. got op)
-                last op true = refl
-                last op false = refl
-
-                go : (m : Got Op) → made ≡ m → u ≡ accepted asked
-                go (refused r q) e = let z : true ≡ false = sym (not-false b h) ∙ fitting ∙ ap accepted e in absurd (true≢false z)
-                go (got op) e =
-                    rw (← ec, is-row, ← allowed, not-false a ha, lt-ltb _ _ hc, e, ← ey, ← targeted op (x .condition) y n total (is-condition op e), ← eu) (last op u)
-
-accepted-got : {A : Type 0} (x : Got A) → accepted x ≡ true → (a : A) × (x ≡ got a)
-accepted-got (refused r p) e = absurd (true≢false (sym e))
-accepted-got (got a) e = (a, refl)
+            go : (m : Got Op) → made ≡ m → u ≡ accepted asked
+            go (refused r q) e = let z : true ≡ false = sym (not-false b h) ∙ fitting ∙ ap accepted e in absurd (true≢false z)
+            go (got op) e =
+                rw (← ec, is-row, allowed, lt-ltb _ _ hc, e, ← ey, ← targeted op (x .condition) y n total (is-condition op e), ← eu) (last op u)
 
 not-accepted : {A B : Type 0} (x : Got A) (f : A → B) → accepted x ≡ false → accepted (x >>= λ a. got (f a)) ≡ false
 not-accepted (refused r p) f e = refl
 not-accepted (got a) f e = absurd (true≢false e)
 
-next-none : {A : Type 0} (to : ℕ) (x : Got (A × Bytes)) → accepted x ≡ false → 0 ≡ nextIn to x
-next-none to (refused r p) e = refl
-next-none to (got a) e = absurd (true≢false e)
+-- a record that ends at r
+module _ (p : Bytes) (at r : ℕ) (q : r ≡ recordEnd p at) (d : r ≡ 0 → ⊥) where
+  lies : recordFits p at ≡ true
+  unfolding recordEnd
+  lies = go (recordFits p at) refl
+    where
+      go : (b : Bool) → recordFits p at ≡ b → b ≡ true
+      go false e = absurd (d (q ∙ rw e))
+      go true e = refl
 
-module _ (g : Group) (comps total n : ℕ) (p : Bytes) (at : ℕ) where
-  abbrev place : ℕ
-  place = nextIn (length p) (recordIn g comps total n (drop at p))
+  ends : nextAt p at ≡ r
+  unfolding recordEnd
+  ends = sym (q ∙ rw lies)
 
-  none-at : accepted (recordAt g comps total n p at) ≡ false → 0 ≡ place
-  none-at h = rw (record-at g comps total n p at) (next-none (length p) (recordAt g comps total n p at) h)
+  pub end-room : (at + recordSize ≤ r) × (r ≤ length p)
+  end-room =
+      let marks : Bool = leb (at + recordSize) (length p) && eqb (getD p at 0) mark₁ && eqb (getD p (at + 1) 0) mark₂ in
+      let (_, h) = and-true marks (leb (nextAt p at) (length p)) lies in
+      (omega (arith, ends), omega (arith, ends, leb-true (nextAt p at) (length p) h))
 
-  pub record-short : length p < at + recordSize → 0 ≡ place
-  unfolding recordAt
-  record-short h = none-at (rw (lt-leb _ _ h))
+module _ (g : Group) (comps total n : ℕ) (p : Bytes) (at r : ℕ) (q : r ≡ recordEnd p at) where
+  abbrev pub one : Got (Rec × Bytes)
+  one = recordIn g comps total n (drop at p)
 
-  module _ (l : at + recordSize ≤ length p) where
-    pub record-mark : (getD p at 0 ≡ mark₁ → ⊥) → 0 ≡ place
-    unfolding recordAt
-    record-mark h = none-at (rw (le-leb _ _ l, ne-eqb _ _ h))
+  refuses : accepted (recordAt g comps total n p at) ≡ false → accepted one ≡ false
+  refuses = rw (record-at g comps total n p at) (λ h. h)
 
-    module _ (a : getD p at 0 ≡ mark₁) where
-      pub record-mark-2 : (getD p (at + 1) 0 ≡ mark₂ → ⊥) → 0 ≡ place
+  pub no-end : r ≡ 0 → accepted one ≡ false
+  unfolding recordAt recordEnd
+  no-end z = refuses (go (recordFits p at) refl)
+    where
+      go : (b : Bool) → recordFits p at ≡ b → accepted (recordAt g comps total n p at) ≡ false
+      go false e = rw e
+      go true e = let k : r ≡ nextAt p at = q ∙ rw e in absurd (omega arith)
+
+  module _ (d : r ≡ 0 → ⊥) (c : ℕ) (ec : c ≡ getD p (at + codeFrom) 0) where
+    module _ (l : c < codes) (t : Bool) (e : t ≡ accepted (commandAt g comps total n p at r)) where
+      pub no-command : not t ≡ true → accepted one ≡ false
       unfolding recordAt
-      record-mark-2 h = none-at (rw (le-leb _ _ l, eq-eqb _ _ a, ne-eqb _ _ h))
+      no-command h =
+          refuses (rw (lies p at r q d, ← ec, lt-ltb _ _ l, ends p at r q d) (not-accepted (commandAt g comps total n p at r) _ (sym e ∙ not-true t h)))
 
-      module _ (b : getD p (at + 1) 0 ≡ mark₂) (x : ℕ) (q : x ≡ num (part p (at + argumentFrom) 2)) where
-        pub record-long : length p < at + recordSize + x → 0 ≡ place
-        unfolding recordAt
-        record-long h = none-at (rw (le-leb _ _ l, eq-eqb _ _ a, eq-eqb _ _ b, ← q, lt-leb _ _ h))
+      pub is-command : not t ≡ false → (op : Op) × (one ≡ got (does op (getD p (at + componentFrom) 0) (num (part p (at + placeFrom) 2)) (num (part p (at + targetFrom) 2)), drop r p))
+      unfolding recordAt
+      is-command h = go (commandAt g comps total n p at r) refl
+        where
+          go : (x : Got Op) → commandAt g comps total n p at r ≡ x →
+              (op : Op) × (one ≡ got (does op (getD p (at + componentFrom) 0) (num (part p (at + placeFrom) 2)) (num (part p (at + targetFrom) 2)), drop r p))
+          go (refused k m) w = absurd (true≢false (sym (not-false t h) ∙ e ∙ ap accepted w))
+          go (got op) w = (op, rw (record-at g comps total n p at, lies p at r q d, ← ec, lt-ltb _ _ l, ends p at r q d, w))
 
-        module _ (f : at + recordSize + x ≤ length p) where
-          module _ (j : getD p (at + codeFrom) 0 ≡ JUMP) (t : Bool) (e : t ≡ jumpFits p at x total n) where
-            pub record-jump : t ≡ true → at + recordSize + x ≡ place
-            unfolding recordAt
-            record-jump h =
-                rw (record-at g comps total n p at, le-leb _ _ l, eq-eqb _ _ a, eq-eqb _ _ b, ← q, le-leb _ _ f, eq-eqb _ _ j, ← q, ← e, h) (sym (rest-at p (at + recordSize + x) f))
+    module _ (l : codes ≤ c) (t : Bool) (e : t ≡ jumpFits p at r total n) where
+      pub no-jump : not t ≡ true → accepted one ≡ false
+      unfolding recordAt
+      no-jump h = refuses (rw (lies p at r q d, ← ec, le-ltb _ _ l, ends p at r q d, ← e, not-true t h))
 
-            pub record-no-jump : t ≡ false → 0 ≡ place
-            unfolding recordAt
-            record-no-jump h = none-at (rw (le-leb _ _ l, eq-eqb _ _ a, eq-eqb _ _ b, ← q, le-leb _ _ f, eq-eqb _ _ j, ← q, ← e, h))
-
-          module _ (j : getD p (at + codeFrom) 0 ≡ JUMP → ⊥) (t : Bool) (e : t ≡ accepted (commandAt g comps total n p at (at + recordSize + x))) where
-            pub record-command : t ≡ true → at + recordSize + x ≡ place
-            unfolding recordAt
-            record-command h =
-                let (op, w) = accepted-got (commandAt g comps total n p at (at + recordSize + x)) (sym e ∙ h) in
-                rw (record-at g comps total n p at, le-leb _ _ l, eq-eqb _ _ a, eq-eqb _ _ b, ← q, le-leb _ _ f, ne-eqb _ _ j, ← q, w) (sym (rest-at p (at + recordSize + x) f))
-
-            pub record-no-command : t ≡ false → 0 ≡ place
-            unfolding recordAt
-            record-no-command h =
-                none-at (rw (le-leb _ _ l, eq-eqb _ _ a, eq-eqb _ _ b, ← q, le-leb _ _ f, ne-eqb _ _ j, ← q) (not-accepted (commandAt g comps total n p at (at + recordSize + x)) _ (sym e ∙ h)))
+      pub is-jump : not t ≡ false → one ≡ got (jump (num (part p (at + targetFrom) 2)), drop r p)
+      unfolding recordAt
+      is-jump h = rw (record-at g comps total n p at, lies p at r q d, ← ec, le-ltb _ _ l, ends p at r q d, ← e, not-false t h)

@@ -1,6 +1,6 @@
 -- Records of commands, by the places of a program's bytes.
 use Prim.Native.Nat.{ℕ, _+_, _-_}
-use mathlib.Core.Bool.{Bool, true, false, _&&_, _||_}
+use mathlib.Core.Bool.{Bool, true, false, cond, _&&_, _||_}
 use mathlib.Core.List.{List}
 use lib.Dec.{eqb, ltb, leb}
 use lib.ListN.{length, getD, drop}
@@ -11,6 +11,7 @@ use Rattle.rules.specs.Commands as Rules
 use Rattle.rules.specs.Got.{Got, refused, got, found, _>>=_}
 use Rattle.rules.specs.Program.{Rec, does, jump, targetOf}
 use Rattle.rules.specs.ProgramFormat.{mark, JUMP, NONE, codeFrom, componentFrom, placeFrom, targetFrom, argumentFrom, recordSize}
+use Rattle.rules.specs.Tables.{codes}
 use Rattle.rules.specs.ProgramTest.{need, opIn, groupAllows, nonJumps}
 use Rattle.program_records.specs.declared.records.Records.{Records}
 
@@ -21,12 +22,24 @@ mark₁ = getD mark 0 0
 abbrev pub mark₂ : ℕ
 mark₂ = getD mark 1 0
 
--- record n of `total`, at `at`, by places: the tests of a jump with an argument of len bytes
+-- the place after the record at `at`, by the length of its argument; whether its bytes lie in p and its mark is there; and 0 if not
+abbrev pub nextAt : Bytes → ℕ → ℕ
+nextAt p at = at + recordSize + num (part p (at + argumentFrom) 2)
+
+abbrev pub recordFits : Bytes → ℕ → Bool
+recordFits p at =
+    leb (at + recordSize) (length p) && eqb (getD p at 0) mark₁ && eqb (getD p (at + 1) 0) mark₂ && leb (nextAt p at) (length p)
+
+unfoldable pub recordEnd : Bytes → ℕ → ℕ
+recordEnd p at = cond (recordFits p at) (nextAt p at) 0
+
+-- record n of `total`, from `at` to `next`, by places: the tests of a jump
 abbrev pub jumpFits : Bytes → ℕ → ℕ → ℕ → ℕ → Bool
-jumpFits p at len total n =
-    eqb (getD p (at + componentFrom) 0) 0
+jumpFits p at next total n =
+    eqb (getD p (at + codeFrom) 0) JUMP
+    && eqb (getD p (at + componentFrom) 0) 0
     && eqb (num (part p (at + placeFrom) 2)) 0
-    && eqb len 0
+    && eqb next (at + recordSize)
     && (ltb n (num (part p (at + targetFrom) 2)) && leb (num (part p (at + targetFrom) 2)) total)
 
 -- its command, with an argument up to `to`
@@ -40,26 +53,25 @@ commandAt g comps total n p at to = do
   _ ← need (eqb target NONE || eqb (targetOf op target) target && (ltb n target && leb target total))
   got op
 
--- the record, and the bytes after it
+-- the record, and the bytes after it: a command where its code is one of the table's, else a jump
 unfoldable pub recordAt : Group → ℕ → ℕ → ℕ → Bytes → ℕ → Got (Rec × Bytes)
 recordAt g comps total n p at = do
-  _ ← need (leb (at + recordSize) (length p))
-  _ ← need (eqb (getD p at 0) mark₁)
-  _ ← need (eqb (getD p (at + 1) 0) mark₂)
-  let len = num (part p (at + argumentFrom) 2)
-  let next = at + recordSize + len
+  _ ← need (recordFits p at)
+  let next = nextAt p at
   let target = num (part p (at + targetFrom) 2)
-  _ ← need (leb next (length p))
-  elim (eqb (getD p (at + codeFrom) 0) JUMP) [
+  elim (ltb (getD p (at + codeFrom) 0) codes) [
     | true ↦ do
-      _ ← need (jumpFits p at len total n)
-      got (jump target, drop next p)
-    | false ↦ do
       op ← commandAt g comps total n p at next
       got (does op (getD p (at + componentFrom) 0) (num (part p (at + placeFrom) 2)) target, drop next p)
+    | false ↦ do
+      _ ← need (jumpFits p at next total n)
+      got (jump target, drop next p)
   ]
 
 -- where a reading up to `to` ended, and how many commands it read; both 0 where it was refused
+abbrev pub noRecords : Records
+noRecords = record { next = 0; commands = 0 }
+
 abbrev pub recordsAre : ℕ → Got (List Rec × Bytes) → Records
-recordsAre to (refused r p) = record { next = 0; commands = 0 }
+recordsAre to (refused r p) = noRecords
 recordsAre to (got a) = record { next = to - length (a .1); commands = nonJumps (a .0) }

@@ -6,18 +6,29 @@ ghost use Rattle.rules.specs.Lent.{was};
 ghost use Rattle.rules.specs.Limits.{limits};
 ghost use Rattle.rules.specs.Tables.{byNumber};
 ghost use Rattle.rules.specs.ProgramTest as Rule;
-ghost use Rattle.program_records.specs.Records.{recordsAre};
-use crate::record::test_record;
+ghost use Rattle.program_records.specs.Records.{noRecords, recordsAre};
+use crate::record::command_fits;
+use crate::record::jump_fits;
+use crate::record::record_end;
 use byte_buffer::wide;
 use rules::answers::Group;
 use rules::program_format::CODE;
-use rules::program_format::JUMP;
+use rules_tables::CODES;
 use rules_tables::Table;
 
 // The place after the records, 0 if one is not well formed; and how many of them are commands and not jumps.
 pub struct Records {
     pub next: usize,
     pub commands: usize,
+}
+
+fn none() -> Records
+    ensures { λ r. ⌜ r ≡ noRecords ⌝ }
+{
+    Records {
+        next: 0,
+        commands: 0,
+    }
 }
 
 // `total` records from `at` on.
@@ -33,21 +44,28 @@ pub fn test_records(
     ensures { λ r. ⌜ r ≡ recordsAre (length (was p)) (Rule.recordsIn group components total total 0 (drop at (was p))) ⌝ }
 {
     let mut next = at;
-    let mut commands = 0;
+    let mut jumps = 0;
     let mut n = 0;
     while n < total {
         let from = next;
-        next = test_record(p, table, from, group, components, total, n);
+        next = record_end(p, from);
         if next == 0 {
-            return Records {
-                next: 0,
-                commands: 0,
-            };
+            return none();
         }
-        if wide(p[from + CODE]) != JUMP {
-            commands += 1;
+        if wide(p[from + CODE]) < CODES {
+            if !command_fits(p, table, from, next, group, components, total, n) {
+                return none();
+            }
+        } else {
+            if !jump_fits(p, from, next, total, n) {
+                return none();
+            }
+            jumps += 1;
         }
         n += 1;
     }
-    Records { next, commands }
+    Records {
+        next,
+        commands: total - jumps,
+    }
 }
