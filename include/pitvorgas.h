@@ -150,6 +150,10 @@ struct pitvorgas_newer_answer pitvorgas_newer(const uint8_t *first, size_t first
 struct pitvorgas_translate_answer pitvorgas_translate(const uint8_t *envelope, size_t envelope_length, bool boot,
                                                       uint8_t *room, size_t room_length);
 
+/* True exactly where the bytes are a well-formed program by the rule ProgramTest.programIn: a run of them is never refused with 97, and of
+ * any other bytes always. Nothing is run, and nothing is changed. */
+bool pitvorgas_test_program(const uint8_t *program, size_t program_length);
+
 /* The answer, every byte of slots and every byte of trace are those of the rule Run.runEnvelope for the envelope, the group and the input:
  * check's refusal, then 80, 81, 82, 85, 83, 86, 84 at place 0, with slots and trace as lent and the number the device's; or the run. */
 struct pitvorgas_run_answer pitvorgas_run(const uint8_t *envelope, size_t envelope_length, bool boot, bool verdict,

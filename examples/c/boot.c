@@ -1,4 +1,4 @@
-/* Checks, translates and boots E, the bench sheet's envelope, by its program. */
+/* Checks and translates E, the bench sheet's envelope, tests its program and boots by it. */
 #include "pitvorgas.h"
 
 #include <stdio.h>
@@ -42,6 +42,10 @@ int main(void) {
     struct pitvorgas_translate_answer translated = pitvorgas_translate(E, sizeof E, true, room, sizeof room);
     if (translated.refusal != 0) {
         printf("not translated: %zu\n", translated.refusal);
+        return 1;
+    }
+    if (!pitvorgas_test_program(room, translated.length)) {
+        printf("not a program\n");
         return 1;
     }
     printf("boot program of %zu bytes\n", translated.length);

@@ -1,26 +1,23 @@
 -- What is printed of files, by the calls that found it.
 use Prim.Native.Nat.{ℕ}
-use mathlib.Core.Path.{_≡_, refl, sym, ap, _∙_}
-use mathlib.Core.Bool.{true, false, true≢false}
+use mathlib.Core.Path.{_≡_, ap}
+use mathlib.Core.Bool.{Bool, true, false}
 use borrow.Author.Tests.{eq-eqb, ne-eqb}
 use Rattle.rules.specs.declared.answers.Refusal.the-variants.{BadProgram}
 use Rattle.rules.specs.Answers.{refusalNumber}
-use Rattle.rules.specs.Got.{Got, refused, got}
 use Rattle.rules.specs.Check.{check}
 use Rattle.rules.specs.Newer.{newer}
-use Rattle.rules.specs.Program.{Program}
-use Rattle.program_test.specs.declared.test.Tested.{Tested}
-use Rattle.program_test.specs.Test.{TestedAs}
+use Rattle.rules.specs.ProgramTest.{programIn}
 use Rattle.pitvorgas_answers.specs.declared.CheckAnswer.{CheckAnswer}
 use Rattle.pitvorgas_answers.specs.declared.NewerAnswer.{NewerAnswer}
-use Rattle.pitvorgas.specs.Answers.{checkedOf, newerOf}
+use Rattle.pitvorgas.specs.Answers.{checkedOf, newerOf, accepted}
 use Rattle.io.specs.Counts.{Counts}
 use Rattle.text.specs.Text.{Bytes, Wrote}
 use Rattle.depot_refusals.specs.Refusals.{refusedText}
 use Rattle.depot_report.specs.Report.{newerText}
 use Rattle.depot_show.specs.Manifest.{partsText}
 use Rattle.depot_listing.specs.Listing.{programText}
-use Rattle.depot.specs.Printed.{shownOf, shownText, newestOf, newestText, listedOf}
+use Rattle.depot.specs.Printed.{shownOf, shownText, newestOf, newestText, listedOf, listedText}
 use Rattle.depot.proofs.PageLaws.{wrote-counts}
 
 -- what was written can be printed
@@ -45,13 +42,11 @@ module _ (s t : Bytes) (a : NewerAnswer) (e : a ≡ newerOf (newer s t)) (c : Ch
   unfolding newestOf
   newest-second n f = rw f (rw (ne-eqb (a .second) 0 n) at (ap (λ (x : NewerAnswer). newestOf x s t) e))
 
-module _ (s : Bytes) (t : Tested) where
-  pub listed-program : (g : Got Program) → TestedAs s g t → t .good ≡ true → programText s ≡ listedOf g s
+module _ (s : Bytes) (good : Bool) (e : good ≡ accepted (programIn s)) where
+  pub listed-program : good ≡ true → programText s ≡ listedText s
   unfolding listedOf
-  listed-program (refused r p) h e = absurd (true≢false (sym e ∙ ap (λ (x : Tested). x .good) h))
-  listed-program (got x) h e = refl
+  listed-program h = rw h at (ap (λ (b : Bool). listedOf b s) e)
 
-  pub listed-refused : (g : Got Program) → TestedAs s g t → t .good ≡ false → refusedText (refusalNumber BadProgram) 0 s ≡ listedOf g s
+  pub listed-refused : good ≡ false → refusedText (refusalNumber BadProgram) 0 s ≡ listedText s
   unfolding listedOf
-  listed-refused (refused r p) h e = refl
-  listed-refused (got x) h e = absurd (true≢false (sym (ap (λ (x : Tested). x .good) (h .exact)) ∙ e))
+  listed-refused h = rw h at (ap (λ (b : Bool). listedOf b s) e)

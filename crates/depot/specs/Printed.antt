@@ -4,14 +4,12 @@ use mathlib.Core.Bool.{Bool, cond}
 use lib.Dec.{eqb}
 use Rattle.rules.specs.declared.answers.Refusal.the-variants.{BadProgram}
 use Rattle.rules.specs.Answers.{refusalNumber}
-use Rattle.rules.specs.Got.{Got, refused, got}
 use Rattle.rules.specs.Check.{check}
 use Rattle.rules.specs.Newer.{newer}
-use Rattle.rules.specs.Program.{Program}
 use Rattle.rules.specs.ProgramTest.{programIn}
 use Rattle.pitvorgas_answers.specs.declared.CheckAnswer.{CheckAnswer}
 use Rattle.pitvorgas_answers.specs.declared.NewerAnswer.{NewerAnswer}
-use Rattle.pitvorgas.specs.Answers.{checkedOf, newerOf}
+use Rattle.pitvorgas.specs.Answers.{checkedOf, newerOf, accepted}
 use Rattle.text.specs.Text.{Bytes}
 use Rattle.depot_refusals.specs.Refusals.{refusedText}
 use Rattle.depot_report.specs.Report.{newerText}
@@ -34,9 +32,8 @@ abbrev pub newestText : Bytes → Bytes → Bytes
 newestText s t = newestOf (newerOf (newer s t)) s t
 
 -- the records of a program, or its refusal
-unfoldable pub listedOf : Got Program → Bytes → Bytes
-listedOf (refused r p) s = refusedText (refusalNumber BadProgram) 0 s
-listedOf (got x) s = programText s
+unfoldable pub listedOf : Bool → Bytes → Bytes
+listedOf good s = cond good (programText s) (refusedText (refusalNumber BadProgram) 0 s)
 
 abbrev pub listedText : Bytes → Bytes
-listedText s = listedOf (programIn s) s
+listedText s = listedOf (accepted (programIn s)) s

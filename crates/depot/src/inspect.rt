@@ -13,7 +13,7 @@ use depot_report::put_newer;
 use depot_show::put_parts;
 use pitvorgas::pitvorgas_check;
 use pitvorgas::pitvorgas_newer;
-use program_test::test::test_program;
+use pitvorgas::pitvorgas_test_program;
 use rules::answers::Refusal;
 
 const FILE: usize = 2;
@@ -102,8 +102,7 @@ fn put_newest(room: &mut [u8], first: &[u8], second: &[u8]) -> usize
 fn put_listed(room: &mut [u8], program: &[u8]) -> usize
     ensures { λ r. ⌜ (Writes (listedText (was program)) 0 room r) × Counts r (left room) ⌝ }
 {
-    let tested = test_program(program);
-    if tested.good {
+    if pitvorgas_test_program(program) {
         return put_program(room, 0, program);
     }
     put_refused(room, 0, Refusal::BadProgram.number(), 0, program)

@@ -10,6 +10,7 @@ use Rattle.rules.specs.Got.{Got, refused, got}
 use Rattle.rules.specs.Manifest.{Manifest}
 use Rattle.rules.specs.Newer.{Newer, inFirst, inSecond}
 use Rattle.rules.specs.Run.{Ran}
+use Rattle.rules.specs.Program.{Program}
 use Rattle.check_newer.specs.declared.Newest.{Newest}
 use Rattle.check_envelope.specs.declared.report.Checked.{Checked}
 use Rattle.check_envelope.specs.declared.report.Checked.the-variants as C
@@ -19,6 +20,8 @@ use Rattle.check_envelope.specs.Report.{reportOf}
 use Rattle.check_envelope.proofs.EnvelopeLaws.{differ}
 use Rattle.run_admission.specs.declared.answer.Outcome.{Outcome}
 use Rattle.run_admission.specs.Answer.{outcomeOf}
+use Rattle.program_test.specs.declared.test.Tested.{Tested}
+use Rattle.program_test.specs.Test.{TestedAs}
 use Rattle.translate.specs.declared.Translated.{Translated}
 use Rattle.translate.specs.declared.Translated.the-variants as T
 use Rattle.translate.specs.Translate.{Translates}
@@ -27,7 +30,7 @@ use Rattle.pitvorgas_answers.specs.declared.CheckAnswer.{CheckAnswer}
 use Rattle.pitvorgas_answers.specs.declared.NewerAnswer.{NewerAnswer}
 use Rattle.pitvorgas_answers.specs.declared.RunAnswer.{RunAnswer}
 use Rattle.pitvorgas_answers.specs.declared.TranslateAnswer.{TranslateAnswer}
-use Rattle.pitvorgas.specs.Answers.{checkedOf, newerOf, translatedOf, roomAfter, ranOf, answerOf}
+use Rattle.pitvorgas.specs.Answers.{checkedOf, newerOf, accepted, translatedOf, roomAfter, ranOf, answerOf}
 
 -- a report that accepts, in numbers
 abbrev pub reported : Report → CheckAnswer
@@ -58,6 +61,10 @@ module _ (g : Got Manifest) (r : Report) (e : r ≡ reportOf g) where
 pub newer-answer : (g : Newer) (r : Newest) → r ≡ newestOf g → _≡_ {A = NewerAnswer} (record { second = r .second; from = r .from; to = r .to }) (newerOf g)
 newer-answer (inFirst p) r e = rw e refl
 newer-answer (inSecond p) r e = rw e refl
+
+pub tested-answer : (p : Bytes) (g : Got Program) (t : Tested) → TestedAs p g t → t .good ≡ accepted g
+tested-answer p (refused k q) t e = ap (λ (x : Tested). x .good) e
+tested-answer p (got y) t e = ap (λ (x : Tested). x .good) (e .exact)
 
 pub ran-answer : (d : Controller) (g : Got Ran) (o : Outcome) (r : RunAnswer) → o ≡ outcomeOf d g → r ≡ answerOf o → r ≡ ranOf d g
 ran-answer d (refused k p) o r e h = h ∙ ap answerOf e

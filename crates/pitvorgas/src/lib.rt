@@ -1,5 +1,5 @@
-// The five jobs for C: numbers, slices, and structs by value (pitvorgas_answers). The promises give refusals and ends by their numbers in document 01
-// (rules/specs/Answers.antt: refusalNumber, endNumber).
+// The five jobs and the program test for C: numbers, slices, and structs by value (pitvorgas_answers). The promises give refusals and ends
+// by their numbers in document 01 (rules/specs/Answers.antt: refusalNumber, endNumber).
 ghost use mathlib.Core.Path.{_≡_};
 ghost use lib.ListN.{length};
 ghost use Rattle.rules.specs.Lent.{was};
@@ -7,9 +7,10 @@ ghost use Rattle.rules.specs.Check as Check;
 ghost use Rattle.rules.specs.Newer as Newer;
 ghost use Rattle.rules.specs.Run.{runEnvelope};
 ghost use Rattle.rules.specs.Program as Program;
+ghost use Rattle.rules.specs.ProgramTest.{programIn};
 ghost use Rattle.rules.specs.ProgramRun.{runProgram};
 ghost use Rattle.pitvorgas_answers.specs.Inputs.{groupOf};
-ghost use Rattle.pitvorgas.specs.Answers.{checkedOf, newerOf, answerOf, Translation, given, Answers};
+ghost use Rattle.pitvorgas.specs.Answers.{checkedOf, newerOf, accepted, answerOf, Translation, given, Answers};
 use check_envelope::check;
 use check_envelope::report::Checked;
 use check_newer::choose;
@@ -21,6 +22,7 @@ use pitvorgas_answers::TranslateAnswer;
 use pitvorgas_answers::controller_of;
 use pitvorgas_answers::group_of;
 use program_run::run_program;
+use program_test::test::test_program;
 use run_admission::answer::Answer;
 use run_admission::answer::Outcome;
 use run_envelope::run;
@@ -121,6 +123,14 @@ pub extern "C" fn pitvorgas_translate(
             length,
         },
     }
+}
+
+#[no_mangle]
+pub extern "C" fn pitvorgas_test_program(program: &[u8]) -> bool
+    ensures { λ r. ⌜ r ≡ accepted (programIn (was program)) ⌝ }
+{
+    let t = test_program(program);
+    t.good
 }
 
 #[no_mangle]

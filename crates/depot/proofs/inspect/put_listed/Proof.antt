@@ -1,5 +1,4 @@
 use borrow.Author.Needs.{needs}
-use Rattle.rules.specs.ProgramTest.{programIn}
 use Rattle.depot.proofs.PrintedLaws.{printed, listed-program, listed-refused}
 use Rattle.depot.proofs.inspect.put_listed.Statement.{statement}
 use Rattle.depot.proofs.inspect.put_listed.Tie as tie
@@ -8,14 +7,14 @@ returns : tie.Need-returns
 returns c =
     let test = c .before .before .before .before in
     let s = test .before .before .before .before .args .program .now in
-    printed (listed-program s _ (programIn s) (test .before .test-program .ensures) (test .if1 .taken)) (c .before .before .put-program .ensures)
+    printed (listed-program s _ (test .before .pitvorgas-test-program .ensures) (test .if1 .taken)) (c .before .before .put-program .ensures)
 
 returns-2 : tie.Need-returns-2
 returns-2 c =
     let test = c .before .before .before .before .before in
     let s = test .before .before .before .before .args .program .now in
     let w = rw (c .before .before .before .number .ensures) at (c .before .before .put-refused .ensures) in
-    printed (listed-refused s _ (programIn s) (test .before .test-program .ensures) (test .if1 .left)) w
+    printed (listed-refused s _ (test .before .pitvorgas-test-program .ensures) (test .if1 .left)) w
 
 pub put-listed-spec : {M : Type 1} → statement M
 put-listed-spec =
