@@ -5,12 +5,13 @@ use mathlib.Core.Bool.{Bool, true, false}
 use borrow.Author.Tests.{eq-eqb, ne-eqb}
 use Rattle.rules.specs.declared.answers.Refusal.the-variants.{BadProgram}
 use Rattle.rules.specs.Answers.{refusalNumber}
+use Rattle.rules.specs.Got.{accepted}
 use Rattle.rules.specs.Check.{check}
 use Rattle.rules.specs.Newer.{newer}
 use Rattle.rules.specs.ProgramTest.{programIn}
 use Rattle.pitvorgas_answers.specs.declared.CheckAnswer.{CheckAnswer}
 use Rattle.pitvorgas_answers.specs.declared.NewerAnswer.{NewerAnswer}
-use Rattle.pitvorgas.specs.Answers.{checkedOf, newerOf, accepted}
+use Rattle.pitvorgas.specs.Answers.{checkedOf, newerOf}
 use Rattle.io.specs.Counts.{Counts}
 use Rattle.text.specs.Text.{Bytes, Wrote}
 use Rattle.depot_refusals.specs.Refusals.{refusedText}

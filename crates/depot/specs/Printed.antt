@@ -4,12 +4,13 @@ use mathlib.Core.Bool.{Bool, cond}
 use lib.Dec.{eqb}
 use Rattle.rules.specs.declared.answers.Refusal.the-variants.{BadProgram}
 use Rattle.rules.specs.Answers.{refusalNumber}
+use Rattle.rules.specs.Got.{accepted}
 use Rattle.rules.specs.Check.{check}
 use Rattle.rules.specs.Newer.{newer}
 use Rattle.rules.specs.ProgramTest.{programIn}
 use Rattle.pitvorgas_answers.specs.declared.CheckAnswer.{CheckAnswer}
 use Rattle.pitvorgas_answers.specs.declared.NewerAnswer.{NewerAnswer}
-use Rattle.pitvorgas.specs.Answers.{checkedOf, newerOf, accepted}
+use Rattle.pitvorgas.specs.Answers.{checkedOf, newerOf}
 use Rattle.text.specs.Text.{Bytes}
 use Rattle.depot_refusals.specs.Refusals.{refusedText}
 use Rattle.depot_report.specs.Report.{newerText}

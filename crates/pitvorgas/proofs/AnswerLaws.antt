@@ -6,7 +6,7 @@ use Rattle.rules.specs.declared.answers.Refusal.{Refusal}
 use Rattle.rules.specs.declared.controller.Controller.{Controller}
 use Rattle.rules.specs.Answers.{refusalNumber}
 use Rattle.rules.specs.Bytes.{Bytes}
-use Rattle.rules.specs.Got.{Got, refused, got}
+use Rattle.rules.specs.Got.{Got, refused, got, accepted}
 use Rattle.rules.specs.Manifest.{Manifest}
 use Rattle.rules.specs.Newer.{Newer, inFirst, inSecond}
 use Rattle.rules.specs.Run.{Ran}
@@ -30,7 +30,7 @@ use Rattle.pitvorgas_answers.specs.declared.CheckAnswer.{CheckAnswer}
 use Rattle.pitvorgas_answers.specs.declared.NewerAnswer.{NewerAnswer}
 use Rattle.pitvorgas_answers.specs.declared.RunAnswer.{RunAnswer}
 use Rattle.pitvorgas_answers.specs.declared.TranslateAnswer.{TranslateAnswer}
-use Rattle.pitvorgas.specs.Answers.{checkedOf, newerOf, accepted, translatedOf, roomAfter, ranOf, answerOf}
+use Rattle.pitvorgas.specs.Answers.{checkedOf, newerOf, translatedOf, roomAfter, ranOf, answerOf}
 
 -- a report that accepts, in numbers
 abbrev pub reported : Report → CheckAnswer

@@ -16,7 +16,6 @@ use Rattle.rules.specs.Newer.{Newer, inFirst, inSecond}
 use Rattle.rules.specs.Run.{Input, Ran}
 use Rattle.component_ids.specs.Identifiers.{laid}
 use Rattle.check_manifest.specs.Sections.{placed}
-pub use Rattle.program_arguments.specs.Arguments.{accepted}
 use Rattle.run_admission.specs.declared.answer.Answer.{Answer}
 use Rattle.run_admission.specs.declared.answer.Answer.the-variants as A
 use Rattle.run_admission.specs.declared.answer.Outcome.{Outcome}

@@ -2,6 +2,7 @@
 // by their numbers in document 01 (rules/specs/Answers.antt: refusalNumber, endNumber).
 ghost use mathlib.Core.Path.{_≡_};
 ghost use lib.ListN.{length};
+ghost use Rattle.rules.specs.Got.{accepted};
 ghost use Rattle.rules.specs.Lent.{was};
 ghost use Rattle.rules.specs.Check as Check;
 ghost use Rattle.rules.specs.Newer as Newer;
@@ -10,7 +11,7 @@ ghost use Rattle.rules.specs.Program as Program;
 ghost use Rattle.rules.specs.ProgramTest.{programIn};
 ghost use Rattle.rules.specs.ProgramRun.{runProgram};
 ghost use Rattle.pitvorgas_answers.specs.Inputs.{groupOf};
-ghost use Rattle.pitvorgas.specs.Answers.{checkedOf, newerOf, accepted, answerOf, Translation, given, Answers};
+ghost use Rattle.pitvorgas.specs.Answers.{checkedOf, newerOf, answerOf, Translation, given, Answers};
 use check_envelope::check;
 use check_envelope::report::Checked;
 use check_newer::choose;

@@ -15,12 +15,11 @@ use Rattle.rules.specs.Bytes.{Bytes, part, same}
 use Rattle.rules.specs.Commands.{Op, Params, isCondition, Form, sixteen, nil, below, alternatives, parameters, sequence, Row, rowOf, commands}
 use Rattle.rules.specs.Tables.{kindOf, setOf, argumentNumber}
 use Rattle.rules.specs.Limits.{limits}
-use Rattle.rules.specs.Got.{Got, refused, got}
+use Rattle.rules.specs.Got.{Got, refused, got, accepted}
 use Rattle.rules.specs.Program.{targetOf}
 use Rattle.rules.specs.ProgramFormat.{NONE}
 use Rattle.rules.specs.ProgramTest.{paramsIn, opIn, groupAllows}
 use Rattle.rules.proofs.TableLaws.{rows-agree}
-use Rattle.program_parameters.specs.Entries.{accepted}
 use Rattle.program_arguments.specs.Arguments.{allowsIn, targetFits}
 use Rattle.program_parameters.proofs.PartLaws.{length-to}
 

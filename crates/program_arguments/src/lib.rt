@@ -7,7 +7,7 @@ ghost use Rattle.rules.specs.Bytes.{part};
 ghost use Rattle.rules.specs.Commands.{Form};
 ghost use Rattle.rules.specs.Tables.{kindOf, argumentNumber};
 ghost use Rattle.rules.specs.ProgramTest as Rule;
-ghost use Rattle.program_parameters.specs.Entries.{accepted};
+ghost use Rattle.rules.specs.Got.{accepted};
 ghost use Rattle.program_arguments.specs.Arguments.{allowsIn, targetFits};
 use program_parameters::params_fit;
 use rules::answers::Group;

@@ -10,11 +10,11 @@ use lib.Dec.{eqb, leb}
 use lib.ListN.{length, getD}
 use borrow.Author.Tests.{eq-eqb, ne-eqb, le-leb, lt-leb, eqb-true, eqb-false, leb-true, leb-false}
 use Rattle.rules.specs.Bytes.{Bytes, part, fourAt}
-use Rattle.rules.specs.Got.{Got, got}
+use Rattle.rules.specs.Got.{Got, got, accepted}
 use Rattle.rules.specs.ProgramFormat.{entrySize, sourceBytes, sizeBytes}
 use Rattle.rules.specs.ProgramTest.{bad, optional}
 use Rattle.rules.proofs.BytesLaws.{part-cons, num-1, num-4}
-use Rattle.program_parameters.specs.Entries.{accepted, nextIn, endAt, WellFormed, valueIn, sourceIn, sizeIn}
+use Rattle.program_parameters.specs.Entries.{nextIn, endAt, WellFormed, valueIn, sourceIn, sizeIn}
 use Rattle.program_parameters.proofs.PartLaws.{part-none, take-part, drop-part, length-to}
 
 -- what is refused is not accepted

@@ -11,13 +11,13 @@ use borrow.Author.Tests.{ne-eqb, lt-ltb, le-ltb, eqb-true, eqb-false, leb-true, 
 use Rattle.rules.specs.Limits.{limits}
 use Rattle.rules.specs.Bytes.{Bytes, part, num, same}
 use Rattle.rules.specs.Commands as Rules
-use Rattle.rules.specs.Got.{Got, refused, got, _>>=_}
+use Rattle.rules.specs.Got.{Got, refused, got, _>>=_, accepted}
 use Rattle.rules.specs.ProgramFormat.{entrySize, sourceBytes, sizeBytes}
 use Rattle.rules.specs.ProgramTest.{bad, need, optional, isBelow, paramsIn}
 use Rattle.rules.proofs.SameLaws.{same-lengths}
 use Rattle.run_slots.specs.Params.{meaning}
 use Rattle.run_slots.specs.Params as Words
-use Rattle.program_parameters.specs.Entries.{accepted, endAt, valueIn, placeIn, lengthIn, sourceIn, sizeIn, ParametersAt, Taken}
+use Rattle.program_parameters.specs.Entries.{endAt, valueIn, placeIn, lengthIn, sourceIn, sizeIn, ParametersAt, Taken}
 use Rattle.program_parameters.proofs.PartLaws.{part-none, length-to}
 use Rattle.program_parameters.proofs.EntryLaws.{refused-not, reading, Step, Past, Ahead, ahead, passed, to-end, was-bad, was-step}
 

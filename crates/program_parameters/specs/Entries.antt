@@ -7,16 +7,11 @@ use lib.Dec.{eqb}
 use lib.ListN.{length}
 use Rattle.rules.specs.Bytes.{Bytes, part, num}
 use Rattle.rules.specs.Commands as Rules
-use Rattle.rules.specs.Got.{Got, refused, got}
+use Rattle.rules.specs.Got.{Got, refused, got, accepted}
 use Rattle.rules.specs.ProgramFormat.{entrySize, sourceBytes, sizeBytes}
 use Rattle.rules.specs.ProgramTest.{optional, paramsIn}
 use Rattle.run_slots.specs.declared.params.Params.{Params}
 use Rattle.run_slots.specs.Params.{meaning, Fit}
-
--- whether a reading was accepted
-abbrev pub accepted : {A : Type 0} → Got A → Bool
-accepted (refused r p) = false
-accepted (got a) = true
 
 -- the place where a reading up to `to` ended, from the bytes that it left; 0 where it was refused
 abbrev pub nextIn : {A : Type 0} → ℕ → Got (A × Bytes) → ℕ

@@ -15,7 +15,7 @@ use Rattle.rules.specs.declared.answers.Refusal.the-variants.{BadProgram}
 use Rattle.rules.specs.Bytes.{Bytes, part, num, twoAt, same}
 use Rattle.rules.specs.Commands.{Op, isCondition, Form, Row, rowOf, commands}
 use Rattle.rules.specs.Tables.{kindOf, argumentNumber, codes}
-use Rattle.rules.specs.Got.{Got, refused, got, found, _>>=_}
+use Rattle.rules.specs.Got.{Got, refused, got, found, _>>=_, accepted}
 use Rattle.rules.specs.Program.{Rec, does, jump, targetOf}
 use Rattle.rules.specs.ProgramFormat.{mark, JUMP, NONE, codeFrom, componentFrom, placeFrom, targetFrom, argumentFrom, recordSize}
 use Rattle.rules.specs.ProgramTest.{need, opIn, groupAllows, recordIn}
@@ -24,7 +24,6 @@ use Rattle.rules.proofs.GotLaws.{and-true}
 use Rattle.rules_tables.specs.declared.Entry.{Entry}
 use Rattle.rules_tables.specs.Entry.{entryOf}
 use Rattle.rules_tables.proofs.LookUpLaws.{no-row}
-use Rattle.program_parameters.specs.Entries.{accepted}
 use Rattle.program_arguments.specs.Arguments.{allowsIn, targetFits}
 use Rattle.program_arguments.proofs.FormLaws.{op-code}
 use Rattle.program_arguments.proofs.ArgumentLaws.{row-allows, targeted}

@@ -8,11 +8,10 @@ use lib.ListN.{length, drop}
 use Rattle.rules.specs.declared.answers.Group.{Group}
 use Rattle.rules.specs.Bytes.{Bytes}
 use Rattle.rules.specs.Commands.{Op}
-use Rattle.rules.specs.Got.{Got, refused, got, _>>=_}
+use Rattle.rules.specs.Got.{Got, refused, got, _>>=_, accepted}
 use Rattle.rules.specs.Program.{Rec, does, jump}
 use Rattle.rules.specs.ProgramTest.{recordIn, recordsIn, nonJumps}
 use Rattle.rules.proofs.GotLaws.{after, after-more, after-none}
-use Rattle.program_parameters.specs.Entries.{accepted}
 use Rattle.program_records.specs.Records.{noRecords, recordsAre}
 use Rattle.program_parameters.proofs.PartLaws.{rest-at}
 

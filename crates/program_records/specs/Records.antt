@@ -68,10 +68,10 @@ recordAt g comps total n p at = do
       got (jump target, drop next p)
   ]
 
--- where a reading up to `to` ended, and how many commands it read; both 0 where it was refused
 abbrev pub noRecords : Records
 noRecords = record { next = 0; commands = 0 }
 
+-- where a reading up to `to` ended, and how many commands it read; both 0 where it was refused
 abbrev pub recordsAre : ℕ → Got (List Rec × Bytes) → Records
 recordsAre to (refused r p) = noRecords
 recordsAre to (got a) = record { next = to - length (a .1); commands = nonJumps (a .0) }

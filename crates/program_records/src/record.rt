@@ -5,7 +5,7 @@ ghost use lib.ListN.{length, getD};
 ghost use Rattle.rules.specs.Lent.{was};
 ghost use Rattle.rules.specs.ProgramFormat.{codeFrom, recordSize};
 ghost use Rattle.rules.specs.Tables.{codes, byNumber};
-ghost use Rattle.program_parameters.specs.Entries.{accepted};
+ghost use Rattle.rules.specs.Got.{accepted};
 ghost use Rattle.program_records.specs.Records.{recordEnd, jumpFits, commandAt};
 use byte_buffer::two;
 use byte_buffer::wide;

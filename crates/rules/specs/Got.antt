@@ -6,6 +6,11 @@ pub data Got (A : Type 0) : Type 0 where
   refused : Refusal → ℕ → Got A
   got : A → Got A
 
+-- whether it is a value
+abbrev pub accepted : {A : Type 0} → Got A → Bool
+accepted (refused r p) = false
+accepted (got a) = true
+
 infixl 10 _>>=_
 abbrev pub _>>=_ : {A B : Type 0} → Got A → (A → Got B) → Got B
 _>>=_ (refused r p) f = refused r p
