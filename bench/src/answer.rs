@@ -49,11 +49,21 @@ pub struct Lent {
     pub trace: Vec<u8>,
 }
 
-/// The five jobs.
+impl From<&World> for Lent {
+    fn from(world: &World) -> Self {
+        Lent {
+            slots: world.slots.clone(),
+            trace: world.trace.clone(),
+        }
+    }
+}
+
+/// The five jobs, and the program test.
 pub trait Jobs {
     fn check(&self, envelope: &[u8]) -> CheckAnswer;
     fn newer(&self, first: &[u8], second: &[u8]) -> NewerAnswer;
     fn translate(&self, envelope: &[u8], group: Group, room: &mut [u8]) -> TranslateAnswer;
+    fn test_program(&self, program: &[u8]) -> bool;
     fn run(&self, envelope: &[u8], group: Group, world: &World, lent: &mut Lent) -> RunAnswer;
     fn run_program(&self, program: &[u8], world: &World, lent: &mut Lent) -> RunAnswer;
 }
@@ -68,6 +78,8 @@ pub enum Answer {
         room: Vec<u8>,
     },
     Run {
+        /// What the test says of a program; of an envelope, nothing.
+        tested: Option<bool>,
         answer: RunAnswer,
         slots: Vec<u8>,
         trace: Vec<u8>,
@@ -103,20 +115,19 @@ pub fn answer(jobs: &impl Jobs, case: &Case) -> Answer {
             envelope,
             group,
             world,
-        } => lend(world, |lent| jobs.run(envelope, *group, world, lent)),
+        } => lend(world, None, |lent| jobs.run(envelope, *group, world, lent)),
         Case::RunProgram { program, world } => {
-            lend(world, |lent| jobs.run_program(program, world, lent))
+            let tested = Some(jobs.test_program(program));
+            lend(world, tested, |lent| jobs.run_program(program, world, lent))
         }
     }
 }
 
-fn lend(world: &World, run: impl FnOnce(&mut Lent) -> RunAnswer) -> Answer {
-    let mut lent = Lent {
-        slots: world.slots.clone(),
-        trace: world.trace.clone(),
-    };
+fn lend(world: &World, tested: Option<bool>, run: impl FnOnce(&mut Lent) -> RunAnswer) -> Answer {
+    let mut lent = Lent::from(world);
     let answer = run(&mut lent);
     Answer::Run {
+        tested,
         answer,
         slots: lent.slots,
         trace: lent.trace,

@@ -1,4 +1,4 @@
-//! The reading's answers to the five jobs.
+//! The reading's answers to the five jobs, and its program test.
 
 use crate::answer::{CheckAnswer, Jobs, Lent, NewerAnswer, RunAnswer, TranslateAnswer};
 use crate::gen::World;
@@ -38,6 +38,10 @@ impl Jobs for Reading {
                 length: 0,
             },
         }
+    }
+
+    fn test_program(&self, program: &[u8]) -> bool {
+        reading::test_program(program)
     }
 
     fn run(&self, envelope: &[u8], group: Group, world: &World, lent: &mut Lent) -> RunAnswer {

@@ -5,8 +5,9 @@
 //! - `cases VECTORS OUT` writes the cases and answers of the program `conformance`.
 //! - `compare N SEED` has the library and the reading answer generated inputs.
 //! - `time` times both.
+//! - `count` counts the instructions of both.
 //!
-//! The last two need the feature `ours` and the library's `libpitvorgas.a`.
+//! The last three need the feature `ours` and the library's `libpitvorgas.a`.
 
 pub mod answer;
 pub mod conformance;

@@ -37,6 +37,8 @@ unsafe extern "C" {
         room_n: usize,
     ) -> TranslateAnswer;
 
+    fn pitvorgas_test_program(program: *const u8, n: usize) -> bool;
+
     fn pitvorgas_run(
         envelope: *const u8,
         n: usize,
@@ -88,6 +90,10 @@ impl Jobs for Ours {
                 room.len(),
             )
         }
+    }
+
+    fn test_program(&self, program: &[u8]) -> bool {
+        unsafe { pitvorgas_test_program(program.as_ptr(), program.len()) }
     }
 
     fn run(&self, envelope: &[u8], group: Group, world: &World, lent: &mut Lent) -> RunAnswer {

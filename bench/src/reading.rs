@@ -20,6 +20,7 @@ mod translate;
 pub use check::{check, Manifest};
 pub use components::Components;
 pub use newer::newer;
+pub use program::test_program;
 pub use refusal::Refusal;
 pub use run::{run, run_program};
 pub use slots::SLOT_BYTES;

@@ -1,5 +1,5 @@
-//! Envelopes whose check and boot are timed. A boot of each runs through, ends
-//! with a start and leaves the slots as they were.
+//! Envelopes whose check and boot are measured. A boot of each runs through,
+//! ends with a start and leaves the slots as they were.
 
 use crate::gen::encode::{encode, encode_identifier, pad};
 use crate::gen::model::{self, Command, Manifest, Parameter, Sequence};
@@ -36,6 +36,17 @@ pub fn subjects() -> Vec<Subject> {
         subject("256 commands, nested", encode(&nested())),
         subject("256 commands, flat", encode(&flat())),
     ]
+}
+
+/// Prints a table with a row for each subject; a cell is given by the numbers
+/// of its row and its column.
+pub fn print_table(subjects: &[Subject], columns: &[&str], cell: impl Fn(usize, usize) -> String) {
+    println!("| envelope | {} |", columns.join(" | "));
+    println!("|---|{}", "---:|".repeat(columns.len()));
+    for (row, subject) in subjects.iter().enumerate() {
+        let cells: Vec<String> = (0..columns.len()).map(|column| cell(row, column)).collect();
+        println!("| {} | {} |", subject.name, cells.join(" | "));
+    }
 }
 
 fn subject(name: &'static str, envelope: Vec<u8>) -> Subject {
@@ -194,11 +205,7 @@ mod tests {
     fn boots_run_through_and_leave_the_slots() {
         for subject in subjects() {
             let world = &subject.world;
-            let lend = || Lent {
-                slots: world.slots.clone(),
-                trace: world.trace.clone(),
-            };
-            let (mut one, mut other) = (lend(), lend());
+            let (mut one, mut other) = (Lent::from(world), Lent::from(world));
             let answer = Reading.run(&subject.envelope, Group::Boot, world, &mut one);
             assert_eq!((answer.refusal, answer.end), (0, 2), "{}", subject.name);
             assert_eq!(one.slots, world.slots, "{}", subject.name);

@@ -79,7 +79,7 @@ fn show_answer(answer: &Answer) -> String {
         Answer::Check(answer) => format!("{answer:?}"),
         Answer::Newer(answer) => format!("{answer:?}"),
         Answer::Translate { answer, .. } => format!("{answer:?}"),
-        Answer::Run { answer, .. } => format!("{answer:?}"),
+        Answer::Run { tested, answer, .. } => format!("{answer:?} tested {tested:?}"),
     };
     for (name, bytes) in answer.lent() {
         shown += &format!(" {name} {}", hex::encode(bytes));

@@ -8,7 +8,7 @@ use bench::answer::{Jobs, Lent, RunAnswer};
 use bench::jobs::Reading;
 use bench::ours::Ours;
 use bench::reading::Group;
-use bench::subjects::{subjects, Subject};
+use bench::subjects::{print_table, subjects, Subject};
 
 const ROUNDS: usize = 41;
 const SAMPLE: Duration = Duration::from_millis(2);
@@ -19,6 +19,13 @@ const COLUMNS: [&str; 6] = [
     "reading's check",
     "reading's boot by envelope",
     "reading's boot by program",
+];
+
+/// Ratios of two columns, by their numbers.
+const RATIOS: [(&str, usize, usize); 3] = [
+    ("our boot by envelope / by program", 1, 2),
+    ("boot by program, ours / reading's", 2, 5),
+    ("boot by envelope, ours / reading's", 1, 4),
 ];
 
 /// Something that is done a number of times in a row.
@@ -69,24 +76,27 @@ fn main() {
     for _ in 0..ROUNDS {
         rows.iter_mut().flatten().for_each(Measurement::sample);
     }
-    print_table(&subjects, &rows);
+    print_medians(&subjects, &rows);
 }
 
-/// Both boot alike, by envelope and by program, and leave the slots.
+/// Both boot alike, by envelope and by program, to every byte of the trace, and
+/// leave the slots.
 fn verify(subject: &Subject) {
     let boots = [boots(&Ours, subject), boots(&Reading, subject)];
-    for (answer, slots) in boots.iter().flatten() {
-        assert_eq!(*answer, boots[0][0].0, "{}", subject.name);
-        assert_eq!(*slots, subject.world.slots, "{}", subject.name);
+    let [(wanted, Lent { trace: events, .. }), _] = &boots[0];
+    for (answer, lent) in boots.iter().flatten() {
+        assert_eq!(answer, wanted, "{}", subject.name);
+        assert_eq!(lent.trace, *events, "{}", subject.name);
+        assert_eq!(lent.slots, subject.world.slots, "{}", subject.name);
     }
 }
 
-fn boots(jobs: &impl Jobs, subject: &Subject) -> [(RunAnswer, Vec<u8>); 2] {
+fn boots(jobs: &impl Jobs, subject: &Subject) -> [(RunAnswer, Lent); 2] {
     let world = &subject.world;
-    let (mut one, mut other) = (lend(subject), lend(subject));
+    let (mut one, mut other) = (Lent::from(world), Lent::from(world));
     let by_envelope = jobs.run(&subject.envelope, Group::Boot, world, &mut one);
     let by_program = jobs.run_program(&subject.program, world, &mut other);
-    [(by_envelope, one.slots), (by_program, other.slots)]
+    [(by_envelope, one), (by_program, other)]
 }
 
 fn measurements(subject: &Subject) -> Vec<Measurement<'_>> {
@@ -107,13 +117,13 @@ fn jobs<'a, J: Jobs>(jobs: &'a J, subject: &'a Subject) -> [Work<'a>; 3] {
             black_box(jobs.check(black_box(envelope)));
         }
     };
-    let mut lent = lend(subject);
+    let mut lent = Lent::from(world);
     let boot = move |repeats| {
         for _ in 0..repeats {
             black_box(jobs.run(black_box(envelope), Group::Boot, world, &mut lent));
         }
     };
-    let mut lent = lend(subject);
+    let mut lent = Lent::from(world);
     let boot_program = move |repeats| {
         for _ in 0..repeats {
             black_box(jobs.run_program(black_box(program), world, &mut lent));
@@ -122,27 +132,19 @@ fn jobs<'a, J: Jobs>(jobs: &'a J, subject: &'a Subject) -> [Work<'a>; 3] {
     [Box::new(check), Box::new(boot), Box::new(boot_program)]
 }
 
-fn lend(subject: &Subject) -> Lent {
-    Lent {
-        slots: subject.world.slots.clone(),
-        trace: subject.world.trace.clone(),
-    }
-}
-
-fn print_table(subjects: &[Subject], rows: &[Vec<Measurement>]) {
-    let unit = rows[0][0].median();
-    println!("| envelope | {} |", COLUMNS.join(" | "));
-    println!("|---|{}", "---:|".repeat(COLUMNS.len()));
-    for (subject, row) in subjects.iter().zip(rows) {
-        let ratios = row.iter().map(|m| format!("{:.2}", m.median() / unit));
-        println!(
-            "| {} | {} |",
-            subject.name,
-            ratios.collect::<Vec<_>>().join(" | ")
-        );
-    }
+fn print_medians(subjects: &[Subject], rows: &[Vec<Measurement>]) {
+    let median = |row: usize, column: usize| rows[row][column].median();
+    let unit = median(0, 0);
+    print_table(subjects, &COLUMNS, |row, column| {
+        format!("{:.2}", median(row, column) / unit)
+    });
     println!();
-    println!("Medians of {ROUNDS} interleaved rounds, as ratios to our check of E.");
+    print_table(subjects, &RATIOS.map(|(title, ..)| title), |row, ratio| {
+        let (_, over, under) = RATIOS[ratio];
+        format!("{:.2}", median(row, over) / median(row, under))
+    });
+    println!();
+    println!("Medians of {ROUNDS} interleaved rounds, as ratios to our check of E and of boots.");
     println!("No buffer is cleared or copied between runs, so no such work is measured:");
     println!("a boot of these envelopes leaves each slot as it was and writes the same");
     println!("events over those of the run before. Both sides fill the same answer structs.");

@@ -93,6 +93,11 @@ impl<'a> Program<'a> {
     }
 }
 
+/// Whether the bytes are a well-formed program.
+pub fn test_program(bytes: &[u8]) -> bool {
+    Program::read(bytes).is_some()
+}
+
 fn identifiers<'a>(program: &'a [u8], rest: &mut &'a [u8], count: usize) -> Option<Components<'a>> {
     if !(1..=limits::COMPONENTS).contains(&count) {
         return None;

@@ -4,8 +4,9 @@ use crate::hex;
 use crate::reading::SLOT_BYTES;
 
 const EVENT_BYTES: usize = 8;
+const BAD_PROGRAM: usize = 97;
 
-/// An answer as text, or what was altered that should have been kept.
+/// An answer as text, or what is wrong in it.
 pub fn show(case: &Case, answer: &Answer) -> Result<String, &'static str> {
     match (case, answer) {
         (_, Answer::Check(answer)) => Ok(checked(answer)),
@@ -13,12 +14,18 @@ pub fn show(case: &Case, answer: &Answer) -> Result<String, &'static str> {
         (Case::Translate { room: lent, .. }, Answer::Translate { answer, room }) => {
             translated(lent, answer, room)
         }
+        (_, Answer::Run { tested, answer, .. })
+            if *tested == Some(answer.refusal == BAD_PROGRAM) =>
+        {
+            Err("test and run of the program disagree")
+        }
         (
             Case::Run { world, .. } | Case::RunProgram { world, .. },
             Answer::Run {
                 answer,
                 slots,
                 trace,
+                ..
             },
         ) => ran(world, answer, slots, trace),
         _ => Err("answer to another job"),
