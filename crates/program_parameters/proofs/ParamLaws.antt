@@ -196,15 +196,33 @@ module _ (p : Bytes) (n from to : ℕ) (pre : (0 < from) × (from ≤ to) × (to
                   go true z = no-size (eqb-true d 0 z)
                   go false z = more p n from to a uri-step b source-step c digest-step d (some-step (eqb-false d 0 z)) (pre .2) h
 
-              pub counted : d ≡ to → (s : ℕ) → s ≡ sourceIn p a b → leb s n ≡ accepted (answer p n from to)
-              counted h s e = rw e (go (leb (sourceIn p a b) n) refl)
-                where
-                  size-step : Step p c to Rules.sizeKey sizeBytes sizeBytes d
-                  size-step = some-step (λ z. omega arith)
+              size-step : d ≡ to → Step p c to Rules.sizeKey sizeBytes sizeBytes d
+              size-step h = some-step (λ z. omega arith)
 
-                  go : (t : Bool) → leb (sourceIn p a b) n ≡ t → t ≡ accepted (answer p n from to)
-                  go true q = rw (all-read p n from to a uri-step b source-step c digest-step d size-step h (leb-true _ n q))
-                  go false q = rw (no-component p n from to a uri-step b source-step c digest-step d size-step h (leb-false _ n q))
+              pub ended : sourceIn p a b ≤ n → eqb d to ≡ accepted (answer p n from to)
+              ended l = go (eqb d to) refl
+                where
+                  go : (t : Bool) → eqb d to ≡ t → t ≡ accepted (answer p n from to)
+                  go true q = let h = eqb-true d to q in rw (all-read p n from to a uri-step b source-step c digest-step d (size-step h) h l)
+                  go false q = refuses (not-all (eqb-false d to q))
+
+        -- a source that is no component, whatever follows
+        pub far-source : n < sourceIn p a b → answer p n from to ≡ bad
+        far-source l = third (endAt p to Rules.digestKey (limits .digest) (limits .digest) b) refl
+          where
+            fourth : (c : ℕ) (qc : c ≡ endAt p to Rules.digestKey (limits .digest) (limits .digest) b) (hc : c ≡ 0 → ⊥)
+                (d : ℕ) → d ≡ endAt p to Rules.sizeKey sizeBytes sizeBytes c → (t : Bool) → eqb d to ≡ t → answer p n from to ≡ bad
+            fourth c qc hc d qd true q =
+                let h = eqb-true d to q in
+                no-component p n from to a uri-step b source-step c (digest-step c qc hc) d (size-step c qc hc d qd h) h l
+            fourth c qc hc d qd false q = not-all c qc hc d qd (eqb-false d to q)
+
+            third : (c : ℕ) → c ≡ endAt p to Rules.digestKey (limits .digest) (limits .digest) b → answer p n from to ≡ bad
+            third c qc = go (eqb c 0) refl
+              where
+                go : (t : Bool) → eqb c 0 ≡ t → answer p n from to ≡ bad
+                go true z = no-digest c qc (eqb-true c 0 z)
+                go false z = fourth c qc (eqb-false c 0 z) _ refl _ refl
 
 -- parameters that the test has read, taken
 module _ (p : Bytes) (from to : ℕ) (x : ParametersAt p from to) where

@@ -116,6 +116,9 @@ pub fn params_fit(p: &[u8], from: usize, to: usize, n: usize) -> bool
     if b == 0 {
         return false;
     }
+    if n < source_of(p, a, b) {
+        return false;
+    }
     let c = optional(
         p,
         b,
@@ -127,10 +130,7 @@ pub fn params_fit(p: &[u8], from: usize, to: usize, n: usize) -> bool
     if c == 0 {
         return false;
     }
-    if optional(p, c, to, codes::SIZE, SIZE_BYTES, SIZE_BYTES) != to {
-        return false;
-    }
-    source_of(p, a, b) <= n
+    optional(p, c, to, codes::SIZE, SIZE_BYTES, SIZE_BYTES) == to
 }
 
 // The parameters from `from` to `to`, which are well formed.

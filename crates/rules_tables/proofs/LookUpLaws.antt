@@ -1,5 +1,5 @@
 -- What the proofs of the look-ups lean on. What holds of a whole table is one computed test.
-use Prim.Native.Nat.{ℕ, zero, suc, _+_, _/_, _%_, _≤_, _<_}
+use Prim.Native.Nat.{ℕ, zero, suc, _+_, _≤_, _<_}
 use mathlib.Core.Path.{_≡_, refl}
 use mathlib.Core.List.{List, [], _∷_, head-eq-of-cons-eq, tail-eq-of-cons-eq}
 use mathlib.Core.Bool.{Bool, true, false, cond}
@@ -17,7 +17,7 @@ use Rattle.rules.specs.Commands.{Row, commands, rowOf, conditionIn, ParamRow, p
 use Rattle.rules.specs.Tables.{listed, known, argumentAt, knownAt, values, codes, keys, tableOf, byNumber}
 use Rattle.rules.proofs.TableLaws.{all, both}
 use Rattle.rules_tables.specs.declared.Entry.{Entry}
-use Rattle.rules_tables.specs.Entry.{entryOf}
+use Rattle.rules_tables.specs.Entry.{unpacked, entryOf}
 
 module _ {A : Type 0} where
   -- each row's place is below n, and so is that of row i
@@ -44,20 +44,20 @@ module _ {A : Type 0} where
       stored place value (drop i xs) t ≡ stored place value (drop (i + 1) xs) (set t (place (getD xs i d)) (value (getD xs i d)))
   turn place value xs t i d h = rw (drop-cons xs i d h, add-one i)
 
--- a number of the table, taken apart
-abbrev pub unpacked : ℕ → Entry
-unpacked e = record { sections = e % 64; kind = e / 64 % 8; condition = eqb (e / 512) 1 }
-
 pub entry-at : (t : List ℕ) (c : ℕ) → t ≡ byNumber → c < codes → unpacked (getD t c 0) ≡ entryOf (rowOf c commands)
 unfolding tableOf byNumber
 entry-at t c e h = rw e (agree (λ k. unpacked (getD byNumber k 0)) (λ k. entryOf (rowOf k commands)) codes c refl h)
 
 -- the command of code c, from its entry
-abbrev pub told : ℕ → Entry → Listed
-told c e = cond (eqb (e .sections) 0) L.Unlisted (L.Command (record { code = c; condition = e .condition; argument = argumentAt (e .kind); sections = e .sections }))
+abbrev asked : ℕ → Entry → Listed
+asked c e = L.Command (record { code = c; condition = e .condition; argument = argumentAt (e .kind); sections = e .sections })
 
-pub listed-at : (c : ℕ) (e : Entry) → e ≡ entryOf (rowOf c commands) → c < codes → told c e ≡ listed (rowOf c commands)
-listed-at c e q h = rw q (agree (λ k. told k (entryOf (rowOf k commands))) (λ k. listed (rowOf k commands)) codes c refl h)
+abbrev pub told : ℕ → ℕ → Listed
+told c e = cond (eqb e 0) L.Unlisted (asked c (unpacked e))
+
+pub listed-at : (t : List ℕ) (c : ℕ) → t ≡ byNumber → c < codes → told c (getD t c 0) ≡ listed (rowOf c commands)
+unfolding tableOf byNumber
+listed-at t c e h = rw e (agree (λ k. told k (getD byNumber k 0)) (λ k. listed (rowOf k commands)) codes c refl h)
 
 pub known-at : (t : List ℕ) (k : ℕ) → t ≡ byNumber → k < keys → knownAt (getD t (codes + k) 0) ≡ known (paramOf k params)
 unfolding tableOf byNumber

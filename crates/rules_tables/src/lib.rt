@@ -6,7 +6,7 @@ ghost use Rattle.rules.specs.declared.tables.Listed.the-variants as L;
 ghost use Rattle.rules.specs.Commands.{commands, rowOf, params, paramOf};
 ghost use Rattle.rules.specs.Tables.{asCommand, asParameterRow, listed, known, argumentNumber, argumentAt, parameterNumber, knownAt};
 ghost use Rattle.rules.specs.Tables.{codes, bitOf, packed, tableOf, byNumber};
-ghost use Rattle.rules_tables.specs.Entry.{entryOf};
+ghost use Rattle.rules_tables.specs.Entry.{unpacked, entryOf};
 use rules::codes;
 use rules::controller::Controller;
 use rules::tables::Argument;
@@ -263,7 +263,26 @@ pub fn tables() -> Table
     with_parameters(with_commands(command_rows()), parameter_rows())
 }
 
-// An entry of the table by number, taken apart; sections 0 where nothing is listed.
+// The parts of an entry.
+fn sections_in(entry: u16) -> u8
+    ensures { λ r. ⌜ r ≡ unpacked entry .sections ⌝ }
+{
+    (entry % 64) as u8
+}
+
+fn kind_in(entry: u16) -> u16
+    ensures { λ r. ⌜ r ≡ unpacked entry .kind ⌝ }
+{
+    entry / 64 % 8
+}
+
+fn condition_in(entry: u16) -> bool
+    ensures { λ r. ⌜ r ≡ unpacked entry .condition ⌝ }
+{
+    entry / 512 == 1
+}
+
+// An entry, taken apart; sections 0 where nothing is listed.
 pub struct Entry {
     pub sections: u8,
     pub kind: u16,
@@ -276,9 +295,9 @@ pub fn entry_at(table: &Table, code: usize) -> Entry
 {
     let entry = table[code];
     Entry {
-        sections: (entry % 64) as u8,
-        kind: entry / 64 % 8,
-        condition: entry / 512 == 1,
+        sections: sections_in(entry),
+        kind: kind_in(entry),
+        condition: condition_in(entry),
     }
 }
 
@@ -289,16 +308,15 @@ pub fn look_up(table: &Table, code: usize) -> Listed
     if CODES <= code {
         return Listed::Unlisted;
     }
-    let entry = entry_at(table, code);
-    let sections = entry.sections;
-    if sections == 0 {
+    let entry = table[code];
+    if entry == 0 {
         return Listed::Unlisted;
     }
     Listed::Command(Command {
         code: code as u8,
-        condition: entry.condition,
-        argument: argument_at(entry.kind),
-        sections,
+        condition: condition_in(entry),
+        argument: argument_at(kind_in(entry)),
+        sections: sections_in(entry),
     })
 }
 

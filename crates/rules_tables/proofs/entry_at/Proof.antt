@@ -5,7 +5,13 @@ use Rattle.rules_tables.proofs.entry_at.Statement.{statement}
 use Rattle.rules_tables.proofs.entry_at.Tie as tie
 
 returns : tie.Need-returns
-returns c = let s = c .before in entry-at _ _ (s .pre .0) (s .pre .1)
+returns c =
+    let kind = c .before in
+    let s = kind .before .before .before in
+    rw (c .condition-in .ensures, kind .kind-in .ensures, kind .before .sections-in .ensures)
+    (entry-at (s .args .table .now) (s .args .code) (s .pre .0) (s .pre .1))
 
 pub entry-at-spec : {M : Type 1} → statement M
-entry-at-spec = tie.close (tie.spec (λ c. search needs) (λ c. search needs) (λ c. search needs) returns)
+entry-at-spec =
+    tie.close
+    (tie.spec (λ c. search needs) (λ c. search needs) (λ c κs. search needs) (λ c κs. search needs) (λ c κs. search needs) returns)

@@ -1,4 +1,4 @@
--- The entry of a code tells the rule's row (`listed-at`); above the codes the rule has none (`no-row`).
+-- An entry, taken apart, is the rule's row at each code of the table (`listed-at`); above it the rule has none (`no-row`).
 use mathlib.Core.Path.{refl, sym, ap}
 use borrow.Author.Needs.{needs}
 use borrow.Author.Tests.{eq-eqb, ne-eqb}
@@ -13,15 +13,28 @@ returns c = sym (ap listed (no-row codes commands (c .before .args .code) refl (
 
 returns-2 : tie.Need-returns-2
 returns-2 c =
-    rw (eq-eqb _ _ (c .if2 .taken)) at (listed-at (c .before .before .before .args .code) _ (c .before .entry-at .ensures) (search needs))
+    let s = c .before .before .before in
+    rw (eq-eqb _ _ (c .if2 .taken)) at (listed-at (s .args .table .now) (s .args .code) (s .pre) (search needs))
 
 returns-3 : tie.Need-returns-3
 returns-3 c =
-    let found = c .before .before in
-    rw (c .argument-at .ensures)
-    (rw (ne-eqb _ _ (c .before .if2 .left)) at (listed-at (found .before .before .args .code) _ (found .entry-at .ensures) (search needs)))
+    let kind = c .before .before in
+    let found = kind .before .before in
+    let s = found .before .before .before in
+    rw (c .sections-in .ensures, c .before .argument-at .ensures, kind .kind-in .ensures, kind .before .condition-in .ensures)
+    (rw (ne-eqb _ _ (found .if2 .left)) at (listed-at (s .args .table .now) (s .args .code) (s .pre) (search needs)))
 
 pub look-up-spec : {M : Type 1} → statement M
 look-up-spec =
     tie.close
-    (tie.spec returns (λ c κs. search needs) returns-2 (λ c. search needs) (λ c κs. search needs) returns-3)
+    (tie.spec
+    returns
+    (λ c. search needs)
+    (λ c. search needs)
+    returns-2
+    (λ c. search needs)
+    (λ c κs. search needs)
+    (λ c κs. search needs)
+    (λ c κs. search needs)
+    (λ c κs. search needs)
+    returns-3)
