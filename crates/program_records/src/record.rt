@@ -30,7 +30,8 @@ pub(crate) fn record_end(p: &[u8], at: usize) -> usize
     requires { ⌜ at ≤ length (now p) ⌝ }
     ensures { λ r. ⌜ r ≡ recordEnd (was p) at ⌝ }
 {
-    if p.len() - at < RECORD_BYTES {
+    let from = at + RECORD_BYTES;
+    if p.len() < from {
         return 0;
     }
     if p[at] != MARK {
@@ -39,7 +40,7 @@ pub(crate) fn record_end(p: &[u8], at: usize) -> usize
     if p[at + 1] != MARK_2 {
         return 0;
     }
-    let next = at + RECORD_BYTES + two(p, at + ARGUMENT_LENGTH);
+    let next = from + two(p, at + ARGUMENT_LENGTH);
     if p.len() < next {
         return 0;
     }

@@ -49,7 +49,6 @@ record-end-spec =
     (λ c. search needs)
     mark-2
     (λ c. search needs)
-    (λ c. search needs)
     (λ c κs. search needs)
     (λ c. search needs)
     long
