@@ -1,4 +1,4 @@
-// What each command that writes an event does, whether it stands in an envelope or in a program.
+// A command whose argument was read: what it does, and its event.
 ghost use Rattle.run_commands.specs.Performed.{Commanded, RoomFor, Acted, Performs};
 use crate::event::put_event;
 use rules::answers::End;
