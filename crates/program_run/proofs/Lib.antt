@@ -1,4 +1,3 @@
-pub mod ToldLaws
 pub mod OnwardLaws
 pub mod ExecuteLaws
 pub mod StepLaws

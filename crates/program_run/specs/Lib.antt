@@ -1,4 +1,3 @@
-pub mod Act
 pub mod Step
 pub mod Known
 pub mod Program

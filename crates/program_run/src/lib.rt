@@ -15,7 +15,6 @@ use run_admission::ending::ended;
 use run_admission::ending::number_after;
 use step::run_records;
 
-mod act;
 mod step;
 
 // The run of a program that the test has accepted, by what the test found.

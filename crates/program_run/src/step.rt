@@ -1,10 +1,10 @@
 // One step of a program's run: one record.
 ghost use Rattle.rules.specs.Lent.{was};
 ghost use Rattle.program_run.specs.Step.{OnwardJob, Onward, ExecJob, Executes, StepAsked, Steps, RunJob, startAt, RecordsRun};
-use crate::act::CommandRecord;
-use crate::act::act;
 use byte_buffer::two;
 use byte_buffer::wide;
+use program_commands::CommandRecord;
+use program_commands::act;
 use program_jump::advance;
 use program_jump::jump;
 use rules::answers::End;

@@ -1,6 +1,6 @@
-// What the command of a record does, by its code: each arm reads its own argument and steps over it.
+// What the command of a record in a program does, by its code: each arm reads its own argument and steps over it.
 ghost use mathlib.Core.Path.{_≡_};
-ghost use Rattle.program_run.specs.Act.{ActJob, ActsOn};
+ghost use Rattle.program_commands.specs.Act.{ActJob, ActsOn};
 use byte_buffer::two;
 use program_parameters::take_params;
 use rules::answers::End;
@@ -46,7 +46,7 @@ fn effect_at(next: usize, end: usize, used: usize) -> RecordEffect
 }
 
 // The command at x, its event aside.
-pub(crate) fn act(
+pub fn act(
     p: &[u8],
     x: CommandRecord,
     vendor: &Sixteen,

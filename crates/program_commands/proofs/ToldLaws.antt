@@ -14,8 +14,8 @@ use Rattle.rules.specs.ProgramFormat.{argumentFrom, recordSize}
 use Rattle.rules.proofs.BytesLaws.{length-part}
 use Rattle.rules.proofs.TableLaws.{each-row, _&_}
 use Rattle.program_parameters.specs.Entries.{ParametersAt}
-use Rattle.program_run.specs.declared.act.CommandRecord.{CommandRecord}
-use Rattle.program_run.specs.Act.{ActJob, nextRecord}
+use Rattle.program_commands.specs.declared.CommandRecord.{CommandRecord}
+use Rattle.program_commands.specs.Act.{ActJob, nextRecord}
 use Rattle.program_arguments.proofs.FormLaws.{Reads, sixteen-is, nil-is, below-is, parameters-is, no-try, no-sub}
 
 module _ (p : Bytes) (x : CommandRecord) (answers slots : Bytes) (memory : List ℕ) (j : ActJob p x answers slots memory) where

@@ -15,8 +15,8 @@ use Rattle.rules.specs.Slots.{answerBytes}
 use Rattle.run_slots.specs.Params.{FitAll}
 use Rattle.run_actions.specs.Action.{AllHold}
 use Rattle.run_commands.specs.Performed.{Acts}
-use Rattle.program_run.specs.declared.act.CommandRecord.{CommandRecord}
-use Rattle.program_run.specs.declared.act.RecordEffect.{RecordEffect}
+use Rattle.program_commands.specs.declared.CommandRecord.{CommandRecord}
+use Rattle.program_commands.specs.declared.RecordEffect.{RecordEffect}
 
 -- the place after the record at `at`
 abbrev pub nextRecord : Bytes → ℕ → ℕ

@@ -10,11 +10,11 @@ use Rattle.rules.specs.Step.{acts}
 use Rattle.run_slots.specs.Params.{meaning}
 use Rattle.run_slots.proofs.ParamsLaws.{fit-over, fit-stored, stored-kept}
 use Rattle.run_commands.proofs.PerformLaws.{is-at, source-at, set-params, override-params}
-use Rattle.program_run.specs.Act.{nextRecord}
-use Rattle.program_run.proofs.ToldLaws.{vendor-told, class-told, match-told, index-told, abort-told, fetch-told, copy-told, run-told, swap-told}
-use Rattle.program_run.proofs.ToldLaws.{set-told, override-told, params-here, params-told}
-use Rattle.program_run.proofs.act.act.Statement.{statement}
-use Rattle.program_run.proofs.act.act.Tie as tie
+use Rattle.program_commands.specs.Act.{nextRecord}
+use Rattle.program_commands.proofs.ToldLaws.{vendor-told, class-told, match-told, index-told, abort-told, fetch-told, copy-told, run-told, swap-told}
+use Rattle.program_commands.proofs.ToldLaws.{set-told, override-told, params-here, params-told}
+use Rattle.program_commands.proofs.act.Statement.{statement}
+use Rattle.program_commands.proofs.act.Tie as tie
 
 -- back to the start, from the match
 abbrev start : tie.After-struct-known → tie.Start
