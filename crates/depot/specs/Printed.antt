@@ -1,5 +1,4 @@
 -- What is printed of files, by the jobs' answers.
-use Prim.Native.Nat.{ℕ}
 use mathlib.Core.Bool.{Bool, cond}
 use lib.Dec.{eqb}
 use Rattle.rules.specs.declared.answers.Refusal.the-variants.{BadProgram}

@@ -7,7 +7,7 @@ use native.Mathlib.Omega.{arith}
 use lib.ListN.{length}
 use Rattle.rules.specs.Bytes.{Bytes, part, twoAt}
 use Rattle.rules.specs.Commands.{Op, vendor, class, imageMatch, setIndex, abort, setParams, overrideParams, fetch, copy, run, swap, Params}
-use Rattle.rules.specs.Commands.{Form, sixteen, nil, below, parameters, alternatives, sequence, Row, rowOf, commands, vendorCode, classCode}
+use Rattle.rules.specs.Commands.{Form, sixteen, nil, parameters, alternatives, sequence, Row, rowOf, commands, vendorCode, classCode}
 use Rattle.rules.specs.Commands.{imageMatchCode, setIndexCode, abortCode, setParametersCode, overrideCode, fetchCode, copyCode, runCode}
 use Rattle.rules.specs.Limits.{limits}
 use Rattle.rules.specs.ProgramFormat.{argumentFrom, recordSize}
