@@ -1,5 +1,1 @@
-pub mod OnwardLaws
-pub mod ExecuteLaws
-pub mod StepLaws
-pub mod RunRecords
 pub mod OutcomeLaws

@@ -22,11 +22,11 @@ use Rattle.run_admission.specs.declared.answer.Ending.{Ending}
 use Rattle.run_admission.specs.Answer.{refusalIn, LastEvent, endingOf, Settles}
 use Rattle.run_admission.proofs.FrameLaws.{trace-room, lent-start, state-start, settles-refused}
 use Rattle.run_admission.proofs.FrameLaws as Frame
-use Rattle.program_run.specs.declared.step.ProgramState.{ProgramState}
+use Rattle.program_steps.specs.declared.ProgramState.{ProgramState}
 use Rattle.program_test.specs.declared.test.Tested.{Tested}
 use Rattle.program_test.specs.Test.{TestedAs}
 use Rattle.program_run.specs.Known.{Known}
-use Rattle.program_run.specs.Step.{RunJob, stateOf, startAt, Ran}
+use Rattle.program_steps.specs.Step.{RunJob, stateOf, startAt, Ran}
 use Rattle.rules.specs.Step.{out}
 use Rattle.rules_theorems.proofs.Effects.{program-effects}
 use Rattle.rules_theorems.proofs.ProgramFaults.{Only97, program97}

@@ -1,6 +1,7 @@
 // The run of a program.
 ghost use Rattle.program_run.specs.Known.{Known};
 ghost use Rattle.program_run.specs.Program.{Runs};
+use program_steps::run_records;
 use program_test::test::Tested;
 use program_test::test::test_program;
 use rules::answers::Refusal;
@@ -13,9 +14,6 @@ use run_admission::answer::Outcome;
 use run_admission::answer::refused;
 use run_admission::ending::ended;
 use run_admission::ending::number_after;
-use step::run_records;
-
-mod step;
 
 // The run of a program that the test has accepted, by what the test found.
 fn run_tested(

@@ -15,7 +15,7 @@ use Rattle.rules.specs.Step.{Env, State, Out, out}
 use Rattle.run_actions.specs.declared.Progress.{Progress}
 use Rattle.run_commands.specs.Machine.{stateAt, Lends}
 use Rattle.rules.specs.Lent.{Lent, was, left}
-use Rattle.program_run.specs.declared.step.ProgramState.{ProgramState}
+use Rattle.program_steps.specs.declared.ProgramState.{ProgramState}
 use Rattle.program_jump.specs.Jump.{RecordsAt}
 
 -- record n at `at`, and a target, which is no record or a later one

@@ -8,11 +8,11 @@ use Rattle.rules.specs.declared.answers.End.the-variants.{Finished}
 use Rattle.rules.specs.Answers.{endNumber}
 use Rattle.rules.specs.Bytes.{Bytes}
 use Rattle.rules.specs.ProgramFormat.{JUMP, codeFrom, recordSize}
-use Rattle.program_run.specs.declared.step.ProgramState.{ProgramState}
+use Rattle.program_steps.specs.declared.ProgramState.{ProgramState}
 use Rattle.program_jump.specs.declared.RecordPlace.{RecordPlace}
 use Rattle.program_jump.specs.Jump.{JumpJob, Jumped}
 use Rattle.program_jump.proofs.FirstRecord.{first-of}
-use Rattle.program_run.specs.Step.{ExecJob, Executed, StepAsked, Stepped}
+use Rattle.program_steps.specs.Step.{ExecJob, Executed, StepAsked, Stepped}
 
 module _ (p : Bytes) (total : ℕ) (current : ProgramState) (vendor class answers slots : Bytes) (memory : List ℕ) (trace : Bytes)
     (j : StepAsked p total current vendor class answers slots memory trace) where

@@ -1,8 +1,8 @@
 use native.Mathlib.Omega.{arith}
 use borrow.Author.Needs.{needs}
-use Rattle.program_run.proofs.ExecuteLaws.{execute-room, execute-number, execute-space, execute-inside, command-here, onward-here, executed}
-use Rattle.program_run.proofs.step.execute.Statement.{statement}
-use Rattle.program_run.proofs.step.execute.Tie as tie
+use Rattle.program_steps.proofs.ExecuteLaws.{execute-room, execute-number, execute-space, execute-inside, command-here, onward-here, executed}
+use Rattle.program_steps.proofs.execute.Statement.{statement}
+use Rattle.program_steps.proofs.execute.Tie as tie
 
 -- the way back: to the start from where the code was read; to there from where the component was; to there from where the command was done;
 -- to there from where its event is to be put; to there from where it was put, and from where the target is to be read

@@ -1,6 +1,6 @@
-use Rattle.program_run.proofs.OnwardLaws.{target-job, onward-target, onward-next}
-use Rattle.program_run.proofs.step.onward.Statement.{statement}
-use Rattle.program_run.proofs.step.onward.Tie as tie
+use Rattle.program_steps.proofs.OnwardLaws.{target-job, onward-target, onward-next}
+use Rattle.program_steps.proofs.onward.Statement.{statement}
+use Rattle.program_steps.proofs.onward.Tie as tie
 
 advances : tie.Need-advance-requires
 advances c κs = target-job _ _ _ _ (c .before .before .before .pre) (c .if2 .taken)

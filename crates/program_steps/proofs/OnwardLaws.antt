@@ -18,7 +18,7 @@ use Rattle.rules.specs.Run.{on}
 use Rattle.rules.specs.Step.{Env, State, out}
 use Rattle.run_actions.specs.declared.Progress.{Progress}
 use Rattle.program_jump.specs.Jump.{AdvanceJob, Advanced}
-use Rattle.program_run.specs.Step.{OnwardJob, Onward}
+use Rattle.program_steps.specs.Step.{OnwardJob, Onward}
 use Rattle.program_jump.proofs.JumpLaws.{exec-past, fewer}
 
 module _ (env : Env) (rs : List Rec) (n t : ℕ) where

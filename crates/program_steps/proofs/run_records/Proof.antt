@@ -3,10 +3,10 @@ use mathlib.Core.Path.{_≡_, refl}
 use native.Mathlib.Omega.{arith}
 use borrow.Author.Needs.{needs}
 use lib.ListN.{length}
-use Rattle.program_run.specs.Step.{RunJob, startAt}
-use Rattle.program_run.proofs.RunRecords.{LoopAt, loop-starts, loop-job, loop-done, loop-stops, loop-goes-on, loop-further}
-use Rattle.program_run.proofs.step.run_records.Statement.{statement}
-use Rattle.program_run.proofs.step.run_records.Tie as tie
+use Rattle.program_steps.specs.Step.{RunJob, startAt}
+use Rattle.program_steps.proofs.RunRecords.{LoopAt, loop-starts, loop-job, loop-done, loop-stops, loop-goes-on, loop-further}
+use Rattle.program_steps.proofs.run_records.Statement.{statement}
+use Rattle.program_steps.proofs.run_records.Tie as tie
 
 abbrev Inv-loop : tie.InvT-loop
 Inv-loop p records from vendor class answers slots₀ memory₀ trace₀ current₀ slots memory trace current =

@@ -11,8 +11,8 @@ use Rattle.rules.specs.Program.{Rec}
 use Rattle.rules.specs.ProgramRun.{exec}
 use Rattle.rules.specs.Step.{Env, Out}
 use Rattle.run_commands.specs.Machine.{stateAt}
-use Rattle.program_run.specs.declared.step.ProgramState.{ProgramState}
-use Rattle.program_run.specs.Step.{stateOf, Ready, rest, RunJob, StepAsked, Stepped, startAt, Ran}
+use Rattle.program_steps.specs.declared.ProgramState.{ProgramState}
+use Rattle.program_steps.specs.Step.{stateOf, Ready, rest, RunJob, StepAsked, Stepped, startAt, Ran}
 use Rattle.program_jump.proofs.FirstRecord.{none-left}
 
 pub record Loop (p : Bytes) (components total : ℕ) (vendor class answers : Bytes) (env : Env) (group : Group) (whole : Out)

@@ -19,9 +19,9 @@ use Rattle.run_actions.specs.declared.Progress.{Progress}
 use Rattle.run_commands.specs.Machine.{stateAt}
 use Rattle.run_commands.proofs.LentLaws.{moves-step, lent-after}
 use Rattle.run_commands.proofs.PerformLaws.{with-event}
-use Rattle.program_run.specs.declared.step.ProgramState.{ProgramState}
+use Rattle.program_steps.specs.declared.ProgramState.{ProgramState}
 use Rattle.program_commands.specs.Act.{ActJob, nextRecord}
-use Rattle.program_run.specs.Step.{OnwardJob, Onward, stateOf, ExecJob, Executed}
+use Rattle.program_steps.specs.Step.{OnwardJob, Onward, stateOf, ExecJob, Executed}
 use Rattle.program_jump.proofs.FirstRecord.{First, first-of}
 use Rattle.program_arguments.proofs.FormLaws.{op-code}
 use Rattle.program_records.proofs.ReadRecord.{Commands}

@@ -1,6 +1,6 @@
-// One step of a program's run: one record.
+// The run of a program's records, step by step: one record each.
 ghost use Rattle.rules.specs.Lent.{was};
-ghost use Rattle.program_run.specs.Step.{OnwardJob, Onward, ExecJob, Executes, StepAsked, Steps, RunJob, startAt, RecordsRun};
+ghost use Rattle.program_steps.specs.Step.{OnwardJob, Onward, ExecJob, Executes, StepAsked, Steps, RunJob, startAt, RecordsRun};
 use byte_buffer::two;
 use byte_buffer::wide;
 use program_commands::CommandRecord;
@@ -117,7 +117,7 @@ fn step(
 }
 
 // Steps until one ends the run or the records are over.
-pub(crate) fn run_records(
+pub fn run_records(
     p: &[u8],
     records: usize,
     from: usize,

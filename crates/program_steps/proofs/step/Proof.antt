@@ -1,9 +1,9 @@
 use mathlib.Core.Path.{sym, _∙_}
 use native.Mathlib.Omega.{arith}
 use borrow.Author.Needs.{needs}
-use Rattle.program_run.proofs.StepLaws.{step-room, jump-here, step-jumped, execute-job, step-done}
-use Rattle.program_run.proofs.step.step.Statement.{statement}
-use Rattle.program_run.proofs.step.step.Tie as tie
+use Rattle.program_steps.proofs.StepLaws.{step-room, jump-here, step-jumped, execute-job, step-done}
+use Rattle.program_steps.proofs.step.Statement.{statement}
+use Rattle.program_steps.proofs.step.Tie as tie
 
 -- the way back: to the start from where the code was read; to where it is no jump from where the command is to be done
 abbrev start : tie.After-wide → tie.Start

@@ -1,0 +1,4 @@
+pub mod OnwardLaws
+pub mod ExecuteLaws
+pub mod StepLaws
+pub mod RunRecords
