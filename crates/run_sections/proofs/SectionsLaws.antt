@@ -20,8 +20,9 @@ use Rattle.rules.specs.Step.{Env, State, Out, out}
 use Rattle.rules.specs.Run.{on, runSeq, runAll, sectionsOf, chosen, planOf}
 use Rattle.run_actions.specs.declared.Progress.{Progress}
 use Rattle.run_commands.specs.Machine.{stateAt}
-use Rattle.run_sequence.specs.declared.Run.{Run}
-use Rattle.run_sequence.specs.Cycle.{doneBy, SequenceJob, SequenceRan}
+use Rattle.run_leaf.specs.declared.Run.{Run}
+use Rattle.run_leaf.specs.Leaf.{doneBy}
+use Rattle.run_sequence.specs.Cycle.{SequenceJob, SequenceRan}
 use Rattle.run_sections.specs.Sections.{startOf, SectionsJob, SectionsRan}
 use Rattle.run_commands.proofs.LentLaws.{Moves, moves-seq}
 use Rattle.run_sequence.proofs.Keeping.{Kept, ready-of, kept-of, kept-after, events-after}

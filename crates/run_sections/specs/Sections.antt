@@ -20,8 +20,9 @@ use Rattle.manifest_accessors.specs.Arguments.{coerceFalse}
 use Rattle.run_actions.specs.declared.Progress.{Progress}
 use Rattle.run_actions.specs.Action.{Ends}
 use Rattle.run_commands.specs.Machine.{stateAt, outAt}
-use Rattle.run_sequence.specs.declared.Run.{Run}
-use Rattle.run_sequence.specs.Cycle.{doneBy, Ready, SequenceRuns}
+use Rattle.run_leaf.specs.declared.Run.{Run}
+use Rattle.run_leaf.specs.Leaf.{doneBy, Ready}
+use Rattle.run_sequence.specs.Cycle.{SequenceRuns}
 
 -- the run at the start of the sequence at `from`, with what r has done
 abbrev pub startOf : ℕ → Progress → Run

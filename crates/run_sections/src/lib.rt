@@ -14,8 +14,8 @@ use rules::controller::SECTIONS;
 use rules::controller::SectionPlaces;
 use rules::controller::Sixteen;
 use run_actions::Progress;
+use run_leaf::Run;
 use run_sequence::Level;
-use run_sequence::Run;
 use run_sequence::run_sequence;
 
 // The section at run.next; nothing where it is not wanted.

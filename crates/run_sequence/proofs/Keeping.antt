@@ -10,7 +10,7 @@ use Rattle.run_slots.specs.Params.{FitAll, SlotsKept}
 use Rattle.run_actions.specs.declared.Progress.{Progress}
 use Rattle.run_commands.specs.Machine.{stateAt, outAt, Lends}
 use Rattle.run_commands.proofs.LentLaws.{Moves, lent-after}
-use Rattle.run_sequence.specs.Cycle.{Ready}
+use Rattle.run_leaf.specs.Leaf.{Ready}
 
 -- Ready at a given environment
 pub record Kept (env : Env) (s vendor class answers slots : Bytes) (memory : List ℕ) (trace : Bytes) (index : ℕ) : Type 0 where

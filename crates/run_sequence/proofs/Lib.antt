@@ -1,4 +1,3 @@
-pub mod LeafLaws
 pub mod Keeping
 pub mod SequenceRuns
 pub mod TryRuns

@@ -16,9 +16,10 @@ use Rattle.rules.specs.Run.{on, next, runSeq, runCmd, indexAfter, coerceAfter}
 use Rattle.run_slots.specs.Params.{SlotsKept}
 use Rattle.run_actions.specs.Action.{Ends}
 use Rattle.run_commands.specs.Machine.{outAt}
-use Rattle.run_sequence.specs.declared.Run.{Run}
+use Rattle.run_leaf.specs.declared.Run.{Run}
 use Rattle.manifest_accessors.specs.Arguments.{isTrue}
-use Rattle.run_sequence.specs.Cycle.{stateOf, doneBy, Ready, CommandJob, SequenceJob, CommandRan, SequenceRan, caughtBy}
+use Rattle.run_leaf.specs.Leaf.{stateOf, doneBy, Ready, CommandRan, caughtBy}
+use Rattle.run_sequence.specs.Cycle.{CommandJob, SequenceJob, SequenceRan}
 use Rattle.manifest_accessors.specs.Heads.{HeadAt}
 use Rattle.manifest_accessors.proofs.SequencePlaces.{CommandsAt, start, start-head, start-commands, Turn, turn, no-more}
 use Rattle.manifest_accessors.proofs.PlaceLaws.{remaining, depth-falls, head-later, command-later}

@@ -16,13 +16,14 @@ use Rattle.rules.specs.Limits.{limits}
 use Rattle.rules.specs.Manifest.{Seq, Cmd, one, try, Alts, last, or, count}
 use Rattle.rules.specs.Step.{Env, State, Out, out}
 use Rattle.rules.specs.Run.{on, next, runSeq, runCmd, runAlts, indexAfter, coerceAfter}
-use Rattle.run_sequence.specs.declared.Run.{Run}
+use Rattle.run_leaf.specs.declared.Run.{Run}
 use Rattle.run_slots.specs.Params.{FitAll, SlotsKept}
 use Rattle.run_actions.specs.declared.Progress.{Progress}
 use Rattle.run_actions.specs.Action.{Ends}
 use Rattle.run_commands.specs.Machine.{stateAt, outAt}
 use Rattle.manifest_accessors.specs.Heads.{HeadAt, Strings}
-use Rattle.run_sequence.specs.Cycle.{stateOf, doneBy, LeafJob, CommandJob, SequenceJob, CommandRan, SequenceRan, runAt}
+use Rattle.run_leaf.specs.Leaf.{stateOf, doneBy, LeafJob, CommandRan, runAt}
+use Rattle.run_sequence.specs.Cycle.{CommandJob, SequenceJob, SequenceRan}
 use Rattle.manifest_accessors.specs.Arguments.{ArgumentAt}
 use Rattle.manifest_accessors.proofs.ArgumentLaws.{command-one}
 use Rattle.manifest_accessors.proofs.HeadLaws.{number-headed}

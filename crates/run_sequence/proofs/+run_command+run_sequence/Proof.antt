@@ -6,7 +6,8 @@ use borrow.Author.Needs.{needs}
 use Rattle.rules.specs.Run.{runSeq, runCmd}
 use Rattle.manifest_accessors.specs.Arguments.{isTrue}
 use Rattle.manifest_accessors.proofs.PlaceLaws.{remaining}
-use Rattle.run_sequence.specs.Cycle.{stateOf, CommandJob}
+use Rattle.run_leaf.specs.Leaf.{stateOf}
+use Rattle.run_sequence.specs.Cycle.{CommandJob}
 use Rattle.run_sequence.proofs.SequenceRuns.{CommandsJob, Loop, loop-starts, command-job, loop-rises, loop-goes-on, sequence-deep, sequence-head}
 use Rattle.run_sequence.proofs.SequenceRuns.{commands-job, command-falls, sequence-done, sequence-stopped}
 use borrow.Fn.Kinds.{In}
@@ -20,9 +21,9 @@ use Rattle.run_sequence.proofs.+run_command+run_sequence.Lts-run_comman
 use Rattle.run_sequence.proofs.run_sequence.Reads as run-sequence
 use Rattle.run_sequence.proofs.run_sequence.Kinds as run-sequence-kinds
 use Rattle.run_sequence.proofs.+run_command+run_sequence.Lts-run_sequence as run-sequence-lts
-use Rattle.run_sequence.proofs.caught.Reads as caught-reads
-use Rattle.run_sequence.proofs.leaf.Reads as leaf-reads
-use Rattle.run_sequence.proofs.run_at.Reads as run-at-reads
+use Rattle.run_leaf.proofs.caught.Reads as caught-reads
+use Rattle.run_leaf.proofs.leaf.Reads as leaf-reads
+use Rattle.run_leaf.proofs.run_at.Reads as run-at-reads
 use Rattle.run_actions.proofs.ended.Reads as ended-reads
 use Rattle.manifest_accessors.proofs.heads.open.Reads as open-reads
 use Rattle.manifest_accessors.proofs.heads.skip.Reads as skip-reads

@@ -1,6 +1,6 @@
 use borrow.Author.Tests.{eq-eqb, ne-eqb}
-use Rattle.run_sequence.proofs.caught.Statement.{statement}
-use Rattle.run_sequence.proofs.caught.Tie as tie
+use Rattle.run_leaf.proofs.caught.Statement.{statement}
+use Rattle.run_leaf.proofs.caught.Tie as tie
 
 returns : tie.Need-returns
 returns c = rw (c .before .before .if1 .taken, c .before .if2 .taken, c .if3 .taken)

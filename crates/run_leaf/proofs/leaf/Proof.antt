@@ -1,8 +1,8 @@
 use native.Mathlib.Omega.{arith}
 use borrow.Author.Needs.{needs}
-use Rattle.run_sequence.proofs.LeafLaws.{leaf-inside, leaf-fit, leaf-code, leaf-room, leaf-ran}
-use Rattle.run_sequence.proofs.leaf.Statement.{statement}
-use Rattle.run_sequence.proofs.leaf.Tie as tie
+use Rattle.run_leaf.proofs.LeafLaws.{leaf-inside, leaf-fit, leaf-code, leaf-room, leaf-ran}
+use Rattle.run_leaf.proofs.leaf.Statement.{statement}
+use Rattle.run_leaf.proofs.leaf.Tie as tie
 
 -- the way back: from where the component was told to where the argument was read, and to the start; from the end to where it was performed
 abbrev argument : tie.After-component → tie.After-read-one

@@ -1,6 +1,6 @@
 use mathlib.Core.Path.{refl}
-use Rattle.run_sequence.proofs.run_at.Statement.{statement}
-use Rattle.run_sequence.proofs.run_at.Tie as tie
+use Rattle.run_leaf.proofs.run_at.Statement.{statement}
+use Rattle.run_leaf.proofs.run_at.Tie as tie
 
 returns : tie.Need-returns
 returns c = refl

@@ -15,14 +15,14 @@ use Rattle.rules.specs.Step.{Env, State, eventBytes, step}
 use Rattle.rules.specs.Run.{runSeq, runCmd}
 use Rattle.manifest_accessors.specs.declared.arguments.Args.{Args}
 use Rattle.manifest_accessors.specs.declared.heads.Opened.{Opened}
-use Rattle.run_sequence.specs.declared.Run.{Run}
+use Rattle.run_leaf.specs.declared.Run.{Run}
 use Rattle.run_actions.specs.declared.Progress.{Progress}
 use Rattle.run_actions.specs.Action.{Ends}
 use Rattle.run_slots.specs.Params.{FitAll, SlotsKept}
 use Rattle.run_commands.specs.Op.{opOf, IsCode}
 use Rattle.run_commands.specs.Machine.{stateAt, outAt}
 use Rattle.manifest_accessors.specs.Arguments.{componentOf, ArgumentRead}
-use Rattle.run_sequence.specs.Cycle.{LeafJob, CommandRan}
+use Rattle.run_leaf.specs.Leaf.{LeafJob, CommandRan}
 use Rattle.manifest_accessors.proofs.OneLaws.{one-plain, coerce-after}
 
 run-one : (env : Env) (p : ℕ) (op : Rules.Op) (b : Option Bool) (i : ℕ) (st : State) → runCmd env (one p op b) i st ≡ step env op (Rules.component op i) p st
