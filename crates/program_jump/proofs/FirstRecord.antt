@@ -15,7 +15,7 @@ use Rattle.rules.proofs.BytesLaws.{num-2}
 use Rattle.rules.proofs.GotLaws.{split₂, both}
 use Rattle.program_jump.specs.Jump.{RecordsAt}
 use Rattle.program_parameters.proofs.PartLaws.{part-drop}
-use Rattle.program_records.proofs.ReadRecord.{Kind, record-read}
+use Rattle.program_record.proofs.ReadRecord.{Kind, record-read}
 
 module _ (p : Bytes) (g : Group) (comps total n at : ℕ) where
   abbrev KindAt : Rec → Type 0

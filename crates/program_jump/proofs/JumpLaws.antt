@@ -16,7 +16,7 @@ use Rattle.rules.specs.ProgramTest.{nonJumps}
 use Rattle.rules.specs.Step.{Env, State}
 use Rattle.program_jump.specs.Jump.{RecordsAt, AdvanceJob, Advanced, JumpJob, Jumped}
 use Rattle.program_jump.proofs.FirstRecord.{First, first-of}
-use Rattle.program_records.proofs.ReadRecord.{Jumps}
+use Rattle.program_record.proofs.ReadRecord.{Jumps}
 
 module _ (env : Env) where
   pub exec-past : (rs : List Rec) (n k : ℕ) (st : State) → exec env rs n k st ≡ exec env (drop k rs) (n + k) 0 st

@@ -1,3 +1,1 @@
-pub mod RecordLaws
-pub mod ReadRecord
 pub mod RecordsLaws

@@ -24,7 +24,7 @@ use Rattle.program_commands.specs.Act.{ActJob, nextRecord}
 use Rattle.program_steps.specs.Step.{OnwardJob, Onward, stateOf, ExecJob, Executed}
 use Rattle.program_jump.proofs.FirstRecord.{First, first-of}
 use Rattle.program_arguments.proofs.FormLaws.{op-code}
-use Rattle.program_records.proofs.ReadRecord.{Commands}
+use Rattle.program_record.proofs.ReadRecord.{Commands}
 use Rattle.rules_theorems.proofs.RunLaws.{exec-does}
 
 module _ (p : Bytes) (current : ProgramState) (vendor class answers slots : Bytes) (memory : List ℕ) (trace : Bytes)

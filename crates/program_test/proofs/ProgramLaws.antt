@@ -24,10 +24,11 @@ use Rattle.run_slot_search.specs.Search.{namesAt}
 use Rattle.component_ids.specs.declared.Repeat.{Repeat}
 use Rattle.component_ids.specs.declared.Repeat.the-variants.{At, Nothing}
 use Rattle.component_ids.specs.Identifiers.{repeated}
-use Rattle.program_records.specs.declared.records.Records.{Records}
+use Rattle.program_records.specs.declared.Records.{Records}
 use Rattle.program_test.specs.declared.test.Tested.{Tested}
 use Rattle.program_parameters.specs.Entries.{nextIn}
-use Rattle.program_records.specs.Records.{mark₁, mark₂, recordsAre}
+use Rattle.program_record.specs.Record.{mark₁, mark₂}
+use Rattle.program_records.specs.Records.{recordsAre}
 use Rattle.program_test.specs.Test.{NamesAre, startFits, noProgram, TestedAs}
 use Rattle.program_test.proofs.NameLaws.{Named, none-named, all-named}
 use Rattle.program_parameters.proofs.PartLaws.{same-3}

@@ -11,7 +11,7 @@ use byte_buffer::two;
 use byte_buffer::wide;
 use component_ids::Repeat;
 use component_ids::repeated_one;
-use program_records::records::test_records;
+use program_records::test_records;
 use rules::answers::Group;
 use rules::controller::Controller;
 use rules::controller::PLACES;

@@ -4,10 +4,10 @@ use mathlib.Core.Path.{_∙_}
 use mathlib.Core.Logic.{⊎-elim}
 use native.Mathlib.Omega.{arith}
 use borrow.Author.Needs.{needs}
-use Rattle.program_records.proofs.RecordLaws.{end-room, no-end, no-command, is-command, no-jump, is-jump}
+use Rattle.program_record.proofs.RecordLaws.{end-room, no-end, no-command, is-command, no-jump, is-jump}
 use Rattle.program_records.proofs.RecordsLaws.{Sofar, sofar-start, sofar-stop, sofar-command, sofar-jump, sofar-end}
-use Rattle.program_records.proofs.records.test_records.Statement.{statement}
-use Rattle.program_records.proofs.records.test_records.Tie as tie
+use Rattle.program_records.proofs.test_records.Statement.{statement}
+use Rattle.program_records.proofs.test_records.Tie as tie
 
 abbrev Inv-loop : tie.InvT-loop
 Inv-loop p table at group components total next₀ jumps₀ n₀ next jumps n = (n ≤ total) × Sofar group components total p at next jumps n

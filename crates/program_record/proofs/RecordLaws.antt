@@ -27,7 +27,7 @@ use Rattle.rules_tables.proofs.LookUpLaws.{no-row}
 use Rattle.program_arguments.specs.Arguments.{allowsIn, targetFits}
 use Rattle.program_arguments.proofs.FormLaws.{op-code}
 use Rattle.program_arguments.proofs.ArgumentLaws.{row-allows, targeted}
-use Rattle.program_records.specs.Records.{mark₁, mark₂, nextAt, recordFits, recordEnd, jumpFits, commandAt, recordAt}
+use Rattle.program_record.specs.Record.{mark₁, mark₂, nextAt, recordFits, recordEnd, jumpFits, commandAt, recordAt}
 use Rattle.program_parameters.proofs.PartLaws.{part-drop, same-2}
 
 -- a command's answer is handed on

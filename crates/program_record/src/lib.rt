@@ -1,4 +1,4 @@
-// One record of a command.
+// One record of a command in a program: whether it is well formed, and where it ends.
 ghost use mathlib.Core.Path.{_≡_};
 ghost use Prim.Native.Nat.{_+_, _≤_, _<_};
 ghost use lib.ListN.{length, getD};
@@ -6,7 +6,7 @@ ghost use Rattle.rules.specs.Lent.{was};
 ghost use Rattle.rules.specs.ProgramFormat.{codeFrom, recordSize};
 ghost use Rattle.rules.specs.Tables.{codes, byNumber};
 ghost use Rattle.rules.specs.Got.{accepted};
-ghost use Rattle.program_records.specs.Records.{recordEnd, jumpFits, commandAt};
+ghost use Rattle.program_record.specs.Record.{recordEnd, jumpFits, commandAt};
 use byte_buffer::two;
 use byte_buffer::wide;
 use program_arguments::allows;
@@ -26,7 +26,7 @@ use rules_tables::Table;
 use rules_tables::entry_at;
 
 // The place after the record at `at`; 0 if its bytes do not lie in p or its mark is not there.
-pub(crate) fn record_end(p: &[u8], at: usize) -> usize
+pub fn record_end(p: &[u8], at: usize) -> usize
     requires { ⌜ at ≤ length (now p) ⌝ }
     ensures { λ r. ⌜ r ≡ recordEnd (was p) at ⌝ }
 {
@@ -48,7 +48,7 @@ pub(crate) fn record_end(p: &[u8], at: usize) -> usize
 }
 
 // Whether record n of `total`, from `at` to `next`, is a jump that is well formed.
-pub(crate) fn jump_fits(p: &[u8], at: usize, next: usize, total: usize, n: usize) -> bool
+pub fn jump_fits(p: &[u8], at: usize, next: usize, total: usize, n: usize) -> bool
     requires { ⌜ at + recordSize ≤ length (now p) ⌝ }
     ensures { λ r. ⌜ r ≡ jumpFits (was p) at next total n ⌝ }
 {
@@ -72,7 +72,7 @@ pub(crate) fn jump_fits(p: &[u8], at: usize, next: usize, total: usize, n: usize
 }
 
 // Whether record n of `total`, from `at` to `next`, whose code is one of the table's, is a command that is well formed.
-pub(crate) fn command_fits(
+pub fn command_fits(
     p: &[u8],
     table: &Table,
     at: usize,

@@ -2,9 +2,9 @@ use native.Mathlib.Omega.{arith}
 use borrow.Author.Needs.{needs}
 use denote.Ref.{now}
 use Rattle.rules.specs.ProgramFormat.{targetFrom}
-use Rattle.program_records.proofs.RecordLaws.{two-is, not-allowed, no-component, not-fitting, decided}
-use Rattle.program_records.proofs.record.command_fits.Statement.{statement}
-use Rattle.program_records.proofs.record.command_fits.Tie as tie
+use Rattle.program_record.proofs.RecordLaws.{two-is, not-allowed, no-component, not-fitting, decided}
+use Rattle.program_record.proofs.command_fits.Statement.{statement}
+use Rattle.program_record.proofs.command_fits.Tie as tie
 
 -- back to the entry, from where its code was looked up
 abbrev to-entry : tie.After-entry-at → tie.Start
