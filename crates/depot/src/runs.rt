@@ -1,10 +1,7 @@
 // Runs on a described device.
 ghost use mathlib.Core.Path.{_≡_};
 ghost use lib.ListN.{length};
-ghost use Rattle.rules.specs.Lent.{was};
 ghost use Rattle.rules.specs.Limits.{limits};
-ghost use Rattle.pitvorgas.specs.Answers.{given, Answers};
-ghost use Rattle.depot.specs.Ran.{deviceOf, ranAs};
 use crate::files::load;
 use crate::pages::group_word;
 use crate::pages::page;
@@ -12,23 +9,14 @@ use crate::pages::print;
 use crate::pages::say_group;
 use crate::pages::say_line;
 use depot_outcome::put_run;
+use depot_runs::Run;
+use depot_runs::run_as;
 use depot_usage::Asked;
 use device_description::Scenario;
 use device_description::describe;
-use pitvorgas::pitvorgas_run;
-use pitvorgas::pitvorgas_run_program;
-use pitvorgas_answers::Device;
-use pitvorgas_answers::RunAnswer;
 use rules::controller::Controller;
 use rules::slot_format::IMAGE_BYTES;
 use rules::slot_format::SLOT_BYTES;
-
-// What is run. A program has its group in itself.
-enum Run {
-    Install,
-    Boot,
-    Program,
-}
 
 // There is room for twice as many slots as a run takes, so that the run tells of too many, and for 64 answers.
 const SLOTS_ROOM: usize = 2 * Controller::SLOTS * SLOT_BYTES;
@@ -39,37 +27,6 @@ fn trace_room() -> [u8; Controller::TRACE_BYTES]
     ensures { λ r. ⌜ limits .trace ≡ length r ⌝ }
 {
     [0; Controller::TRACE_BYTES]
-}
-
-fn device_of(d: Scenario) -> Device
-    ensures { λ r. ⌜ r ≡ deviceOf d ⌝ }
-{
-    let vendor = d.vendor;
-    let class = d.class;
-    Device {
-        vendor,
-        class_id: class,
-        number: d.number,
-        event: d.event,
-    }
-}
-
-fn run_as(
-    what: Run,
-    bytes: &[u8],
-    d: Scenario,
-    slots: &mut [u8],
-    answers: &[u8],
-    trace: &mut [u8],
-) -> RunAnswer
-    ensures { λ r. ⌜ Answers (ranAs what (was bytes) (given (d .verdict) (deviceOf d) slots answers trace)) (deviceOf d) slots trace r ⌝ }
-{
-    let device = device_of(d);
-    match what {
-        Run::Install => pitvorgas_run(bytes, false, d.verdict, device, slots, answers, trace),
-        Run::Boot => pitvorgas_run(bytes, true, d.verdict, device, slots, answers, trace),
-        Run::Program => pitvorgas_run_program(bytes, d.verdict, device, slots, answers, trace),
-    }
 }
 
 // Runs the bytes, and prints what the run did or why it was refused.

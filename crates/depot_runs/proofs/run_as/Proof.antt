@@ -1,6 +1,6 @@
 use borrow.Author.Needs.{needs}
-use Rattle.depot.proofs.runs.run_as.Statement.{statement}
-use Rattle.depot.proofs.runs.run_as.Tie as tie
+use Rattle.depot_runs.proofs.run_as.Statement.{statement}
+use Rattle.depot_runs.proofs.run_as.Tie as tie
 
 returns : tie.Need-returns
 returns c =
