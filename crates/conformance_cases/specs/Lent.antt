@@ -8,7 +8,8 @@ use Rattle.text.specs.Text.{ascii, newline}
 use Rattle.rules.specs.Bytes.{Bytes, same}
 use Rattle.pitvorgas_answers.specs.declared.TranslateAnswer.{TranslateAnswer}
 use Rattle.pitvorgas_answers.specs.declared.RunAnswer.{RunAnswer}
-use Rattle.conformance_lines.specs.Lines.{programEnd, eventsEnd, translatedText, ranText}
+use Rattle.conformance_lines.specs.Lines.{programEnd, translatedText}
+use Rattle.conformance_run_lines.specs.Lines.{eventsEnd, ranText}
 
 -- every byte is x
 abbrev pub allAre : ℕ → Bytes → Bool

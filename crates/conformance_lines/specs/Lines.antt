@@ -1,31 +1,17 @@
--- The line of an answer.
-use Prim.Native.Nat.{ℕ, _+_, _*_, _/_}
+-- The lines of check, newer and translate.
+use Prim.Native.Nat.{ℕ, _+_, _*_}
 use mathlib.Core.List.{[], _∷_, _++_}
 use mathlib.Core.Bool.{cond}
 use lib.Dec.{eqb}
 use lib.ListN.{length, getD, take}
-use Rattle.text.specs.Text.{Bytes, ascii, newline, least, hex}
+use Rattle.text.specs.Text.{Bytes, ascii, newline, least}
 use Rattle.text_pieces.specs.Pieces.{lines}
 use Rattle.rules.specs.Bytes.{spanAt}
 use Rattle.rules.specs.Limits.{limits}
-use Rattle.rules.specs.Slots.{slotBytes, imageFrom, slotAt}
-use Rattle.rules.specs.Step.{eventBytes}
 use Rattle.pitvorgas_answers.specs.declared.CheckAnswer.{CheckAnswer}
 use Rattle.pitvorgas_answers.specs.declared.NewerAnswer.{NewerAnswer}
 use Rattle.pitvorgas_answers.specs.declared.TranslateAnswer.{TranslateAnswer}
-use Rattle.pitvorgas_answers.specs.declared.RunAnswer.{RunAnswer}
-use Rattle.conformance_lines.specs.Format.{format}
-
-unfoldable pub refusedText : ℕ → ℕ → Bytes
-refusedText number place = format (ascii "refused % %" ++ newline) (number ∷ place ∷ [])
-
--- bytes in hexadecimal, '-' for none
-unfoldable pub bytesText : Bytes → Bytes
-bytesText b = cond (eqb (length b) 0) (ascii "-") (hex b)
-
--- before item k of a list
-unfoldable pub separator : ℕ → Bytes
-separator k = cond (eqb k 0) [] (ascii ",")
+use Rattle.conformance_format.specs.Format.{format, refusedText, bytesText}
 
 -- the places of component k, behind a space or a comma
 unfoldable pub placeText : Bytes → ℕ → Bytes
@@ -63,30 +49,3 @@ programEnd a room = least (a .length) (length room)
 unfoldable pub translatedText : TranslateAnswer → Bytes → Bytes
 translatedText a room =
     cond (eqb (a .refusal) 0) (programText (take (programEnd a room) room)) (refusedText (a .refusal) (a .place))
-
--- slot k: identifier; capacity, the byte `present` and size; digest
-unfoldable pub nameText : Bytes → ℕ → Bytes
-nameText b k = separator k ++ bytesText (slotAt b k .id)
-
-unfoldable pub imageText : Bytes → ℕ → Bytes
-imageText b k =
-    format (ascii ":%:%:%:") (slotAt b k .capacity ∷ getD b (slotBytes * k + imageFrom) 0 ∷ slotAt b k .size ∷ []) ++ hex (slotAt b k .digest)
-
--- the first n slots
-unfoldable pub slotsText : Bytes → ℕ → Bytes
-slotsText b n = lines (λ k. nameText b k ++ imageText b k) n
-
--- where the events end in the trace
-abbrev pub eventsEnd : ℕ → Bytes → ℕ
-eventsEnd events trace = least (events * eventBytes) (length trace)
-
-unfoldable pub eventsText : ℕ → Bytes → Bytes
-eventsText events trace = ascii " " ++ bytesText (take (eventsEnd events trace) trace) ++ newline
-
-unfoldable pub endText : RunAnswer → Bytes → Bytes → Bytes
-endText a slots trace =
-    format (ascii "end % % % % % ") (a .end ∷ a .place ∷ a .events ∷ a .used ∷ a .number ∷ []) ++ slotsText slots (length slots / slotBytes)
-    ++ eventsText (a .events) trace
-
-unfoldable pub ranText : RunAnswer → Bytes → Bytes → Bytes
-ranText a slots trace = cond (eqb (a .refusal) 0) (endText a slots trace) (refusedText (a .refusal) (a .place))
