@@ -166,8 +166,8 @@ module _ (s : Bytes) (deeper : ℕ → Read Seq) (n m place e at : ℕ) (op : Op
   abbrev Rest : ℕ → Type 0
   Rest c = ((v : ℕ) (p : Words.Params) → opOf s c v p ≡ op) × (coerce ≡ none) × (to ≡ at + 1) × (at < length s)
 
-  rest-nil : (make : Op) (c : ℕ) → ((v : ℕ) (p : Words.Params) → opOf s c v p ≡ make) → Reads (nil make) → Rest c
-  rest-nil make c k q = let y = nil-read make q in ((λ v p. k v p ∙ sym (y .op-is)), y .coerce-is, y .to-is, y .fits)
+  rest-nil : (make : Op) → ((v : ℕ) (p : Words.Params) → opOf s (code make) v p ≡ make) → Reads (nil make) → Rest (code make)
+  rest-nil make k q = let y = nil-read make q in ((λ v p. k v p ∙ sym (y .op-is)), y .coerce-is, y .to-is, y .fits)
 
   rest : (c : ℕ) (r : Row) → rowOf c commands ≡ some r → (1 ≤ c → 3 ≤ c) → (c ≡ setIndexCode → ⊥) → (19 ≤ c → 21 ≤ c) → Reads (r .form) → Rest c
   unfolding opOf
@@ -175,17 +175,17 @@ module _ (s : Bytes) (deeper : ℕ → Read Seq) (n m place e at : ℕ) (op : Op
       each-row (λ c r. (1 ≤ c → 3 ≤ c) → (c ≡ setIndexCode → ⊥) → (19 ≤ c → 21 ≤ c) → Reads (r .form) → Rest c) commands c r
       ((λ i j k q. absurd (omega (arith, i (omega arith))))
       & (λ i j k q. absurd (omega (arith, i (omega arith))))
-      & (λ i j k q. rest-nil imageMatch 3 (λ v p. refl) q)
+      & (λ i j k q. rest-nil imageMatch (λ v p. refl) q)
       & (λ i j k q. absurd (j refl))
-      & (λ i j k q. rest-nil abort 14 (λ v p. refl) q)
+      & (λ i j k q. rest-nil abort (λ v p. refl) q)
       & (λ i j k q. absurd (no-try q))
       & (λ i j k q. absurd (omega (arith, k (omega arith))))
       & (λ i j k q. absurd (omega (arith, k (omega arith))))
-      & (λ i j k q. rest-nil fetch 21 (λ v p. refl) q)
-      & (λ i j k q. rest-nil copy 22 (λ v p. refl) q)
-      & (λ i j k q. rest-nil run 23 (λ v p. refl) q)
+      & (λ i j k q. rest-nil fetch (λ v p. refl) q)
+      & (λ i j k q. rest-nil copy (λ v p. refl) q)
+      & (λ i j k q. rest-nil run (λ v p. refl) q)
       & (λ i j k q. absurd (no-sub q))
-      & (λ i j k q. rest-nil swap 32 (λ v p. refl) q)
+      & (λ i j k q. rest-nil swap (λ v p. refl) q)
       & tt)
 
 module _ (s : Bytes) (c v : ℕ) (p : Words.Params) where
