@@ -1,7 +1,7 @@
 -- What a command that check has accepted tells of its argument.
 use Prim.Native.Nat.{ℕ, _+_, _≤_, _<_}
 use mathlib.Core.Path.{_≡_, refl, sym, ap, _∙_}
-use mathlib.Core.Bool.{Bool}
+use mathlib.Core.Bool.{Bool, true}
 use mathlib.Core.Option.{Option, some, none}
 use lib.Dec.{ltb}
 use lib.ListN.{length}
@@ -16,10 +16,16 @@ use Rattle.rules.specs.Manifest.{Seq, Cmd, one}
 use Rattle.rules.specs.Check.{Read, nothing, number, entries, argument, command, sequenceAt}
 use Rattle.rules.proofs.GotLaws.{passed, both, split, split₂, found-is}
 use Rattle.manifest_accessors.specs.Arguments.{ArgumentAt}
-use Rattle.manifest_accessors.proofs.KindLaws.{CodesOf, codes-of}
+use Rattle.rules.specs.Tables as Tables
+use Rattle.rules_kinds.specs.Kinds.{kindOf}
+use Rattle.rules_kinds.proofs.KindTests.{runs, tries}
 
 pub form-of : (c : ℕ) (r x : Row) → rowOf c commands ≡ some r → rowOf c commands ≡ some x → r .form ≡ x .form
 form-of c r x p q = let same : r ≡ x = cc in rw same
+
+pub kind-is : (c : ℕ) (r : Row) → rowOf c commands ≡ some r → kindOf c ≡ Tables.kindOf (r .form)
+unfolding kindOf
+kind-is c r e = rw e
 
 module _ (s : Bytes) where
   -- a command's row, and its argument
@@ -69,15 +75,15 @@ module _ (s : Bytes) where
         (op (g .params), g .coerce, sym (both q₂ .0))
 
     one-row : (c : ℕ) (r : Row) → rowOf c commands ≡ some r → (c ≡ runSequenceCode → ⊥) → (c ≡ tryEachCode → ⊥) → argument s deeper n m place (r .form) e at ≡ got (cmd, to) → IsOne
-    one-row c r listed a b = go (r .form) (codes-of c r listed)
+    one-row c r listed a b = go (r .form) (kind-is c r listed)
       where
-        go : (f : Form) → CodesOf f c → argument s deeper n m place f e at ≡ got (cmd, to) → IsOne
+        go : (f : Form) → kindOf c ≡ Tables.kindOf f → argument s deeper n m place f e at ≡ got (cmd, to) → IsOne
         go (sixteen op) k = sixteen-one op
         go (nil op) k = nil-one op
         go (below op) k = below-one op
-        go alternatives k = absurd (b k)
+        go alternatives k = absurd (b (tries c (kindOf c) refl true (rw k) refl))
         go (parameters op) k = parameters-one op
-        go sequence k = absurd (a k)
+        go sequence k = absurd (a (runs c (kindOf c) refl true (rw k) refl))
 
   module _ (n section depth m e at : ℕ) (cmd : Cmd) (to : ℕ) (f : e ≤ length s)
       (q₀ : command s (sequenceAt s n section depth) n section m e at ≡ got (cmd, to)) where

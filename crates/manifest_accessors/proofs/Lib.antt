@@ -1,5 +1,4 @@
 pub mod HeadLaws
-pub mod KindLaws
 pub mod ArgumentLaws
 pub mod EntryLaws
 pub mod OneLaws

@@ -30,13 +30,6 @@ use Rattle.manifest_accessors.proofs.ArgumentLaws.{form-of}
 use Rattle.manifest_accessors.proofs.EntryLaws.{Opens, fit-bare, within-bare}
 use Rattle.manifest_accessors.proofs.HeadLaws.{flag-at, item-whole, item-headed, number-headed}
 
-pub one-of-two : (c k : ℕ) → k ≤ c → c < k + 2 → (c ≡ k) ⊎ (c ≡ k + 1)
-one-of-two c k l u = go (eqb c k) refl
-  where
-    go : (b : Bool) → eqb c k ≡ b → (c ≡ k) ⊎ (c ≡ k + 1)
-    go true e = inl (eqb-true c k e)
-    go false e = inr (omega (arith, eqb-false c k e))
-
 row-above : (c : ℕ) (r : Row) → rowOf c commands ≡ some r → 0 < c
 row-above c r =
     each-row (λ c r. 0 < c) commands c r

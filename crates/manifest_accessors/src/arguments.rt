@@ -4,16 +4,14 @@ ghost use Rattle.rules.specs.Lent.{was};
 ghost use Rattle.manifest_accessors.specs.Arguments.{flagOf, bareAt, componentOf};
 ghost use Rattle.manifest_accessors.specs.Arguments.{EntryAt, EntryPut, Entries, EntriesRead, ArgumentAt, ArgumentRead};
 use crate::heads::open;
-use rules::codes::CLASS;
 use rules::codes::COERCE;
 use rules::codes::DIGEST;
-use rules::codes::OVERRIDE_PARAMETERS;
 use rules::codes::SET_INDEX;
-use rules::codes::SET_PARAMETERS;
 use rules::codes::SOURCE;
 use rules::codes::URI;
-use rules::codes::VENDOR;
 use rules::controller::Controller;
+use rules::tables::Argument;
+use rules_kinds::argument_of;
 use run_slots::params::Params;
 
 // Coerce as a number.
@@ -117,25 +115,25 @@ fn read_entries(s: &[u8], k: usize, at: usize) -> Args
     a
 }
 
-// The argument at `at` of the command of that code. The codes of each kind of argument are the table's (proofs/KindLaws).
+// The argument at `at` of the command of that code, by its kind. Sequences and alternatives are no argument of a command that writes an event.
 pub fn read_one(s: &[u8], code: usize, at: usize) -> Args
     requires { ⌜ ArgumentAt (now s) code at ⌝ }
     ensures { λ r. ⌜ ((x : ArgumentAt (was s) code at) → ArgumentRead (was s) code at x r) ⌝ }
 {
-    match code {
-        VENDOR | CLASS => {
+    match argument_of(code) {
+        Argument::Sixteen => {
             let h = open(s, at);
             bare(h.next, h.next + Controller::CLASS_BYTES)
         }
-        SET_INDEX => {
+        Argument::Index => {
             let h = open(s, at);
             bare(h.value, h.next)
         }
-        SET_PARAMETERS | OVERRIDE_PARAMETERS => {
+        Argument::Parameters => {
             let h = open(s, at);
             read_entries(s, h.value, h.next)
         }
-        _ => bare(0, at + 1),
+        Argument::Nil | Argument::Alternatives | Argument::Sequence => bare(0, at + 1),
     }
 }
 

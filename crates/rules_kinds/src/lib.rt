@@ -3,6 +3,13 @@ ghost use mathlib.Core.Path.{_≡_};
 ghost use Rattle.rules.specs.Commands.{commands, rowOf, conditionIn};
 ghost use Rattle.rules.specs.Tables.{byNumber};
 ghost use Rattle.rules_kinds.specs.Kinds.{kindOf, isSequence, isAlternatives};
+use rules::codes::CLASS;
+use rules::codes::OVERRIDE_PARAMETERS;
+use rules::codes::RUN_SEQUENCE;
+use rules::codes::SET_INDEX;
+use rules::codes::SET_PARAMETERS;
+use rules::codes::TRY_EACH;
+use rules::codes::VENDOR;
 use rules::tables::Argument;
 use rules::tables::Listed;
 use rules_tables::Table;
@@ -59,11 +66,20 @@ pub fn holds_alternatives(kind: Argument) -> bool
     }
 }
 
-// For a tool that looks up once.
+// The same without a table at hand: the runs read an argument by it.
 pub fn argument_of(code: usize) -> Argument
     ensures { λ r. ⌜ r ≡ kindOf code ⌝ }
 {
-    kind_of(&tables(), code)
+    match code {
+        VENDOR => Argument::Sixteen,
+        CLASS => Argument::Sixteen,
+        SET_INDEX => Argument::Index,
+        TRY_EACH => Argument::Alternatives,
+        SET_PARAMETERS => Argument::Parameters,
+        OVERRIDE_PARAMETERS => Argument::Parameters,
+        RUN_SEQUENCE => Argument::Sequence,
+        _ => Argument::Nil,
+    }
 }
 
 pub fn condition_of(code: usize) -> bool

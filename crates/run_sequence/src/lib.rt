@@ -4,10 +4,11 @@ use manifest_accessors::arguments::COERCE_FALSE;
 use manifest_accessors::heads::open;
 use manifest_accessors::heads::skip;
 use rules::answers::End;
-use rules::codes::RUN_SEQUENCE;
-use rules::codes::TRY_EACH;
 use rules::controller::Memory;
 use rules::controller::Sixteen;
+use rules_kinds::argument_of;
+use rules_kinds::holds_alternatives;
+use rules_kinds::holds_sequence;
 use run_actions::Progress;
 use run_actions::ended;
 use run_leaf::Run;
@@ -86,7 +87,8 @@ fn run_command(
 {
     let c = open(s, run.next);
     let code = c.value;
-    if code == RUN_SEQUENCE {
+    let kind = argument_of(code);
+    if holds_sequence(kind) {
         let b = open(s, c.next);
         let level = Level {
             depth,
@@ -97,7 +99,7 @@ fn run_command(
         let inner = run_sequence(s, level, from, vendor, class, answers, slots, memory, trace);
         return run_at(run, b.next + b.value, inner, inner.end);
     }
-    if code == TRY_EACH {
+    if holds_alternatives(kind) {
         let h = open(s, c.next);
         let mut p = h.next;
         let mut left = h.value;

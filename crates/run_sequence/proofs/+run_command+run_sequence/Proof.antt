@@ -4,6 +4,7 @@ use mathlib.Core.Path.{_≡_, refl, _∙_}
 use native.Mathlib.Omega.{arith}
 use borrow.Author.Needs.{needs}
 use Rattle.rules.specs.Run.{runSeq, runCmd}
+use Rattle.rules_kinds.proofs.KindTests.{runs, runs-not, tries, tries-not}
 use Rattle.manifest_accessors.specs.Arguments.{isTrue}
 use Rattle.manifest_accessors.proofs.PlaceLaws.{remaining}
 use Rattle.run_leaf.specs.Leaf.{stateOf}
@@ -26,6 +27,9 @@ use Rattle.run_leaf.proofs.leaf.Reads as leaf-reads
 use Rattle.run_leaf.proofs.run_at.Reads as run-at-reads
 use Rattle.run_actions.proofs.ended.Reads as ended-reads
 use Rattle.manifest_accessors.proofs.heads.open.Reads as open-reads
+use Rattle.rules_kinds.proofs.argument_of.Reads as argument-of-reads
+use Rattle.rules_kinds.proofs.holds_sequence.Reads as holds-sequence-reads
+use Rattle.rules_kinds.proofs.holds_alternatives.Reads as holds-alternatives-reads
 use Rattle.manifest_accessors.proofs.heads.skip.Reads as skip-reads
 use Rattle.run_sequence.proofs.+run_command+run_sequence.{statement}
 use Rattle.run_sequence.proofs.+run_command+run_sequence.Tie.{close}
@@ -62,12 +66,18 @@ abbrev run-command-callees : ℕ → run-command-lts.Claims
 run-command-callees t = (
   open-reads.Asked,
   open-reads.Learnt,
+  argument-of-reads.Asked,
+  argument-of-reads.Learnt,
+  holds-sequence-reads.Asked,
+  holds-sequence-reads.Learnt,
   ended-reads.Asked,
   ended-reads.Learnt,
   run-at-reads.Asked,
   run-at-reads.Learnt,
   run-sequence-below t,
   run-sequence.Post,
+  holds-alternatives-reads.Asked,
+  holds-alternatives-reads.Learnt,
   skip-reads.Asked,
   skip-reads.Learnt,
   leaf-reads.Asked,
@@ -96,12 +106,19 @@ abbrev to-entry :
     run-command-lts.Start (run-command-callees t) (run-command-at t) run-command.Post run-command-Inv-loop run-command-μ-loop
 to-entry c = c .before .before .before .before .before
 
+-- back to where the command's code was read, from where its kind was tested
+abbrev to-code :
+    {t : ℕ} →
+    run-command-lts.After-holds-sequence (run-command-callees t) (run-command-at t) run-command.Post run-command-Inv-loop run-command-μ-loop →
+    run-command-lts.After-open (run-command-callees t) (run-command-at t) run-command.Post run-command-Inv-loop run-command-μ-loop
+to-code c = c .before .before
+
 -- back to where the command's code was read, from where the head of its sequence was read
 abbrev sub-to-code :
     {t : ℕ} →
     run-command-lts.After-open2 (run-command-callees t) (run-command-at t) run-command.Post run-command-Inv-loop run-command-μ-loop →
     run-command-lts.After-open (run-command-callees t) (run-command-at t) run-command.Post run-command-Inv-loop run-command-μ-loop
-sub-to-code c = c .before .before
+sub-to-code c = to-code (c .before .before)
 
 -- back to where the run at its sequence was made, from before its sequence is run
 abbrev to-begin :
@@ -124,12 +141,19 @@ abbrev to-ran :
     run-command-lts.After-run-sequence (run-command-callees t) (run-command-at t) run-command.Post run-command-Inv-loop run-command-μ-loop
 to-ran c = c .before .before .before .before .before
 
+-- back to where both kinds were tested, from the head of the loop over the alternatives
+abbrev to-tests :
+    {t : ℕ} →
+    run-command-lts.At-loop (run-command-callees t) (run-command-at t) run-command.Post run-command-Inv-loop run-command-μ-loop →
+    run-command-lts.After-holds-alternatives (run-command-callees t) (run-command-at t) run-command.Post run-command-Inv-loop run-command-μ-loop
+to-tests c = c .before .before .before .before
+
 -- back to where the command's code was read, from the head of the loop over the alternatives
 abbrev turns-to-code :
     {t : ℕ} →
     run-command-lts.At-loop (run-command-callees t) (run-command-at t) run-command.Post run-command-Inv-loop run-command-μ-loop →
     run-command-lts.After-open (run-command-callees t) (run-command-at t) run-command.Post run-command-Inv-loop run-command-μ-loop
-turns-to-code c = c .before .before .before .before .before
+turns-to-code c = to-code (to-tests c .before .before)
 
 -- back to the head of the loop over the alternatives, from where the head of an alternative was read
 abbrev to-turns :
@@ -159,20 +183,38 @@ abbrev to-tried :
     run-command-lts.After-run-sequence2 (run-command-callees t) (run-command-at t) run-command.Post run-command-Inv-loop run-command-μ-loop
 to-tried c = c .before .before .before .before .before
 
+-- back to where the command holds no alternatives either, from before it is run
+abbrev to-other :
+    {t : ℕ} →
+    run-command-lts.After-leaf-arg3 (run-command-callees t) (run-command-at t) run-command.Post run-command-Inv-loop run-command-μ-loop →
+    run-command-lts.Else2 (run-command-callees t) (run-command-at t) run-command.Post run-command-Inv-loop run-command-μ-loop
+to-other c = c .before .before .before
+
 -- back to where the command's code was read, from before a command that holds no sequence is run
 abbrev leaf-to-code :
     {t : ℕ} →
     run-command-lts.After-leaf-arg3 (run-command-callees t) (run-command-at t) run-command.Post run-command-Inv-loop run-command-μ-loop →
     run-command-lts.After-open (run-command-callees t) (run-command-at t) run-command.Post run-command-Inv-loop run-command-μ-loop
-leaf-to-code c = c .before .before .before .before .before
+leaf-to-code c = to-code (to-other c .before .before .before)
 
 run-command-open-requires : (t : ℕ) → run-command-lts.Need-open-requires (run-command-callees t) (run-command-at t) run-command.Post run-command-Inv-loop run-command-μ-loop
 run-command-open-requires t c κs = command-head _ _ _ _ _ _ _ _ _ (c .before .before .before .before .pre .1)
 
+run-command-argument-of-requires : (t : ℕ) → run-command-lts.Need-argument-of-requires (run-command-callees t) (run-command-at t) run-command.Post run-command-Inv-loop run-command-μ-loop
+run-command-argument-of-requires t c κs = search needs
+
+run-command-holds-sequence-requires : (t : ℕ) → run-command-lts.Need-holds-sequence-requires (run-command-callees t) (run-command-at t) run-command.Post run-command-Inv-loop run-command-μ-loop
+run-command-holds-sequence-requires t c κs = search needs
+
+run-command-holds-alternatives-requires : (t : ℕ) → run-command-lts.Need-holds-alternatives-requires (run-command-callees t) (run-command-at t) run-command.Post run-command-Inv-loop run-command-μ-loop
+run-command-holds-alternatives-requires t c κs = search needs
+
 run-command-open-requires-2 : (t : ℕ) → run-command-lts.Need-open-requires-2 (run-command-callees t) (run-command-at t) run-command.Post run-command-Inv-loop run-command-μ-loop
 run-command-open-requires-2 t c κs =
-    let j = to-entry (c .before) .pre .1 in
-    sub-head _ _ _ _ _ _ _ _ _ j _ _ (c .before .«open» .ensures (command-head _ _ _ _ _ _ _ _ _ j)) (c .if1 .taken)
+    let opened = to-code (c .before) in
+    let j = to-entry opened .pre .1 in
+    let taken = runs _ _ (c .before .before .argument-of .ensures) _ (c .before .holds-sequence .ensures) (c .if1 .taken) in
+    sub-head _ _ _ _ _ _ _ _ _ j _ _ (opened .«open» .ensures (command-head _ _ _ _ _ _ _ _ _ j)) taken
 
 run-command-ended-requires : (t : ℕ) → run-command-lts.Need-ended-requires (run-command-callees t) (run-command-at t) run-command.Post run-command-Inv-loop run-command-μ-loop
 run-command-ended-requires t c κs = search needs
@@ -189,7 +231,8 @@ run-command-run-sequence-requires t c κs =
     let opened = sub-to-code sub in
     let (is, j) = to-entry opened .pre in
     let code = opened .«open» .ensures (command-head _ _ _ _ _ _ _ _ _ j) in
-    let taken = sub .before .if1 .taken in
+    let tested = sub .before .before in
+    let taken = runs _ _ (tested .before .argument-of .ensures) _ (tested .holds-sequence .ensures) (sub .before .if1 .taken) in
     let o = sub .open2 .ensures (sub-head _ _ _ _ _ _ _ _ _ j _ _ code taken) in
     let begin = to-begin c in
     sub-asks _ _ _ _ _ _ _ _ _ j _ _ code taken _ _ o _ (begin .before .ended .ensures) _ (begin .run-at .ensures) _ is
@@ -201,7 +244,8 @@ run-command-add-run-at t c =
     let entry = to-entry opened in
     let j = entry .pre .1 in
     let code = opened .«open» .ensures (command-head _ _ _ _ _ _ _ _ _ j) in
-    let taken = sub .before .if1 .taken in
+    let tested = sub .before .before in
+    let taken = runs _ _ (tested .before .argument-of .ensures) _ (tested .holds-sequence .ensures) (sub .before .if1 .taken) in
     let o = sub .open2 .ensures (sub-head _ _ _ _ _ _ _ _ _ j _ _ code taken) in
     omega (arith, entry .good .0, entry .fits, sub-fits _ _ _ _ _ _ _ _ _ j _ _ code taken, o .0, o .1)
 
@@ -221,20 +265,24 @@ run-command-returns t c =
     let sub = begin .before .before in
     λ j.
     let code = sub-to-code sub .«open» .ensures (command-head _ _ _ _ _ _ _ _ _ j) in
-    let taken = sub .before .if1 .taken in
+    let tested = sub .before .before in
+    let taken = runs _ _ (tested .before .argument-of .ensures) _ (tested .holds-sequence .ensures) (sub .before .if1 .taken) in
     let o = sub .open2 .ensures (sub-head _ _ _ _ _ _ _ _ _ j _ _ code taken) in
     sub-ran _ _ _ _ _ _ _ _ _ j _ _ code taken _ _ o _ (begin .before .ended .ensures) _ (begin .run-at .ensures) _ _ _ _ (ran .run-sequence .ensures) _ (c .run-at2 .ensures)
 
 run-command-open-requires-3 : (t : ℕ) → run-command-lts.Need-open-requires-3 (run-command-callees t) (run-command-at t) run-command.Post run-command-Inv-loop run-command-μ-loop
 run-command-open-requires-3 t c κs =
-    let opened = c .before .before in
+    let tests = c .before in
+    let opened = to-code (tests .before .before) in
     let j = to-entry opened .pre .1 in
-    tries-head _ _ _ _ _ _ _ _ _ j _ _ (opened .«open» .ensures (command-head _ _ _ _ _ _ _ _ _ j)) (c .if2 .taken)
+    let taken = tries _ _ (tests .before .before .before .argument-of .ensures) _ (tests .holds-alternatives .ensures) (c .if2 .taken) in
+    tries-head _ _ _ _ _ _ _ _ _ j _ _ (opened .«open» .ensures (command-head _ _ _ _ _ _ _ _ _ j)) taken
 
 run-command-loop-holds : (t : ℕ) → run-command-lts.Need-loop-holds (run-command-callees t) (run-command-at t) run-command.Post run-command-Inv-loop run-command-μ-loop
 run-command-loop-holds t c =
-    let opened = c .before .before .before .before in
-    let taken = c .before .before .if2 .taken in (
+    let tests = c .before .before .before in
+    let opened = to-code (tests .before .before) in
+    let taken = tries _ _ (tests .before .before .before .argument-of .ensures) _ (tests .holds-alternatives .ensures) (c .before .before .if2 .taken) in (
       refl,
       refl,
       λ j.
@@ -258,7 +306,8 @@ run-command-run-sequence-requires-2 t c κs =
     let opened = turns-to-code turns in
     let (is, j) = to-entry opened .pre in
     let code = opened .«open» .ensures (command-head _ _ _ _ _ _ _ _ _ j) in
-    let taken = turns .before .before .before .if2 .taken in
+    let tests = to-tests turns in
+    let taken = tries _ _ (tests .before .before .before .argument-of .ensures) _ (tests .holds-alternatives .ensures) (turns .before .before .before .if2 .taken) in
     let later = tries-later _ _ _ _ _ _ _ _ _ j _ _ code taken _ _ (turns .before .before .open3 .ensures (tries-head _ _ _ _ _ _ _ _ _ j _ _ code taken)) in
     let (_, _, loop, rises) = turns .loop .inv in
     let more = choice .before .loop-test .taken in
@@ -349,7 +398,11 @@ run-command-leaf-requires t c κs =
     let opened = leaf-to-code c in
     let j = to-entry opened .pre .1 in
     let code = opened .«open» .ensures (command-head _ _ _ _ _ _ _ _ _ j) in
-    leaf-job _ _ _ _ _ _ _ _ _ j _ _ code (c .before .before .before .before .if1 .left) (c .before .before .before .if2 .left)
+    let other = to-other c in
+    let tested = other .before .before .before in
+    let no-sub = runs-not _ _ (tested .before .argument-of .ensures) _ (tested .holds-sequence .ensures) (other .before .before .if1 .left) in
+    let no-try = tries-not _ _ (tested .before .argument-of .ensures) _ (other .before .holds-alternatives .ensures) (other .if2 .left) in
+    leaf-job _ _ _ _ _ _ _ _ _ j _ _ code no-sub no-try
 
 run-command-same-length-7 : (t : ℕ) → run-command-lts.Need-same-length-7 (run-command-callees t) (run-command-at t) run-command.Post run-command-Inv-loop run-command-μ-loop
 run-command-same-length-7 t c = search needs
@@ -360,12 +413,13 @@ run-command-same-length-8 t c = search needs
 run-command-returns-4 : (t : ℕ) → run-command-lts.Need-returns-4 (run-command-callees t) (run-command-at t) run-command.Post run-command-Inv-loop run-command-μ-loop
 run-command-returns-4 t c =
     let ran = c .before .before .before .before in
-    let other = ran .before .before .before .before in
+    let other = to-other (ran .before) in
     λ j.
     let code = leaf-to-code (ran .before) .«open» .ensures (command-head _ _ _ _ _ _ _ _ _ j) in
-    let runs-not = other .before .if1 .left in
-    let tries-not = other .if2 .left in
-    leaf-ran _ _ _ _ _ _ _ _ _ j _ _ code runs-not tries-not _ _ _ _ (ran .leaf .ensures (leaf-job _ _ _ _ _ _ _ _ _ j _ _ code runs-not tries-not))
+    let tested = other .before .before .before in
+    let no-sub = runs-not _ _ (tested .before .argument-of .ensures) _ (tested .holds-sequence .ensures) (other .before .before .if1 .left) in
+    let no-try = tries-not _ _ (tested .before .argument-of .ensures) _ (other .before .holds-alternatives .ensures) (other .if2 .left) in
+    leaf-ran _ _ _ _ _ _ _ _ _ j _ _ code no-sub no-try _ _ _ _ (ran .leaf .ensures (leaf-job _ _ _ _ _ _ _ _ _ j _ _ code no-sub no-try))
 
 abbrev run-sequence-Inv-loop : run-sequence-lts.InvT-loop
 run-sequence-Inv-loop s level vendor class answers slots₀ memory₀ trace₀ left₀ now₀ slots memory trace left now =
@@ -484,6 +538,8 @@ pub +run-command+run-sequence-spec : {M : Type 1} → statement M
     run-command-Inv-loop
     run-command-μ-loop
     (run-command-open-requires t)
+    (run-command-argument-of-requires t)
+    (run-command-holds-sequence-requires t)
     (run-command-open-requires-2 t)
     (run-command-ended-requires t)
     (run-command-run-at-requires t)
@@ -493,6 +549,7 @@ pub +run-command+run-sequence-spec : {M : Type 1} → statement M
     (run-command-same-length t)
     (run-command-same-length-2 t)
     (run-command-returns t)
+    (run-command-holds-alternatives-requires t)
     (run-command-open-requires-3 t)
     (run-command-ended-requires-2 t)
     (run-command-loop-holds t)
