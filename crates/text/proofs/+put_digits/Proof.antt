@@ -68,7 +68,8 @@ put-digits-returns-3 t c =
     let more = put .before .before .before .before .before in
     let two = more .before .before in
     let a = two .before .before .before .args in
-    rw (digits-more (a .k) (a .n) (two .before .if1 .left) (two .if2 .left), ← put .before .digit2 .ensures) (wrote-then (more .put-digits .ensures) (put .put-byte2 .ensures))
+    let last = rw (put .before .digit2 .ensures) at (put .put-byte2 .ensures) in
+    rw (digits-more (a .k) (a .n) (two .before .if1 .left) (two .if2 .left)) (wrote-then (more .put-digits .ensures) last)
 
 pub +put-digits-spec : {M : Type 1} → statement M
 +put-digits-spec = close μ-put-digits λ t. put-digits-lts.spec (put-digits-callees t) (put-digits-at t) put-digits.Post
