@@ -24,7 +24,7 @@ use Rattle.pitvorgas_answers.specs.Inputs.{controllerOf, groupOf}
 use Rattle.pitvorgas.specs.Answers.{checkedOf, newerOf, translatedOf, roomAfter, ranOf}
 use Rattle.conformance_cases.specs.Fields.{groupFrom, verdictFrom, traceFrom, fillFrom, runHead, isSet, stringEnd, deviceOf}
 use Rattle.conformance_lines.specs.Lines.{checkedText, newerText}
-use Rattle.conformance_cases.specs.Lent.{roomFill, translationLine, ranLine}
+use Rattle.conformance_lent.specs.Lent.{roomFill, translationLine, ranLine}
 
 unfoldable pub malformedText : Bytes
 malformedText = ascii "malformed" ++ newline

@@ -9,7 +9,6 @@ ghost use Rattle.conformance_cases.specs.Cases.{malformedText, lineOf, j
 
 mod fields;
 mod jobs;
-mod lent;
 
 use byte_buffer::two;
 use fields::RUN_HEAD;

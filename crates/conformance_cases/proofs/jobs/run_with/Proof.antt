@@ -1,7 +1,20 @@
-use Rattle.conformance_cases.proofs.LentLaws.{wrote-whole}
+use Prim.Native.Nat.{ℕ}
+use mathlib.Core.Path.{_≡_, _∙_}
+use mathlib.Core.List.{append-nil}
+use native.Mathlib.Omega.{arith}
+use native.Mathlib.Nat.{zero-add}
+use lib.ListN.{length, drop-of-length-le}
+use lib.Seq.{sets-eq}
+use Rattle.rules.specs.Bytes.{Bytes}
+use Rattle.text.specs.Text.{Wrote}
 use borrow.Author.Needs.{needs}
 use Rattle.conformance_cases.proofs.jobs.run_with.Statement.{statement}
 use Rattle.conformance_cases.proofs.jobs.run_with.Tie as tie
+
+-- bytes that were written over all of a room
+wrote-whole : {b : Bytes} {room : Bytes} {r : ℕ} {room′ : Bytes} → length room ≡ length b → Wrote b 0 room r room′ → room′ ≡ b
+wrote-whole {b} {room} e w =
+    w .filled ∙ sets-eq b room 0 (omega arith) ∙ rw (zero-add (length b), drop-of-length-le room {i = length b} (omega arith)) (append-nil b)
 
 -- back to where the memory was known, from where the first text was put
 abbrev to-known : tie.After-put → tie.After-slice-known

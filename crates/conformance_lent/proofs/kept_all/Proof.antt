@@ -1,7 +1,7 @@
 use borrow.Author.Tests.{not-true, not-false, eq-eqb, ne-eqb}
-use Rattle.conformance_cases.specs.Lent.{keptAll}
-use Rattle.conformance_cases.proofs.lent.kept_all.Statement.{statement}
-use Rattle.conformance_cases.proofs.lent.kept_all.Tie as tie
+use Rattle.conformance_lent.specs.Lent.{keptAll}
+use Rattle.conformance_lent.proofs.kept_all.Statement.{statement}
+use Rattle.conformance_lent.proofs.kept_all.Tie as tie
 
 returns : tie.Need-returns
 unfolding keptAll

@@ -3,11 +3,11 @@ use Prim.Native.Nat.{_-_}
 use mathlib.Core.Path.{_≡_, refl, sym, _∙_}
 use native.Mathlib.Omega.{arith}
 use lib.ListN.{length, drop}
-use Rattle.conformance_cases.specs.Lent.{allAre}
-use Rattle.conformance_cases.proofs.LentLaws.{are-next, are-stop, are-end}
+use Rattle.conformance_lent.specs.Lent.{allAre}
+use Rattle.conformance_lent.proofs.LentLaws.{are-next, are-stop, are-end}
 use borrow.Author.Needs.{needs}
-use Rattle.conformance_cases.proofs.lent.all_are.Statement.{statement}
-use Rattle.conformance_cases.proofs.lent.all_are.Tie as tie
+use Rattle.conformance_lent.proofs.all_are.Statement.{statement}
+use Rattle.conformance_lent.proofs.all_are.Tie as tie
 
 abbrev Inv-loop : tie.InvT-loop
 Inv-loop b at x i₀ i = allAre x (drop at b) ≡ allAre x (drop i b)

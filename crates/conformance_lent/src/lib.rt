@@ -3,7 +3,7 @@ ghost use mathlib.Core.Path.{_≡_};
 ghost use lib.ListN.{length, drop, replicate};
 ghost use Rattle.rules.specs.Lent.{was, left};
 ghost use Rattle.text.specs.Text.{Writes};
-ghost use Rattle.conformance_cases.specs.Lent.{allAre, alteredText, translationLine, keptAll, ranLine};
+ghost use Rattle.conformance_lent.specs.Lent.{allAre, alteredText, translationLine, keptAll, ranLine};
 use byte_buffer::is;
 use conformance_lines::put_translated;
 use conformance_run_lines::events_end;
@@ -14,16 +14,16 @@ use text::least;
 use text::put;
 
 // What a room is filled with.
-pub(crate) const ROOM_FILL: u8 = 160;
+pub const ROOM_FILL: u8 = 160;
 
 // Bytes for a length of two bytes; what they are does not matter.
-pub(crate) fn memory() -> [u8; 65536]
+pub fn memory() -> [u8; 65536]
     ensures { λ r. ⌜ 65536 ≡ length r ⌝ }
 {
     [0; 65536]
 }
 
-pub(crate) fn fill(b: &mut [u8], x: u8)
+pub fn fill(b: &mut [u8], x: u8)
     ensures { λ _. ⌜ left b ≡ replicate (length (was b)) x ⌝ }
 {
     let mut i = 0;
@@ -56,7 +56,7 @@ fn put_altered(room: &mut [u8], at: usize, kept: bool) -> usize
     put(room, at, b"altered\n")
 }
 
-pub(crate) fn put_translation(room: &mut [u8], answer: TranslateAnswer, lent: &[u8]) -> usize
+pub fn put_translation(room: &mut [u8], answer: TranslateAnswer, lent: &[u8]) -> usize
     ensures { λ r. ⌜ Writes (translationLine answer (was lent)) 0 room r ⌝ }
 {
     let end = least(answer.length, lent.len());
@@ -78,7 +78,7 @@ fn kept_all(answer: RunAnswer, before: &[u8], slots: &[u8], fill: u8, trace: &[u
     is(before, slots)
 }
 
-pub(crate) fn put_run(
+pub fn put_run(
     room: &mut [u8],
     answer: RunAnswer,
     before: &[u8],

@@ -3,10 +3,10 @@ use Prim.Native.Nat.{_-_, _≤_}
 use mathlib.Core.Path.{_≡_, refl, _∙_}
 use native.Mathlib.Omega.{arith}
 use lib.ListN.{length, length-set}
-use Rattle.conformance_cases.proofs.LentLaws.{filled, fill-start, fill-next, fill-end}
+use Rattle.conformance_lent.proofs.LentLaws.{filled, fill-start, fill-next, fill-end}
 use borrow.Author.Needs.{needs}
-use Rattle.conformance_cases.proofs.lent.fill.Statement.{statement}
-use Rattle.conformance_cases.proofs.lent.fill.Tie as tie
+use Rattle.conformance_lent.proofs.fill.Statement.{statement}
+use Rattle.conformance_lent.proofs.fill.Tie as tie
 
 abbrev Inv-loop : tie.InvT-loop
 Inv-loop b₀ x i₀ b i = (i ≤ length b₀) × (length b ≡ length b₀) × (b ≡ filled b₀ x i)

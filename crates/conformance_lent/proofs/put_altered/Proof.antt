@@ -1,8 +1,8 @@
-use Rattle.conformance_cases.specs.Lent.{alteredText}
+use Rattle.conformance_lent.specs.Lent.{alteredText}
 use Rattle.text.proofs.TextLaws.{wrote-none}
 use borrow.Author.Needs.{needs}
-use Rattle.conformance_cases.proofs.lent.put_altered.Statement.{statement}
-use Rattle.conformance_cases.proofs.lent.put_altered.Tie as tie
+use Rattle.conformance_lent.proofs.put_altered.Statement.{statement}
+use Rattle.conformance_lent.proofs.put_altered.Tie as tie
 
 returns : tie.Need-returns
 unfolding alteredText

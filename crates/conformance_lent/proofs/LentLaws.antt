@@ -1,17 +1,15 @@
--- Bytes that are filled, compared and copied.
+-- Bytes that are filled and compared.
 use Prim.Native.Nat.{ℕ, zero, suc, _+_, _≤_, _<_}
-use mathlib.Core.Path.{_≡_, refl, ap, _∙_}
+use mathlib.Core.Path.{_≡_, refl, ap}
 use mathlib.Core.List.{_∷_, _++_, append-nil}
 use mathlib.Core.Bool.{true, false}
 use native.Mathlib.Omega.{arith}
-use native.Mathlib.Nat.{zero-add}
 use native.Mathlib.Numerals.{add-one}
 use borrow.Author.Tests.{eq-eqb, ne-eqb}
 use lib.ListN.{length, getD, set, drop, replicate, length-replicate, drop-of-length-le}
-use lib.Seq.{sets-eq, set-at, drop-cons}
-use Rattle.text.specs.Text.{Wrote}
+use lib.Seq.{set-at, drop-cons}
 use Rattle.rules.specs.Bytes.{Bytes}
-use Rattle.conformance_cases.specs.Lent.{allAre}
+use Rattle.conformance_lent.specs.Lent.{allAre}
 
 module _ (b : Bytes) (x : ℕ) where
   -- b with x over its first i bytes
@@ -43,8 +41,3 @@ module _ (b : Bytes) (x : ℕ) where
 
   pub are-end : (i : ℕ) → length b ≤ i → allAre x (drop i b) ≡ true
   are-end i h = rw (drop-of-length-le b h)
-
--- bytes that were written over all of a room
-pub wrote-whole : {b : Bytes} {room : Bytes} {r : ℕ} {room′ : Bytes} → length room ≡ length b → Wrote b 0 room r room′ → room′ ≡ b
-wrote-whole {b} {room} e w =
-    w .filled ∙ sets-eq b room 0 (omega arith) ∙ rw (zero-add (length b), drop-of-length-le room {i = length b} (omega arith)) (append-nil b)

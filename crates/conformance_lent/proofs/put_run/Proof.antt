@@ -1,8 +1,8 @@
 use Rattle.text.proofs.TextLaws.{wrote-then}
-use Rattle.conformance_cases.specs.Lent.{ranLine}
+use Rattle.conformance_lent.specs.Lent.{ranLine}
 use borrow.Author.Needs.{needs}
-use Rattle.conformance_cases.proofs.lent.put_run.Statement.{statement}
-use Rattle.conformance_cases.proofs.lent.put_run.Tie as tie
+use Rattle.conformance_lent.proofs.put_run.Statement.{statement}
+use Rattle.conformance_lent.proofs.put_run.Tie as tie
 
 returns : tie.Need-returns
 unfolding ranLine

@@ -1,8 +1,8 @@
 use Rattle.text.proofs.TextLaws.{wrote-then}
-use Rattle.conformance_cases.specs.Lent.{translationLine}
+use Rattle.conformance_lent.specs.Lent.{translationLine}
 use borrow.Author.Needs.{needs}
-use Rattle.conformance_cases.proofs.lent.put_translation.Statement.{statement}
-use Rattle.conformance_cases.proofs.lent.put_translation.Tie as tie
+use Rattle.conformance_lent.proofs.put_translation.Statement.{statement}
+use Rattle.conformance_lent.proofs.put_translation.Tie as tie
 
 returns : tie.Need-returns
 unfolding translationLine
