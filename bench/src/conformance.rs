@@ -3,6 +3,7 @@
 mod coverage;
 mod examples;
 pub mod form;
+mod head;
 pub mod own;
 mod sheet;
 #[cfg(test)]
@@ -15,7 +16,8 @@ use crate::gen::Case;
 use crate::jobs::Reading;
 use crate::tally::Reached;
 use crate::vectors::{pairs, parse, show};
-use own::Own;
+use form::Asked;
+use own::{Own, OwnHead};
 
 /// Where a case comes from.
 #[derive(Clone, Copy, Debug)]
@@ -66,7 +68,10 @@ impl Collection {
         let cases = form::decode(&self.stdin).ok_or("cases that do not read back")?;
         let mut stdout = String::new();
         for case in &cases {
-            stdout += &show(case, &answer(&Reading, case))?;
+            stdout += &match case {
+                Asked::Job(case) => show(case, &answer(&Reading, case))?,
+                Asked::Head(case) => case.show(),
+            };
             stdout.push('\n');
         }
         let same = stdout == self.stdout;
@@ -82,7 +87,9 @@ impl Collection {
             let case = parse(&text).ok_or(format!("not a case: {text}"))?;
             self.add_written(Origin::Sheet, &case, &line)?;
         }
-        own::own().iter().try_for_each(|own| self.add_own(own))
+        own::own().iter().try_for_each(|own| self.add_own(own))?;
+        let heads = own::own_heads();
+        heads.iter().try_for_each(|own| self.add_head(own))
     }
 
     /// Adds a case whose answer is written, if the form takes it.
@@ -113,15 +120,36 @@ impl Collection {
         Ok(())
     }
 
+    fn add_head(&mut self, own: &OwnHead) -> Result<(), String> {
+        let OwnHead {
+            shows,
+            wanted,
+            case,
+        } = own;
+        let line = case.show();
+        if line != *wanted {
+            return Err(format!("{shows}: {line}, not {wanted}\n{case:?}"));
+        }
+        let bytes = form::encode_head(case).ok_or(format!("{shows}: not in the form"))?;
+        self.write(Origin::Own, bytes, &line);
+        self.coverage.add_head(case.answer());
+        self.coverage.show(shows);
+        Ok(())
+    }
+
     fn put(&mut self, origin: Origin, case: &Case, answer: &Answer, line: &str) -> bool {
         let Some(bytes) = form::encode(case) else {
             return false;
         };
+        self.write(origin, bytes, line);
+        self.coverage.add(case, answer);
+        true
+    }
+
+    fn write(&mut self, origin: Origin, bytes: Vec<u8>, line: &str) {
         self.stdin.extend(bytes);
         self.stdout += line;
         self.stdout.push('\n');
-        self.coverage.add(case, answer);
         self.counts[origin as usize] += 1;
-        true
     }
 }

@@ -17,6 +17,7 @@ mod table;
 mod tests;
 mod translate;
 
+pub use cbor::{head_at, Head};
 pub use check::{check, Manifest};
 pub use components::Components;
 pub use newer::newer;

@@ -8,11 +8,11 @@ use std::fmt;
 
 use crate::answer::Answer;
 use crate::gen::Case;
-use crate::reading::Group;
+use crate::reading::{Group, Head, Refusal};
 use crate::tally::Reached;
 use rows::{LIMITS, RULES};
 
-const COLUMNS: [&str; 8] = [
+const COLUMNS: [&str; 9] = [
     "check",
     "newer",
     "translate install",
@@ -21,6 +21,7 @@ const COLUMNS: [&str; 8] = [
     "run boot",
     "program install",
     "program boot",
+    "head",
 ];
 const NEWER: &[usize] = &[1];
 const TRANSLATIONS: &[usize] = &[2, 3];
@@ -29,6 +30,7 @@ const RUNS: &[usize] = &[4, 5, 6, 7];
 const INSTALLS: &[usize] = &[4, 6];
 const BOOTS: &[usize] = &[5, 7];
 const PROGRAMS: &[usize] = &[6, 7];
+const HEADS: &[usize] = &[8];
 const RESULTS: [u8; 9] = [0, 1, 32, 33, 34, 35, 36, 37, 38];
 
 #[derive(Default)]
@@ -40,13 +42,24 @@ pub struct Coverage {
 
 impl Coverage {
     pub fn add(&mut self, case: &Case, answer: &Answer) {
-        let counts = self.answers.entry(Reached::by(answer)).or_default();
-        counts[column(case)] += 1;
+        self.count(column(case), Reached::by(answer));
         if let Answer::Run { answer, trace, .. } = answer {
             for event in trace.chunks(8).take(answer.events) {
                 *self.results.entry(event[6]).or_default() += 1;
             }
         }
+    }
+
+    pub fn add_head(&mut self, answer: Result<Head, Refusal>) {
+        let reached = match answer {
+            Ok(_) => Reached::Accepted,
+            Err(refusal) => Reached::Refused(refusal.number.into()),
+        };
+        self.count(HEADS[0], reached);
+    }
+
+    fn count(&mut self, column: usize, reached: Reached) {
+        self.answers.entry(reached).or_default()[column] += 1;
     }
 
     /// Counts a case for what it shows.
@@ -80,7 +93,11 @@ impl Coverage {
 
 /// The answers that must be there, each with its columns.
 fn required() -> Vec<(Reached, &'static [usize])> {
-    let mut rows = vec![(Reached::Accepted, &CHECKED[..3])];
+    let mut rows = vec![
+        (Reached::Accepted, &CHECKED[..3]),
+        (Reached::Accepted, HEADS),
+        (Reached::Refused(65), HEADS),
+    ];
     for reached in [Reached::First, Reached::Second, Reached::Neither] {
         rows.push((reached, NEWER));
     }

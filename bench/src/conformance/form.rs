@@ -1,6 +1,7 @@
 //! The compact form of cases: one after the other, each a length and that many
 //! bytes, which are a job and its fields. Numbers are big-endian.
 
+use super::head::HeadCase;
 use crate::gen::{Case, World};
 use crate::reading::{Device, Group};
 
@@ -9,6 +10,14 @@ const NEWER: u8 = 2;
 const TRANSLATE: u8 = 3;
 const RUN: u8 = 4;
 const RUN_PROGRAM: u8 = 5;
+const HEAD: u8 = 6;
+
+/// What a case asks for.
+#[derive(Clone, Debug)]
+pub enum Asked {
+    Job(Case),
+    Head(HeadCase),
+}
 
 /// A case in the compact form, or nothing where the form does not take it.
 pub fn encode(case: &Case) -> Option<Vec<u8>> {
@@ -33,6 +42,11 @@ pub fn encode(case: &Case) -> Option<Vec<u8>> {
         }
     };
     string(&fields)
+}
+
+pub fn encode_head(case: &HeadCase) -> Option<Vec<u8>> {
+    let place = case.place.to_be_bytes();
+    string(&[&[HEAD], &place[..], &case.envelope].concat())
 }
 
 fn group_byte(group: Group) -> u8 {
@@ -74,7 +88,7 @@ fn trace(trace: &[u8]) -> Option<[u8; 3]> {
 }
 
 /// The cases that stand in these bytes.
-pub fn decode(mut bytes: &[u8]) -> Option<Vec<Case>> {
+pub fn decode(mut bytes: &[u8]) -> Option<Vec<Asked>> {
     let mut cases = Vec::new();
     while !bytes.is_empty() {
         let length = usize::from(number(&mut bytes)?);
@@ -83,9 +97,23 @@ pub fn decode(mut bytes: &[u8]) -> Option<Vec<Case>> {
     Some(cases)
 }
 
-fn decode_fields(mut fields: &[u8]) -> Option<Case> {
+fn decode_fields(mut fields: &[u8]) -> Option<Asked> {
+    let [job] = take(&mut fields)?;
+    if job == HEAD {
+        return decode_head(fields).map(Asked::Head);
+    }
+    decode_job(job, fields).map(Asked::Job)
+}
+
+fn decode_head(mut fields: &[u8]) -> Option<HeadCase> {
+    Some(HeadCase {
+        place: number(&mut fields)?,
+        envelope: fields.to_vec(),
+    })
+}
+
+fn decode_job(job: u8, mut fields: &[u8]) -> Option<Case> {
     let rest = &mut fields;
-    let [job] = take(rest)?;
     Some(match job {
         CHECK => Case::Check {
             envelope: rest.to_vec(),

@@ -11,6 +11,7 @@ mod malformed;
 mod nesting;
 mod newer;
 mod programs;
+mod reader;
 mod room;
 mod scene;
 mod setting;
@@ -18,6 +19,8 @@ mod table;
 #[cfg(test)]
 mod tests;
 mod values;
+
+pub use reader::{own_heads, OwnHead};
 
 use crate::gen::Case;
 use crate::tally::Reached;

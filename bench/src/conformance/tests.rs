@@ -1,5 +1,6 @@
-use super::form::{decode, encode};
-use super::own::own;
+use super::form::{decode, encode, encode_head};
+use super::head::HeadCase;
+use super::own::{own, own_heads};
 use super::{Collection, Coverage, Origin};
 use crate::gen::{Case, World};
 use crate::hex;
@@ -81,6 +82,18 @@ fn runs() {
 }
 
 #[test]
+fn heads() {
+    let head = |place, envelope: &[u8]| {
+        let envelope = envelope.to_vec();
+        encode_head(&HeadCase { place, envelope }).map(|bytes| hex::encode(&bytes))
+    };
+    assert_eq!(head(0, &[]).as_deref(), Some("0003060000"));
+    assert_eq!(head(258, &[0xa2, 1]).as_deref(), Some("0005060102a201"));
+    assert!(head(0, &[0; 65_532]).is_some());
+    assert_eq!(head(0, &[0; 65_533]), None);
+}
+
+#[test]
 fn what_the_form_does_not_take() {
     let run = |world| {
         encoded(&Case::RunProgram {
@@ -104,10 +117,16 @@ fn cases_read_back() {
     for own in own() {
         let bytes = encode(&own.case).expect("in the form");
         let cases = decode(&bytes).expect("a case");
-        assert_eq!(format!("{cases:?}"), format!("[{:?}]", own.case));
+        assert_eq!(format!("{cases:?}"), format!("[Job({:?})]", own.case));
+    }
+    for own in own_heads() {
+        let bytes = encode_head(&own.case).expect("in the form");
+        let cases = decode(&bytes).expect("a case");
+        assert_eq!(format!("{cases:?}"), format!("[Head({:?})]", own.case));
     }
     assert!(decode(&[0, 2, 1]).is_none());
-    assert!(decode(&[0, 1, 6]).is_none());
+    assert!(decode(&[0, 2, 6, 0]).is_none());
+    assert!(decode(&[0, 1, 7]).is_none());
 }
 
 #[test]

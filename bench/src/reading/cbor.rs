@@ -15,6 +15,22 @@ pub enum Kind {
     Nil,
 }
 
+impl Kind {
+    /// The major type; of false, true and nil, the simple value.
+    fn code(self) -> usize {
+        match self {
+            Kind::Number => 0,
+            Kind::Bytes => 2,
+            Kind::Text => 3,
+            Kind::Array => 4,
+            Kind::Map => 5,
+            Kind::False => 20,
+            Kind::True => 21,
+            Kind::Nil => 22,
+        }
+    }
+}
+
 /// The head of an item: its number is a value, a length or a count.
 #[derive(Clone, Copy, Debug)]
 pub struct Item {
@@ -164,6 +180,27 @@ impl<'a> Reader<'a> {
     pub fn finish(&self) -> Result<(), Refusal> {
         Fault::NotCbor.unless(self.position == self.end, self.position)
     }
+}
+
+/// A head by itself: false, true and nil have the number 0.
+#[derive(Clone, Copy, Debug, PartialEq, Eq)]
+pub struct Head {
+    pub kind: usize,
+    pub number: u32,
+    pub next: usize,
+}
+
+/// The head at a place of an envelope. Content need not fit, and past the end
+/// there is no head.
+pub fn head_at(envelope: &[u8], place: usize) -> Result<Head, Refusal> {
+    let rest = envelope.get(place..).unwrap_or_default();
+    let (kind, number, size) = head(rest).ok_or(Fault::NotCbor.at(place))?;
+    let simple = matches!(kind, Kind::False | Kind::True | Kind::Nil);
+    Ok(Head {
+        kind: kind.code(),
+        number: if simple { 0 } else { number },
+        next: place + size,
+    })
 }
 
 /// The kind, number and size of a well-formed head.

@@ -5,7 +5,8 @@
 --          3 translate:      group, 0 for install; the room's length (2); the envelope
 --          4 run:            head (42); string slots; string answers; the envelope
 --          5 run a program:  the same, and the program
--- A string is its length in 2 bytes and that many bytes. Fields has the layout of a head.
+--          6 head:           place (2); the envelope
+-- A string is its length in 2 bytes and that many bytes. Fields has the layout of a run's head.
 use Prim.Native.Nat.{ℕ, _-_}
 use mathlib.Core.List.{_++_}
 use mathlib.Core.Bool.{Bool, true, false, cond}
@@ -14,16 +15,19 @@ use lib.ListN.{length, getD, take, drop, replicate}
 use Rattle.text.specs.Text.{ascii, newline}
 use Rattle.rules.specs.Bytes.{Bytes, twoAt}
 use Rattle.rules.specs.Got.{Got}
+use Rattle.rules.specs.Cbor as Cbor
 use Rattle.rules.specs.Check as Check
 use Rattle.rules.specs.Newer as Newer
 use Rattle.rules.specs.Run.{Ran, runEnvelope}
 use Rattle.rules.specs.Program as Program
 use Rattle.rules.specs.ProgramRun.{runProgram}
+use Rattle.cbor_reader.specs.declared.Read.{Read}
+use Rattle.cbor_reader.specs.Read.{readOf}
 use Rattle.run_admission.specs.Answer.{inputOf, slotsAfter, traceAfter}
 use Rattle.pitvorgas_answers.specs.Inputs.{controllerOf, groupOf}
 use Rattle.pitvorgas.specs.Answers.{checkedOf, newerOf, translatedOf, roomAfter, ranOf}
 use Rattle.conformance_cases.specs.Fields.{groupFrom, verdictFrom, traceFrom, fillFrom, runHead, isSet, stringEnd, deviceOf}
-use Rattle.conformance_lines.specs.Lines.{checkedText, newerText}
+use Rattle.conformance_lines.specs.Lines.{checkedText, newerText, headText}
 use Rattle.conformance_lent.specs.Lent.{roomFill, translationLine, ranLine}
 
 unfoldable pub malformedText : Bytes
@@ -58,6 +62,13 @@ runFilled program head slots answers s n =
 unfoldable pub runLine : Bool → Bytes → Bytes → Bytes → Bytes → Bytes
 runLine program head slots answers s = runFilled program head slots answers s (twoAt head traceFrom)
 
+-- a head that was read, and what of s is left after it
+abbrev pub headRead : Bytes → Read → Bytes
+headRead s h = headText h (length s - h .next)
+
+unfoldable pub headLine : Bytes → ℕ → Bytes
+headLine s place = headRead s (readOf (Cbor.head s (length s) place))
+
 unfoldable pub newerCase : Bytes → Bytes
 newerCase b =
     cond (eqb (stringEnd b) 0) malformedText (newerLine (take (stringEnd b - 2) (drop 2 b)) (drop (stringEnd b) b))
@@ -77,11 +88,15 @@ runSlots program head b =
 unfoldable pub runCase : Bool → Bytes → Bytes
 runCase program b = cond (ltb (length b) runHead) malformedText (runSlots program (take runHead b) (drop runHead b))
 
+unfoldable pub headCase : Bytes → Bytes
+headCase b = cond (ltb (length b) 2) malformedText (headLine (drop 2 b) (twoAt b 0))
+
 unfoldable pub jobLine : ℕ → Bytes → Bytes
 jobLine job b =
     cond (eqb job 1) (checkLine b)
     (cond (eqb job 2) (newerCase b)
-    (cond (eqb job 3) (translateCase b) (cond (eqb job 4) (runCase false b) (cond (eqb job 5) (runCase true b) malformedText))))
+    (cond (eqb job 3) (translateCase b)
+    (cond (eqb job 4) (runCase false b) (cond (eqb job 5) (runCase true b) (cond (eqb job 6) (headCase b) malformedText)))))
 
 unfoldable pub lineOf : Bytes → Bytes
 lineOf c = cond (eqb (length c) 0) malformedText (jobLine (getD c 0 0) (drop 1 c))

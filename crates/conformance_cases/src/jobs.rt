@@ -6,19 +6,22 @@ ghost use Rattle.rules.specs.Lent.{was};
 ghost use Rattle.text.specs.Text.{Writes};
 ghost use Rattle.pitvorgas.specs.Answers.{Answers};
 ghost use Rattle.conformance_cases.specs.Fields.{runHead, deviceOf};
-ghost use Rattle.conformance_cases.specs.Cases.{checkLine, newerLine, translateLine, ranBy, runFilled, runLine};
+ghost use Rattle.conformance_cases.specs.Cases.{checkLine, newerLine, translateLine, ranBy, runFilled, runLine, headLine};
 use crate::fields::FILL;
 use crate::fields::GROUP;
 use crate::fields::TRACE;
 use crate::fields::VERDICT;
 use crate::fields::device_of;
 use byte_buffer::two;
+use cbor_reader::head_at;
+use cbor_reader::left_at;
 use conformance_lent::ROOM_FILL;
 use conformance_lent::fill;
 use conformance_lent::memory;
 use conformance_lent::put_run;
 use conformance_lent::put_translation;
 use conformance_lines::put_checked;
+use conformance_lines::put_head;
 use conformance_lines::put_newer;
 use pitvorgas::pitvorgas_check;
 use pitvorgas::pitvorgas_newer;
@@ -124,4 +127,13 @@ pub(crate) fn run_line(
         &mut trace[..length],
         room,
     )
+}
+
+// The head at a place of an envelope, and what is left after it.
+pub(crate) fn head_line(envelope: &[u8], place: usize, room: &mut [u8]) -> usize
+    ensures { λ r. ⌜ Writes (headLine (was envelope) place) 0 room r ⌝ }
+{
+    let head = head_at(envelope, place);
+    let left = left_at(envelope, head.next);
+    put_head(room, 0, head, left)
 }

@@ -5,7 +5,7 @@ ghost use lib.ListN.{length};
 ghost use Rattle.rules.specs.Lent.{was};
 ghost use Rattle.text.specs.Text.{Writes};
 ghost use Rattle.conformance_cases.specs.Fields.{runHead};
-ghost use Rattle.conformance_cases.specs.Cases.{malformedText, lineOf, jobLine, newerCase, translateCase, runCase, runSlots, runAnswers};
+ghost use Rattle.conformance_cases.specs.Cases.{malformedText, lineOf, jobLine, newerCase, translateCase, runCase, runSlots, runAnswers, headCase};
 
 mod fields;
 mod jobs;
@@ -14,6 +14,7 @@ use byte_buffer::two;
 use fields::RUN_HEAD;
 use fields::string_end;
 use jobs::check_line;
+use jobs::head_line;
 use jobs::newer_line;
 use jobs::run_line;
 use jobs::translate_line;
@@ -29,7 +30,11 @@ const RUN: u8 = 4;
 
 const RUN_PROGRAM: u8 = 5;
 
+const HEAD: u8 = 6;
+
 const TRANSLATE_HEAD: usize = 3;
+
+const PLACE_BYTES: usize = 2;
 
 fn put_malformed(room: &mut [u8]) -> usize
     ensures { λ r. ⌜ Writes malformedText 0 room r ⌝ }
@@ -88,6 +93,15 @@ fn run_case(program: bool, b: &[u8], room: &mut [u8]) -> usize
     run_slots(program, &b[..RUN_HEAD], &b[RUN_HEAD..], room)
 }
 
+fn head_case(b: &[u8], room: &mut [u8]) -> usize
+    ensures { λ r. ⌜ Writes (headCase (was b)) 0 room r ⌝ }
+{
+    if b.len() < PLACE_BYTES {
+        return put_malformed(room);
+    }
+    head_line(&b[PLACE_BYTES..], two(b, 0), room)
+}
+
 fn job_line(job: u8, b: &[u8], room: &mut [u8]) -> usize
     ensures { λ r. ⌜ Writes (jobLine job (was b)) 0 room r ⌝ }
 {
@@ -105,6 +119,9 @@ fn job_line(job: u8, b: &[u8], room: &mut [u8]) -> usize
     }
     if job == RUN_PROGRAM {
         return run_case(true, b, room);
+    }
+    if job == HEAD {
+        return head_case(b, room);
     }
     put_malformed(room)
 }

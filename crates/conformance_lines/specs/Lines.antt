@@ -1,4 +1,4 @@
--- The lines of check, newer and translate.
+-- The lines of check, newer, translate and a head.
 use Prim.Native.Nat.{ℕ, _+_, _*_}
 use mathlib.Core.List.{[], _∷_, _++_}
 use mathlib.Core.Bool.{cond}
@@ -8,6 +8,7 @@ use Rattle.text.specs.Text.{Bytes, ascii, newline, least}
 use Rattle.text_pieces.specs.Pieces.{lines}
 use Rattle.rules.specs.Bytes.{spanAt}
 use Rattle.rules.specs.Limits.{limits}
+use Rattle.cbor_reader.specs.declared.Read.{Read}
 use Rattle.pitvorgas_answers.specs.declared.CheckAnswer.{CheckAnswer}
 use Rattle.pitvorgas_answers.specs.declared.NewerAnswer.{NewerAnswer}
 use Rattle.pitvorgas_answers.specs.declared.TranslateAnswer.{TranslateAnswer}
@@ -49,3 +50,9 @@ programEnd a room = least (a .length) (length room)
 unfoldable pub translatedText : TranslateAnswer → Bytes → Bytes
 translatedText a room =
     cond (eqb (a .refusal) 0) (programText (take (programEnd a room) room)) (refusedText (a .refusal) (a .place))
+
+-- a head, and how many bytes are left after it
+unfoldable pub headText : Read → ℕ → Bytes
+headText h left =
+    cond (eqb (h .refusal) 0) (format (ascii "head % % % %" ++ newline) (h .kind ∷ h .number ∷ h .next ∷ left ∷ []))
+    (refusedText (h .refusal) (h .next))

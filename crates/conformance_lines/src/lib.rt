@@ -1,10 +1,11 @@
-// The lines of check, newer and translate.
+// The lines of check, newer, translate and a head.
 ghost use Prim.Native.Nat.{_<_};
 ghost use Rattle.rules.specs.Lent.{was};
 ghost use Rattle.text.specs.Text.{Writes};
 ghost use Rattle.rules.specs.Limits.{limits};
 ghost use Rattle.conformance_lines.specs.Lines.{placeText, placesText, sectionsText};
-ghost use Rattle.conformance_lines.specs.Lines.{acceptedText, checkedText, newerText, programText, translatedText};
+ghost use Rattle.conformance_lines.specs.Lines.{acceptedText, checkedText, newerText, programText, translatedText, headText};
+use cbor_reader::Read;
 use conformance_format::NEWLINE;
 use conformance_format::number_at;
 use conformance_format::put_bytes;
@@ -110,4 +111,19 @@ pub fn put_translated(room: &mut [u8], at: usize, answer: TranslateAnswer, lent:
         return put_program(room, at, &lent[..n]);
     }
     put_refused(room, at, answer.refusal, answer.place)
+}
+
+// A head, and how many bytes are left after it; of a refused head, the refusal alone.
+pub fn put_head(room: &mut [u8], at: usize, head: Read, left: usize) -> usize
+    ensures { λ r. ⌜ Writes (headText head left) at room r ⌝ }
+{
+    if head.refusal == 0 {
+        return put_format(
+            room,
+            at,
+            b"head % % % %\n",
+            &[head.kind, head.number, head.next, left],
+        );
+    }
+    put_refused(room, at, head.refusal, head.next)
 }

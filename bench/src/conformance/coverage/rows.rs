@@ -1,6 +1,6 @@
 //! The limits and rules that own cases must be there for.
 
-pub const LIMITS: [&str; 84] = [
+pub const LIMITS: [&str; 89] = [
     "envelope of 4,096 bytes",
     "envelope of 4,097 bytes",
     "no component",
@@ -85,9 +85,14 @@ pub const LIMITS: [&str; 84] = [
     "source in a program",
     "digest in a program",
     "size in a program",
+    "head: 0 to 23",
+    "head: 24 to 255",
+    "head: 256 to 65,535",
+    "head: 65,536 to 4,294,967,295",
+    "head: number of 8 bytes",
 ];
 
-pub const RULES: [&str; 63] = [
+pub const RULES: [&str; 75] = [
     "E cut short",
     "head not shortest",
     "not CBOR",
@@ -151,4 +156,16 @@ pub const RULES: [&str; 63] = [
     "code of its own group",
     "code of the other group",
     "parameters of a program",
+    "head: false, true and nil",
+    "head: not shortest",
+    "head: reserved",
+    "head: indefinite length",
+    "head: negative number",
+    "head: tag",
+    "head: other simple value",
+    "head: float",
+    "head: cut short",
+    "head: in a row of heads",
+    "head: at the last byte",
+    "head: at the end and past it",
 ];

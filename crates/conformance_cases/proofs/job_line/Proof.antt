@@ -52,14 +52,30 @@ returns-5 c =
 returns-6 : tie.Need-returns-6
 unfolding jobLine
 returns-6 c =
-    let put-malformed = c .before .before in
-    let if5 = put-malformed .before .before in
+    let head-case = c .before .before in
+    let if6 = head-case .before .before in
+    let if5 = if6 .before in
     let if4 = if5 .before in
     let if3 = if4 .before in
     let if2 = if3 .before in
     let if1 = if2 .before in
-    rw (ne-eqb _ _ (if1 .if1 .left), ne-eqb _ _ (if2 .if2 .left), ne-eqb _ _ (if3 .if3 .left), ne-eqb _ _ (if4 .if4 .left), ne-eqb _ _ (if5 .if5 .left)) (put-malformed .put-malformed .ensures)
+    rw (ne-eqb _ _ (if1 .if1 .left), ne-eqb _ _ (if2 .if2 .left), ne-eqb _ _ (if3 .if3 .left), ne-eqb _ _ (if4 .if4 .left), ne-eqb _ _ (if5 .if5 .left), eq-eqb _ _ (if6 .if6 .taken))
+    (head-case .head-case .ensures)
+
+returns-7 : tie.Need-returns-7
+unfolding jobLine
+returns-7 c =
+    let put-malformed = c .before .before in
+    let if6 = put-malformed .before .before in
+    let if5 = if6 .before in
+    let if4 = if5 .before in
+    let if3 = if4 .before in
+    let if2 = if3 .before in
+    let if1 = if2 .before in
+    rw (ne-eqb _ _ (if1 .if1 .left), ne-eqb _ _ (if2 .if2 .left), ne-eqb _ _ (if3 .if3 .left), ne-eqb _ _ (if4 .if4 .left), ne-eqb _ _ (if5 .if5 .left), ne-eqb _ _ (if6 .if6 .left))
+    (put-malformed .put-malformed .ensures)
 
 pub job-line-spec : {M : Type 1} → statement M
 job-line-spec = tie.close (tie.spec (λ c κs. tt) (λ c. search needs) returns (λ c κs. tt) (λ c. search needs) returns-2 (λ c κs. tt) (λ c. search needs)
-    returns-3 (λ c κs. tt) (λ c. search needs) returns-4 (λ c κs. tt) (λ c. search needs) returns-5 (λ c κs. tt) (λ c. search needs) returns-6)
+    returns-3 (λ c κs. tt) (λ c. search needs) returns-4 (λ c κs. tt) (λ c. search needs) returns-5 (λ c κs. tt) (λ c. search needs) returns-6 (λ c κs. tt)
+    (λ c. search needs) returns-7)
