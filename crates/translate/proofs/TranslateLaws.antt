@@ -27,13 +27,14 @@ use Rattle.manifest_accessors.proofs.AcceptedLaws.{known, envelope-short, insid
 use Rattle.translate_size.specs.declared.sizes.Size.{Size}
 use Rattle.translate.specs.declared.Translated.the-variants.{Refused, Program}
 use Rattle.translate_size.specs.Size.{most}
-use Rattle.translate_record.specs.Record.{written, Filled}
+use Rattle.translate_argument.specs.Argument.{Filled}
+use Rattle.translate_record.specs.Record.{written}
 use Rattle.translate.specs.Sections.{SectionsHere, SectionsSized, SectionsJob}
 use Rattle.translate_start.specs.Start.{startBytes}
 use Rattle.translate.specs.Translate.{Translates}
 use Rattle.rules.proofs.BytesLaws.{length-part}
 use Rattle.byte_buffer.proofs.PutLaws.{put-append}
-use Rattle.translate_record.proofs.FillLaws.{filled-length}
+use Rattle.translate_argument.proofs.FillLaws.{filled-length}
 
 id-short : (ids : List Bytes) (k : ℕ) → GoodIds ids → k < length ids → length (getD ids k []) ≤ limits .identifier
 id-short [] k g h = absurd (omega arith)

@@ -10,7 +10,6 @@ ghost use Rattle.rules.specs.Limits.{limits};
 ghost use Rattle.rules.specs.Tables.{byNumber};
 ghost use Rattle.rules.specs.ProgramFormat.{NONE, recordSize};
 ghost use Rattle.translate_record.specs.Record.{headBytes, JumpWrote, LeafJob, LeafWrites};
-use crate::argument::put_argument;
 use byte_buffer::put_u16;
 use manifest_accessors::arguments::component;
 use manifest_accessors::arguments::read_one;
@@ -21,6 +20,7 @@ use rules::program_format::RECORD_BYTES;
 use rules_kinds::is_condition;
 use rules_tables::Table;
 use run_slots::params::either;
+use translate_argument::put_argument;
 
 // Where the next command is, the index and coerce of the sequence, the number of the next record, and its place in the room.
 pub struct WriteState {

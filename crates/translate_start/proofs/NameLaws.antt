@@ -9,7 +9,7 @@ use Rattle.rules.specs.ProgramFormat.{nameSize}
 use Rattle.rules.specs.Program.{idBytes}
 use Rattle.run_slot_search.specs.Search.{namesAt}
 use Rattle.run_slot_search.proofs.SearchLaws.{leftAt, left-turn, left-end, left-all}
-use Rattle.translate_record.specs.Record.{Filled}
+use Rattle.translate_argument.specs.Argument.{Filled}
 use Rattle.rules.proofs.BytesLaws.{length-part}
 use Rattle.byte_buffer.proofs.PutLaws.{put-append}
 

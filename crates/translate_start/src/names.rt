@@ -7,7 +7,7 @@ ghost use Rattle.rules.specs.Bytes.{Bytes, part, InBytes};
 ghost use Rattle.rules.specs.Limits.{limits};
 ghost use Rattle.rules.specs.ProgramFormat.{nameSize};
 ghost use Rattle.rules.specs.Program.{idBytes};
-ghost use Rattle.translate_record.specs.Record.{Filled};
+ghost use Rattle.translate_argument.specs.Argument.{Filled};
 ghost use Rattle.translate_start.specs.Names.{nameRecords, NamesFit};
 use byte_buffer::copy;
 use rules::controller::Places;

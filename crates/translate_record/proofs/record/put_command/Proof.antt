@@ -1,6 +1,6 @@
 use native.Mathlib.Omega.{arith}
 use borrow.Author.Needs.{needs}
-use Rattle.translate_record.proofs.FillLaws.{filled-length}
+use Rattle.translate_argument.proofs.FillLaws.{filled-length}
 use Rattle.translate_record.proofs.RecordLaws.{leaf-code, leaf-small, leaf-fit, leaf-room, leaf-inside, leaf-wrote}
 use Rattle.translate_record.proofs.record.put_command.Statement.{statement}
 use Rattle.translate_record.proofs.record.put_command.Tie as tie

@@ -8,7 +8,7 @@ use Rattle.rules.specs.Bytes.{Bytes, put, be2}
 use Rattle.rules.specs.ProgramFormat.{mark, codeFrom, componentFrom, placeFrom, targetFrom, argumentFrom}
 use Rattle.byte_buffer.proofs.PutLaws.{in-a-row}
 use Rattle.translate_record.specs.Record.{headBytes}
-use Rattle.translate_record.proofs.FillLaws.{put-then, put-length}
+use Rattle.translate_argument.proofs.FillLaws.{put-then, put-length}
 use Rattle.translate_record.proofs.record.put_head.Statement.{statement}
 use Rattle.translate_record.proofs.record.put_head.Tie as tie
 

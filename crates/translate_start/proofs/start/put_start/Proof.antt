@@ -9,7 +9,7 @@ use Rattle.rules.specs.Answers.{groupNumber}
 use Rattle.rules.specs.Bytes.{Bytes, put, be2, be4}
 use Rattle.rules.specs.ProgramFormat.{mark, START, codeFrom, groupFrom, numberFrom, componentsFrom, recordsFrom}
 use Rattle.byte_buffer.proofs.PutLaws.{in-a-row}
-use Rattle.translate_record.proofs.FillLaws.{put-then, put-length}
+use Rattle.translate_argument.proofs.FillLaws.{put-then, put-length}
 use Rattle.translate_start.specs.Start.{startBytes}
 use Rattle.translate_start.proofs.start.put_start.Statement.{statement}
 use Rattle.translate_start.proofs.start.put_start.Tie as tie

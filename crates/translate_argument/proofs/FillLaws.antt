@@ -11,7 +11,7 @@ use Rattle.rules.specs.ProgramFormat.{entrySize}
 use Rattle.rules.specs.Program.{entry}
 use Rattle.run_slots.specs.Params.{optional}
 use Rattle.byte_buffer.proofs.PutLaws.{put-append}
-use Rattle.translate_record.specs.Record.{Filled}
+use Rattle.translate_argument.specs.Argument.{Filled}
 
 -- what is put after bytes that were put
 pub put-then : (room : Bytes) (to : ℕ) (a b : Bytes) (room₁ room₂ : Bytes) → room₁ ≡ put room to a → room₂ ≡ put room₁ (to + length a) b → room₂ ≡ put room to (a ++ b)

@@ -5,11 +5,11 @@ use lib.ListN.{length, length-set}
 use borrow.Author.Needs.{needs}
 use Rattle.rules.specs.ProgramFormat.{entrySize, sourceBytes}
 use Rattle.byte_buffer.proofs.PutLaws.{in-a-row}
-use Rattle.translate_record.proofs.FillLaws.{unset-filled, set-fits, set-filled}
-use Rattle.translate_record.proofs.argument.put_source.Statement.{statement}
-use Rattle.translate_record.proofs.argument.put_source.Tie as tie
-use Rattle.translate_record.proofs.argument.put_source.Reads as reads
-use Rattle.translate_record.proofs.argument.put_source.Lts as lts
+use Rattle.translate_argument.proofs.FillLaws.{unset-filled, set-fits, set-filled}
+use Rattle.translate_argument.proofs.put_source.Statement.{statement}
+use Rattle.translate_argument.proofs.put_source.Tie as tie
+use Rattle.translate_argument.proofs.put_source.Reads as reads
+use Rattle.translate_argument.proofs.put_source.Lts as lts
 
 returns : tie.Need-returns
 returns c = unset-filled 10 (λ n. n ∷ []) _ _ _ _ (c .if1 .taken)

@@ -8,11 +8,11 @@ use Rattle.rules.specs.Bytes.{be4}
 use Rattle.rules.specs.ProgramFormat.{entrySize, sizeBytes}
 use Rattle.byte_buffer.proofs.PutLaws.{in-a-row}
 use Rattle.byte_buffer.proofs.put_u32.Reads as put-u32-reads
-use Rattle.translate_record.proofs.FillLaws.{unset-filled, set-fits, set-filled, length-kept}
-use Rattle.translate_record.proofs.argument.put_size.Statement.{statement}
-use Rattle.translate_record.proofs.argument.put_size.Tie as tie
-use Rattle.translate_record.proofs.argument.put_size.Reads as reads
-use Rattle.translate_record.proofs.argument.put_size.Lts as lts
+use Rattle.translate_argument.proofs.FillLaws.{unset-filled, set-fits, set-filled, length-kept}
+use Rattle.translate_argument.proofs.put_size.Statement.{statement}
+use Rattle.translate_argument.proofs.put_size.Tie as tie
+use Rattle.translate_argument.proofs.put_size.Reads as reads
+use Rattle.translate_argument.proofs.put_size.Lts as lts
 
 -- back to the entry, from where there is a size
 abbrev to-entry : tie.Else1 → tie.Start

@@ -4,10 +4,10 @@ use native.Mathlib.Omega.{arith}
 use borrow.Author.Needs.{needs}
 use Rattle.rules.proofs.BytesLaws.{length-part}
 use Rattle.rules_kinds.proofs.KindLaws.{sixteen-codes, parameter-codes, nil-codes, index-codes, alternative-codes, sequence-codes}
-use Rattle.translate_record.proofs.FillLaws.{filled-none}
-use Rattle.translate_record.proofs.RecordLaws.{sixteen-bytes, sixteen-filled, params-bytes, no-bytes}
-use Rattle.translate_record.proofs.argument.put_argument.Statement.{statement}
-use Rattle.translate_record.proofs.argument.put_argument.Tie as tie
+use Rattle.translate_argument.proofs.FillLaws.{filled-none}
+use Rattle.translate_argument.proofs.ArgumentLaws.{sixteen-bytes, sixteen-filled, params-bytes, no-bytes}
+use Rattle.translate_argument.proofs.put_argument.Statement.{statement}
+use Rattle.translate_argument.proofs.put_argument.Tie as tie
 
 -- back to the entry, from where the kind was read
 abbrev to-entry : tie.After-kind-of → tie.Start

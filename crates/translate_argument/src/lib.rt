@@ -7,7 +7,7 @@ ghost use Rattle.rules.specs.Bytes.{be4};
 ghost use Rattle.rules.specs.Program.{entry, paramBytes};
 ghost use Rattle.run_slots.specs.Params.{optional, meaning, Fit};
 ghost use Rattle.manifest_accessors.specs.Arguments.{Within};
-ghost use Rattle.translate_record.specs.Record.{Filled, stringEntry, argumentOf, ArgumentFits};
+ghost use Rattle.translate_argument.specs.Argument.{Filled, stringEntry, argumentOf, ArgumentFits};
 ghost use Rattle.rules.specs.Commands.{sourceKey, sizeKey};
 use byte_buffer::copy;
 use byte_buffer::put_u32;
@@ -83,7 +83,7 @@ fn put_parameters(s: &[u8], a: Args, room: &mut [u8], to: usize) -> usize
 }
 
 // The argument of the command of that code, by its kind in the table.
-pub(crate) fn put_argument(
+pub fn put_argument(
     s: &[u8],
     table: &Table,
     code: usize,

@@ -8,11 +8,11 @@ use Rattle.rules.specs.Bytes.{part}
 use Rattle.rules.specs.ProgramFormat.{entrySize}
 use Rattle.rules.proofs.BytesLaws.{length-part}
 use Rattle.byte_buffer.proofs.PutLaws.{in-a-row}
-use Rattle.translate_record.proofs.FillLaws.{unset-filled, set-fits, set-filled, length-kept}
-use Rattle.translate_record.proofs.argument.put_string.Statement.{statement}
-use Rattle.translate_record.proofs.argument.put_string.Tie as tie
-use Rattle.translate_record.proofs.argument.put_string.Reads as reads
-use Rattle.translate_record.proofs.argument.put_string.Lts as lts
+use Rattle.translate_argument.proofs.FillLaws.{unset-filled, set-fits, set-filled, length-kept}
+use Rattle.translate_argument.proofs.put_string.Statement.{statement}
+use Rattle.translate_argument.proofs.put_string.Tie as tie
+use Rattle.translate_argument.proofs.put_string.Reads as reads
+use Rattle.translate_argument.proofs.put_string.Lts as lts
 use Rattle.byte_buffer.proofs.copy.Reads as copy-reads
 
 -- back to the entry, from where there is a string

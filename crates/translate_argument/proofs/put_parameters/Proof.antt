@@ -1,9 +1,9 @@
 use native.Mathlib.Omega.{arith}
 use borrow.Author.Needs.{needs}
-use Rattle.translate_record.proofs.FillLaws.{filled-length}
-use Rattle.translate_record.proofs.RecordLaws.{params-length, params-filled}
-use Rattle.translate_record.proofs.argument.put_parameters.Statement.{statement}
-use Rattle.translate_record.proofs.argument.put_parameters.Tie as tie
+use Rattle.translate_argument.proofs.FillLaws.{filled-length}
+use Rattle.translate_argument.proofs.ArgumentLaws.{params-length, params-filled}
+use Rattle.translate_argument.proofs.put_parameters.Statement.{statement}
+use Rattle.translate_argument.proofs.put_parameters.Tie as tie
 
 -- back to the entry, from where the URI was written
 abbrev to-entry : tie.After-put-string → tie.Start
