@@ -1,4 +1,2 @@
-pub mod PlanLaws
-pub mod SectionLaws
 pub mod TranslateLaws
 pub mod TranslatedLaws

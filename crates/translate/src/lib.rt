@@ -13,13 +13,12 @@ use rules::controller::SectionPlaces;
 use rules::program_format::RECORD_BYTES;
 use rules::program_format::START_BYTES;
 use rules_tables::tables;
-use sections::size_sections;
-use sections::write_sections;
+use translate_sections::size_sections;
+use translate_sections::write_sections;
 use translate_start::names::size_names;
 use translate_start::names::write_names;
 use translate_start::start::put_start;
 
-mod sections;
 // A refusal with its place, or how long the program is.
 pub enum Translated {
     Refused(Refusal, usize),

@@ -5,10 +5,10 @@ use lib.ListN.{length}
 use borrow.Author.Needs.{needs}
 use Rattle.rules.specs.Limits.{sectionCount}
 use Rattle.manifest_accessors.specs.Arguments.{coerceFalse}
-use Rattle.translate.specs.Sections.{SectionsJob}
-use Rattle.translate.proofs.SectionLaws.{Writing, writing-starts, writing-done, writing-job, writing-on}
-use Rattle.translate.proofs.sections.write_sections.Statement.{statement}
-use Rattle.translate.proofs.sections.write_sections.Tie as tie
+use Rattle.translate_sections.specs.Sections.{SectionsJob}
+use Rattle.translate_sections.proofs.SectionLaws.{Writing, writing-starts, writing-done, writing-job, writing-on}
+use Rattle.translate_sections.proofs.write_sections.Statement.{statement}
+use Rattle.translate_sections.proofs.write_sections.Tie as tie
 
 abbrev Inv-loop : tie.InvT-loop
 Inv-loop s table group sections to room₀ now₀ k₀ room now k =

@@ -22,9 +22,9 @@ use Rattle.translate_record.specs.declared.record.WriteState.{WriteState}
 use Rattle.translate_size.specs.Size.{most, SequenceHere, SequenceSized}
 use Rattle.translate_record.specs.Record.{written, Wrote}
 use Rattle.translate_sequence.specs.Write.{SequenceJob, SequenceWrote}
-use Rattle.translate.specs.Sections.{SectionsHere, SectionsSized, startOf}
+use Rattle.translate_sections.specs.Sections.{SectionsHere, SectionsSized, startOf}
 use Rattle.manifest_accessors.proofs.SectionPlaces.{Wanted}
-use Rattle.translate.proofs.PlanLaws.{PlanAt, seqsOf, plan-start, plan-end, Skipped, skip, Taken, take}
+use Rattle.translate_sections.proofs.PlanLaws.{PlanAt, seqsOf, plan-start, plan-end, Skipped, skip, Taken, take}
 use Rattle.translate_sequence.proofs.WriteLaws.{bytes-seq, wrote-none, wrote-then, same-room}
 
 size-first : (a : Seq) (xs : List Seq) → (sizeAll (a ∷ xs) ≡ size a + sizeAll xs) × (argSizeAll (a ∷ xs) ≡ argSize a + argSizeAll xs)

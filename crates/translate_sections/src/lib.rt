@@ -6,8 +6,8 @@ ghost use Rattle.rules.specs.Limits.{limits};
 ghost use Rattle.rules.specs.Run.{planOf};
 ghost use Rattle.translate_size.specs.Size.{SequenceHere};
 ghost use Rattle.translate_sequence.specs.Write.{SequenceJob};
-ghost use Rattle.translate.specs.Sections.{SectionsHere, SectionsSized, SectionsJob, startOf};
-ghost use Rattle.translate.specs.Sections.{SectionSizes, SectionWrites, SectionsWrite};
+ghost use Rattle.translate_sections.specs.Sections.{SectionsHere, SectionsSized, SectionsJob, startOf};
+ghost use Rattle.translate_sections.specs.Sections.{SectionSizes, SectionWrites, SectionsWrite};
 use manifest_accessors::arguments::COERCE_FALSE;
 use manifest_accessors::sections::wanted;
 use rules::answers::Group;
@@ -37,7 +37,7 @@ fn size_section(s: &[u8], table: &Table, wanted: bool, from: usize) -> Size
 }
 
 // The size of the group's sections, from the places that check reported.
-pub(crate) fn size_sections(s: &[u8], table: &Table, group: Group, sections: &SectionPlaces) -> Size
+pub fn size_sections(s: &[u8], table: &Table, group: Group, sections: &SectionPlaces) -> Size
     requires { ⌜ SectionsHere (now s) (now table) (now sections) ⌝ }
     ensures { λ r. ⌜ ((j : SectionsHere (was s) (was table) (was sections)) → SectionsSized (planOf group (j .manifest)) r) ⌝ }
 {
@@ -95,7 +95,7 @@ fn write_section(
 }
 
 // The records of the group's sections, written from `to` on.
-pub(crate) fn write_sections(
+pub fn write_sections(
     s: &[u8],
     table: &Table,
     group: Group,

@@ -2,8 +2,8 @@ use mathlib.Core.Path.{refl}
 use borrow.Author.Needs.{needs}
 use borrow.Author.Tests.{not-true, not-false}
 use Rattle.manifest_accessors.proofs.SectionPlaces.{one-answer}
-use Rattle.translate.proofs.sections.write_section.Statement.{statement}
-use Rattle.translate.proofs.sections.write_section.Tie as tie
+use Rattle.translate_sections.proofs.write_section.Statement.{statement}
+use Rattle.translate_sections.proofs.write_section.Tie as tie
 
 skip : tie.Need-returns
 skip c = ((λ w. one-answer _ w (not-true _ (c .if1 .taken))), λ w. (refl, refl))

@@ -2,10 +2,10 @@ use Prim.Native.Nat.{_-_}
 use native.Mathlib.Omega.{arith}
 use borrow.Author.Needs.{needs}
 use Rattle.rules.specs.Limits.{sectionCount}
-use Rattle.translate.specs.Sections.{SectionsHere}
-use Rattle.translate.proofs.SectionLaws.{Sizing, sizing-starts, sizing-done, sizing-job, sizing-on, sizing-adds}
-use Rattle.translate.proofs.sections.size_sections.Statement.{statement}
-use Rattle.translate.proofs.sections.size_sections.Tie as tie
+use Rattle.translate_sections.specs.Sections.{SectionsHere}
+use Rattle.translate_sections.proofs.SectionLaws.{Sizing, sizing-starts, sizing-done, sizing-job, sizing-on, sizing-adds}
+use Rattle.translate_sections.proofs.size_sections.Statement.{statement}
+use Rattle.translate_sections.proofs.size_sections.Tie as tie
 
 abbrev Inv-loop : tie.InvT-loop
 Inv-loop s table group sections now₀ k₀ now k = (j : SectionsHere s table sections) → Sizing s table group sections j k now
