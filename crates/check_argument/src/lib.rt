@@ -20,8 +20,8 @@ use rules::controller::Controller;
 use rules::tables::Argument;
 use rules::tables::Known;
 use rules::tables::Parameter;
+use rules_lookup::look_up_parameter;
 use rules_tables::Table;
-use rules_tables::look_up_parameter;
 
 // A number: the place after it, and its value.
 pub fn number(s: &[u8], end: usize, at: usize) -> Reading

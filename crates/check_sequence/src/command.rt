@@ -15,8 +15,8 @@ use rules::answers::Refusal;
 use rules::codes;
 use rules::controller::Controller;
 use rules::tables::Listed;
+use rules_lookup::look_up;
 use rules_tables::Table;
-use rules_tables::look_up;
 
 // Whether a set of sections has the one with that key; common's sequence goes by the key of common.
 fn has_section(sections: u8, section: usize) -> bool

@@ -19,7 +19,7 @@ use rules::tables::Argument;
 use rules::tables::Known;
 use rules::tables::Parameter;
 use rules_kinds::argument_of;
-use rules_tables::look_up_parameter;
+use rules_lookup::look_up_parameter;
 use rules_tables::tables;
 use text::put;
 use text::put_decimal;

@@ -21,9 +21,9 @@ use Rattle.rules.specs.ProgramFormat.{mark, JUMP, NONE, codeFrom, componentFrom
 use Rattle.rules.specs.ProgramTest.{need, opIn, groupAllows, recordIn}
 use Rattle.rules.proofs.BytesLaws.{num-2}
 use Rattle.rules.proofs.GotLaws.{and-true}
-use Rattle.rules_tables.specs.declared.Entry.{Entry}
-use Rattle.rules_tables.specs.Entry.{entryOf}
-use Rattle.rules_tables.proofs.LookUpLaws.{no-row}
+use Rattle.rules_lookup.specs.declared.Entry.{Entry}
+use Rattle.rules_lookup.specs.Entry.{entryOf}
+use Rattle.rules_lookup.proofs.LookUpLaws.{no-row}
 use Rattle.program_arguments.specs.Arguments.{allowsIn, targetFits}
 use Rattle.program_arguments.proofs.FormLaws.{op-code}
 use Rattle.program_arguments.proofs.ArgumentLaws.{row-allows, targeted}

@@ -22,8 +22,8 @@ use rules::program_format::MARK_2;
 use rules::program_format::PLACE;
 use rules::program_format::RECORD_BYTES;
 use rules::program_format::TARGET;
+use rules_lookup::entry_at;
 use rules_tables::Table;
-use rules_tables::entry_at;
 
 // The place after the record at `at`; 0 if its bytes do not lie in p or its mark is not there.
 pub fn record_end(p: &[u8], at: usize) -> usize

@@ -10,7 +10,7 @@ use Rattle.rules.specs.declared.tables.Argument.{Argument}
 use Rattle.rules.specs.declared.tables.Argument.the-variants.{Sixteen, Nil, Index, Alternatives, Parameters, Sequence}
 use Rattle.rules.specs.Commands.{commands, among, vendorCode, classCode, setIndexCode, tryEachCode, setParametersCode, overrideCode, runSequenceCode}
 use Rattle.rules.specs.Tables.{codes, values}
-use Rattle.rules_tables.proofs.LookUpLaws.{agree, no-row}
+use Rattle.rules_lookup.proofs.LookUpLaws.{agree, no-row}
 use Rattle.rules_kinds.specs.Kinds.{kindOf}
 use Rattle.rules_kinds.specs.Kinds.{isSequence, isAlternatives}
 

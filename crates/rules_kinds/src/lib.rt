@@ -12,8 +12,8 @@ use rules::codes::TRY_EACH;
 use rules::codes::VENDOR;
 use rules::tables::Argument;
 use rules::tables::Listed;
+use rules_lookup::look_up;
 use rules_tables::Table;
-use rules_tables::look_up;
 use rules_tables::tables;
 
 // The kind of the argument; nil where the code is not listed.

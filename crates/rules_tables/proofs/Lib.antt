@@ -1,1 +1,1 @@
-pub mod LookUpLaws
+pub mod StoreLaws

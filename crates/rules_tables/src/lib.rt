@@ -3,16 +3,12 @@ ghost use mathlib.Core.Path.{_≡_};
 ghost use mathlib.Core.List.{[], map};
 ghost use Prim.Native.Nat.{_≤_, _<_};
 ghost use Rattle.rules.specs.declared.tables.Listed.the-variants as L;
-ghost use Rattle.rules.specs.Commands.{commands, rowOf, params, paramOf};
-ghost use Rattle.rules.specs.Tables.{asCommand, asParameterRow, listed, known, argumentNumber, argumentAt, parameterNumber, knownAt};
-ghost use Rattle.rules.specs.Tables.{codes, bitOf, packed, tableOf, byNumber};
-ghost use Rattle.rules_tables.specs.Entry.{unpacked, entryOf};
+ghost use Rattle.rules.specs.Commands.{commands, params};
+ghost use Rattle.rules.specs.Tables.{asCommand, asParameterRow, argumentNumber, parameterNumber, bitOf, packed, tableOf, byNumber};
 use rules::codes;
 use rules::controller::Controller;
 use rules::tables::Argument;
 use rules::tables::Command;
-use rules::tables::Known;
-use rules::tables::Listed;
 use rules::tables::Parameter;
 use rules::tables::ParameterRow;
 
@@ -23,7 +19,7 @@ const ROWS: usize = 13;
 
 pub const CODES: usize = codes::SWAP + 1;
 
-const KEYS: usize = codes::SIZE + 1;
+pub const KEYS: usize = codes::SIZE + 1;
 
 const ENTRIES: usize = CODES + KEYS;
 
@@ -162,19 +158,6 @@ fn argument_number(argument: Argument) -> u16
     }
 }
 
-fn argument_at(number: u16) -> Argument
-    ensures { λ r. ⌜ r ≡ argumentAt number ⌝ }
-{
-    match number {
-        kinds::SIXTEEN => Argument::Sixteen,
-        kinds::NIL => Argument::Nil,
-        kinds::INDEX => Argument::Index,
-        kinds::ALTERNATIVES => Argument::Alternatives,
-        kinds::PARAMETERS => Argument::Parameters,
-        _ => Argument::Sequence,
-    }
-}
-
 fn bit(b: bool) -> u16
     ensures { λ r. ⌜ (r ≡ bitOf b) × (r ≤ 1) ⌝ }
 {
@@ -198,19 +181,6 @@ fn parameter_number(parameter: Parameter) -> u16
         Parameter::Source => 3,
         Parameter::Digest => 4,
         Parameter::Size => 5,
-    }
-}
-
-fn known_at(number: u16) -> Known
-    ensures { λ r. ⌜ r ≡ knownAt number ⌝ }
-{
-    match number {
-        1 => Known::Parameter(Parameter::Coerce),
-        2 => Known::Parameter(Parameter::Uri),
-        3 => Known::Parameter(Parameter::Source),
-        4 => Known::Parameter(Parameter::Digest),
-        5 => Known::Parameter(Parameter::Size),
-        _ => Known::Unknown,
     }
 }
 
@@ -261,71 +231,4 @@ pub fn tables() -> Table
     ensures { λ r. ⌜ r ≡ byNumber ⌝ }
 {
     with_parameters(with_commands(command_rows()), parameter_rows())
-}
-
-// The parts of an entry.
-fn sections_in(entry: u16) -> u8
-    ensures { λ r. ⌜ r ≡ unpacked entry .sections ⌝ }
-{
-    (entry % 64) as u8
-}
-
-fn kind_in(entry: u16) -> u16
-    ensures { λ r. ⌜ r ≡ unpacked entry .kind ⌝ }
-{
-    entry / 64 % 8
-}
-
-fn condition_in(entry: u16) -> bool
-    ensures { λ r. ⌜ r ≡ unpacked entry .condition ⌝ }
-{
-    entry / 512 == 1
-}
-
-// An entry, taken apart; sections 0 where nothing is listed.
-pub struct Entry {
-    pub sections: u8,
-    pub kind: u16,
-    pub condition: bool,
-}
-
-pub fn entry_at(table: &Table, code: usize) -> Entry
-    requires { ⌜ (now table ≡ byNumber) × (code < codes) ⌝ }
-    ensures { λ r. ⌜ r ≡ entryOf (rowOf code commands) ⌝ }
-{
-    let entry = table[code];
-    Entry {
-        sections: sections_in(entry),
-        kind: kind_in(entry),
-        condition: condition_in(entry),
-    }
-}
-
-pub fn look_up(table: &Table, code: usize) -> Listed
-    requires { ⌜ now table ≡ byNumber ⌝ }
-    ensures { λ r. ⌜ r ≡ listed (rowOf code commands) ⌝ }
-{
-    if CODES <= code {
-        return Listed::Unlisted;
-    }
-    let entry = table[code];
-    if entry == 0 {
-        return Listed::Unlisted;
-    }
-    Listed::Command(Command {
-        code: code as u8,
-        condition: condition_in(entry),
-        argument: argument_at(kind_in(entry)),
-        sections: sections_in(entry),
-    })
-}
-
-pub fn look_up_parameter(table: &Table, key: usize) -> Known
-    requires { ⌜ now table ≡ byNumber ⌝ }
-    ensures { λ r. ⌜ r ≡ known (paramOf key params) ⌝ }
-{
-    if KEYS <= key {
-        return Known::Unknown;
-    }
-    known_at(table[CODES + key])
 }

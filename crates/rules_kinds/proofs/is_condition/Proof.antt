@@ -1,7 +1,7 @@
 use mathlib.Core.Path.{sym, ap, _∙_}
 use borrow.Author.Needs.{needs}
 use Rattle.rules.specs.Commands.{commands, rowOf}
-use Rattle.rules_tables.proofs.LookUpLaws.{conditionTold, condition-told}
+use Rattle.rules_lookup.proofs.LookUpLaws.{conditionTold, condition-told}
 use Rattle.rules_kinds.proofs.is_condition.Statement.{statement}
 use Rattle.rules_kinds.proofs.is_condition.Tie as tie
 

@@ -9,7 +9,7 @@ use Rattle.rules.specs.declared.tables.Command.{Command}
 use Rattle.rules.specs.declared.tables.Listed.the-variants as L
 use Rattle.rules.specs.Commands.{commands}
 use Rattle.rules.specs.Tables.{codes, keys, packed, tableOf}
-use Rattle.rules_tables.proofs.LookUpLaws.{below, stored, turn}
+use Rattle.rules_tables.proofs.StoreLaws.{below, stored, turn}
 use Rattle.rules_tables.proofs.with_commands.Statement.{statement}
 use Rattle.rules_tables.proofs.with_commands.Tie as tie
 

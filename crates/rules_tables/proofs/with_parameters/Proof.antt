@@ -7,7 +7,7 @@ use lib.ListN.{drop}
 use Rattle.rules.specs.declared.tables.ParameterRow.{ParameterRow}
 use Rattle.rules.specs.Limits.{limits}
 use Rattle.rules.specs.Tables.{codes, keys, parameterNumber, tableOf, byNumber}
-use Rattle.rules_tables.proofs.LookUpLaws.{below, stored, turn}
+use Rattle.rules_tables.proofs.StoreLaws.{below, stored, turn}
 use Rattle.rules_tables.proofs.with_parameters.Statement.{statement}
 use Rattle.rules_tables.proofs.with_parameters.Tie as tie
 

@@ -5,44 +5,25 @@ use mathlib.Core.List.{List, [], _∷_, head-eq-of-cons-eq, tail-eq-of-cons-eq}
 use mathlib.Core.Bool.{Bool, true, false, cond}
 use mathlib.Core.Option.{Option, some, none}
 use native.Mathlib.Nat.{le-of-suc-le-suc, not-suc-le-zero}
-use native.Mathlib.Numerals.{add-one}
 use native.Mathlib.Omega.{arith}
 use borrow.Author.Tests.{ltb-true, ne-eqb}
 use lib.Dec.{eqb, ltb}
-use lib.ListN.{length, getD, drop, set}
-use lib.Seq.{drop-cons}
+use lib.ListN.{getD}
 use Rattle.rules.specs.declared.tables.Listed.{Listed}
 use Rattle.rules.specs.declared.tables.Listed.the-variants as L
 use Rattle.rules.specs.Commands.{Row, commands, rowOf, conditionIn, ParamRow, params, paramOf}
 use Rattle.rules.specs.Tables.{listed, known, argumentAt, knownAt, values, codes, keys, tableOf, byNumber}
-use Rattle.rules.proofs.TableLaws.{all, both}
-use Rattle.rules_tables.specs.declared.Entry.{Entry}
-use Rattle.rules_tables.specs.Entry.{unpacked, entryOf}
+use Rattle.rules.proofs.TableLaws.{both}
+use Rattle.rules_tables.proofs.StoreLaws.{within}
+use Rattle.rules_lookup.specs.declared.Entry.{Entry}
+use Rattle.rules_lookup.specs.Entry.{unpacked, entryOf}
 
 module _ {A : Type 0} where
-  -- each row's place is below n, and so is that of row i
-  abbrev pub within : (A → ℕ) → ℕ → List A → Bool
-  within place n = all (λ x. ltb (place x) n)
-
-  pub below : (place : A → ℕ) (n : ℕ) (xs : List A) (i : ℕ) (d : A) → within place n xs ≡ true → i < length xs → place (getD xs i d) < n
-  below place n [] i d t h = absurd (not-suc-le-zero h)
-  below place n (x ∷ xs) zero d t h = ltb-true (place x) n (both (λ x. ltb (place x) n) x xs t .0)
-  below place n (x ∷ xs) (suc i) d t h = below place n xs i d (both (λ x. ltb (place x) n) x xs t .1) (le-of-suc-le-suc h)
-
   -- two rules that give the same list of n values, at one of the n
   pub agree : (f g : ℕ → A) (n i : ℕ) → values f n ≡ values g n → i < n → f i ≡ g i
   agree f g zero i e h = absurd (not-suc-le-zero h)
   agree f g (suc n) zero e h = head-eq-of-cons-eq e
   agree f g (suc n) (suc i) e h = agree (λ k. f (suc k)) (λ k. g (suc k)) n i (tail-eq-of-cons-eq e) (le-of-suc-le-suc h)
-
-  -- the numbers t after a store for each row; and one of these stores
-  abbrev pub stored : (A → ℕ) → (A → ℕ) → List A → List ℕ → List ℕ
-  stored place value [] t = t
-  stored place value (x ∷ xs) t = stored place value xs (set t (place x) (value x))
-
-  pub turn : (place value : A → ℕ) (xs : List A) (t : List ℕ) (i : ℕ) (d : A) → i < length xs →
-      stored place value (drop i xs) t ≡ stored place value (drop (i + 1) xs) (set t (place (getD xs i d)) (value (getD xs i d)))
-  turn place value xs t i d h = rw (drop-cons xs i d h, add-one i)
 
 pub entry-at : (t : List ℕ) (c : ℕ) → t ≡ byNumber → c < codes → unpacked (getD t c 0) ≡ entryOf (rowOf c commands)
 unfolding tableOf byNumber

@@ -4,9 +4,9 @@ use borrow.Author.Needs.{needs}
 use borrow.Author.Tests.{eq-eqb, ne-eqb}
 use Rattle.rules.specs.Commands.{commands}
 use Rattle.rules.specs.Tables.{codes, listed}
-use Rattle.rules_tables.proofs.LookUpLaws.{no-row, listed-at}
-use Rattle.rules_tables.proofs.look_up.Statement.{statement}
-use Rattle.rules_tables.proofs.look_up.Tie as tie
+use Rattle.rules_lookup.proofs.LookUpLaws.{no-row, listed-at}
+use Rattle.rules_lookup.proofs.look_up.Statement.{statement}
+use Rattle.rules_lookup.proofs.look_up.Tie as tie
 
 returns : tie.Need-returns
 returns c = sym (ap listed (no-row codes commands (c .before .args .code) refl (c .if1 .taken)))

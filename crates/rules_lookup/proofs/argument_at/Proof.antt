@@ -1,6 +1,6 @@
 use borrow.Author.Tests.{ne-eqb}
-use Rattle.rules_tables.proofs.known_at.Statement.{statement}
-use Rattle.rules_tables.proofs.known_at.Tie as tie
+use Rattle.rules_lookup.proofs.argument_at.Statement.{statement}
+use Rattle.rules_lookup.proofs.argument_at.Tie as tie
 
 returns : tie.Need-returns
 returns c = rw (c .match .keys1)
@@ -22,5 +22,5 @@ returns-6 c =
     let (((((u, a), b), d), e), f) = c .match .rest in
     simp (ne-eqb _ _ a, ne-eqb _ _ b, ne-eqb _ _ d, ne-eqb _ _ e, ne-eqb _ _ f)
 
-pub known-at-spec : {M : Type 1} → statement M
-known-at-spec = tie.close (tie.spec returns returns-2 returns-3 returns-4 returns-5 returns-6)
+pub argument-at-spec : {M : Type 1} → statement M
+argument-at-spec = tie.close (tie.spec returns returns-2 returns-3 returns-4 returns-5 returns-6)

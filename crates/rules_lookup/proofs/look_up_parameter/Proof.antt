@@ -3,9 +3,9 @@ use mathlib.Core.Path.{refl, sym, _∙_, ap}
 use borrow.Author.Needs.{needs}
 use Rattle.rules.specs.Commands.{params}
 use Rattle.rules.specs.Tables.{keys, known}
-use Rattle.rules_tables.proofs.LookUpLaws.{no-param, known-at}
-use Rattle.rules_tables.proofs.look_up_parameter.Statement.{statement}
-use Rattle.rules_tables.proofs.look_up_parameter.Tie as tie
+use Rattle.rules_lookup.proofs.LookUpLaws.{no-param, known-at}
+use Rattle.rules_lookup.proofs.look_up_parameter.Statement.{statement}
+use Rattle.rules_lookup.proofs.look_up_parameter.Tie as tie
 
 returns : tie.Need-returns
 returns c = sym (ap known (no-param keys params (c .before .args .key) refl (c .if1 .taken)))

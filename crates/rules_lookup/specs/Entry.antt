@@ -5,7 +5,7 @@ use mathlib.Core.Option.{Option, some, none}
 use lib.Dec.{eqb}
 use Rattle.rules.specs.Commands.{Row}
 use Rattle.rules.specs.Tables.{kindOf, setOf, argumentNumber}
-use Rattle.rules_tables.specs.declared.Entry.{Entry}
+use Rattle.rules_lookup.specs.declared.Entry.{Entry}
 
 abbrev pub unpacked : ℕ → Entry
 unpacked e = record { sections = e % 64; kind = e / 64 % 8; condition = eqb (e / 512) 1 }

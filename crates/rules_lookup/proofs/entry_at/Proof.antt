@@ -1,8 +1,8 @@
 -- An entry, taken apart, is the rule's at each code of the table (`entry-at`).
 use borrow.Author.Needs.{needs}
-use Rattle.rules_tables.proofs.LookUpLaws.{entry-at}
-use Rattle.rules_tables.proofs.entry_at.Statement.{statement}
-use Rattle.rules_tables.proofs.entry_at.Tie as tie
+use Rattle.rules_lookup.proofs.LookUpLaws.{entry-at}
+use Rattle.rules_lookup.proofs.entry_at.Statement.{statement}
+use Rattle.rules_lookup.proofs.entry_at.Tie as tie
 
 returns : tie.Need-returns
 returns c =
