@@ -1,4 +1,4 @@
--- What a command asks for, and what it leaves in lent memory.
+-- What a command asks for, and what it leaves in lent memory, its event aside.
 use Prim.Native.Nat.{ℕ, _+_, _*_, _%_, _≤_, _<_}
 use mathlib.Core.Path.{_≡_}
 use mathlib.Core.List.{List}
@@ -9,15 +9,14 @@ use Rattle.rules.specs.Lent.{Lent, was, left}
 use Rattle.rules.specs.Limits.{limits}
 use Rattle.rules.specs.Slots.{answerBytes}
 use Rattle.rules.specs.Answers.{endOf}
-use Rattle.rules.specs.Step.{Env, out, acts, step, eventBytes}
+use Rattle.rules.specs.Step.{Env, out, acts, eventBytes}
 use Rattle.run_slots.specs.declared.params.Params.{Params}
 use Rattle.run_slots.specs.Params.{Fit, FitAll, SlotsKept}
 use Rattle.run_actions.specs.Action.{Ends, AllHold}
-use Rattle.run_actions.specs.declared.Progress.{Progress}
 use Rattle.run_actions.specs.declared.Effect.{Effect}
-use Rattle.run_commands.specs.declared.perform.Command.{Command}
+use Rattle.run_commands.specs.declared.act.Command.{Command}
 use Rattle.run_commands.specs.Op.{opOf, IsCode, SixteenAt}
-use Rattle.run_commands.specs.Machine.{stateAt, outAt, Host}
+use Rattle.run_commands.specs.Machine.{stateAt, Host}
 
 -- the command of the rules
 abbrev pub commandOf : Bytes → Command → Params → Op
@@ -51,15 +50,3 @@ pub record Acts (s : Lent) (op : Op) (i used : ℕ) (Gives : ℕ → Type 0) (ve
 abbrev pub Acted : Lent → Command → Params → Lent → Lent → Lent → Lent → Lent → Effect → Type 0
 Acted s x given vendor class answers slots memory r =
     Acts s (commandOf (was s) x given) (x .index) (x .used) (λ n. Fit (was s) n given) vendor class answers slots memory r
-
--- the same with its event, one after those of the trace
-pub record Performs (s : Lent) (x : Command) (given : Params) (vendor class answers slots memory trace : Lent) (r : Progress) : Type 0 where
-  pub events : r .events ≡ x .events + 1
-  pub ends : Ends (r .end)
-  pub does : (env : Env) → Host env (was vendor) (was class) (was answers) (was memory) (was slots) → x .index < length (env .ids) →
-      FitAll (was s) (length (env .ids)) (was memory) →
-      outAt (was s) (length (env .ids)) (left memory) (left slots) (left trace) r
-      ≡ step env (commandOf (was s) x given) (x .index) (x .place)
-      (stateAt (was s) (length (env .ids)) (was memory) (was slots) (was trace) (x .events) (x .used))
-  pub fit : (n : ℕ) → FitAll (was s) n (was memory) → Fit (was s) n given → FitAll (was s) n (left memory)
-  pub kept : SlotsKept (was memory) (left memory)

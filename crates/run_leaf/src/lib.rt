@@ -9,8 +9,8 @@ use rules::answers::End;
 use rules::controller::Memory;
 use rules::controller::Sixteen;
 use run_actions::Progress;
-use run_commands::perform::Command;
-use run_commands::perform::perform;
+use run_commands::act::Command;
+use run_perform::perform;
 use run_slots::params::either;
 
 // Where the next command is, the index and coerce of the sequence, events written, answers used, and the number of the

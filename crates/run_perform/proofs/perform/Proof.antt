@@ -2,10 +2,10 @@ use mathlib.Core.Path.{refl}
 use native.Mathlib.Omega.{arith}
 use borrow.Author.Needs.{needs}
 use Rattle.rules_theorems.proofs.OpLaws.{code-small}
 use Rattle.run_commands.specs.Performed.{commandOf}
 use Rattle.run_commands.proofs.PerformLaws.{with-event}
-use Rattle.run_commands.proofs.perform.perform.Statement.{statement}
-use Rattle.run_commands.proofs.perform.perform.Tie as tie
+use Rattle.run_perform.proofs.perform.Statement.{statement}
+use Rattle.run_perform.proofs.perform.Tie as tie
 
 -- the way back: from where the command was done to the start, and from the end to where the event was put and to where the command was done
 abbrev start : tie.After-act-arg2 → tie.Start

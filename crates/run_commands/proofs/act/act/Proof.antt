@@ -9,8 +9,8 @@ use Rattle.run_commands.specs.Op.{opOf}
 use Rattle.run_commands.specs.Performed.{commandOf}
 use Rattle.run_slots.proofs.ParamsLaws.{fit-over, fit-stored, stored-kept}
 use Rattle.run_commands.proofs.PerformLaws.{is-at, source-at, set-params, override-params, swap-left}
-use Rattle.run_commands.proofs.perform.act.Statement.{statement}
-use Rattle.run_commands.proofs.perform.act.Tie as tie
+use Rattle.run_commands.proofs.act.act.Statement.{statement}
+use Rattle.run_commands.proofs.act.act.Tie as tie
 
 -- back to the start, from the match
 abbrev start : tie.After-k → tie.Start

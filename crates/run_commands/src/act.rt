@@ -1,6 +1,5 @@
-// A command whose argument was read: what it does, and its event.
-ghost use Rattle.run_commands.specs.Performed.{Commanded, RoomFor, Acted, Performs};
-use crate::event::put_event;
+// A command whose argument was read: what it does, its event aside.
+ghost use Rattle.run_commands.specs.Performed.{Commanded, Acted};
 use rules::answers::End;
 use rules::answers::Failure;
 use rules::codes::ABORT;
@@ -16,7 +15,6 @@ use rules::codes::VENDOR;
 use rules::controller::Memory;
 use rules::controller::Sixteen;
 use run_actions::Effect;
-use run_actions::Progress;
 use run_actions::conditions::equal_sixteen;
 use run_actions::conditions::matches;
 use run_actions::conditions::runs;
@@ -40,8 +38,8 @@ pub struct Command {
     pub used: usize,
 }
 
-// The command, which gives those parameters, its event aside.
-fn act(
+// The command, which gives those parameters.
+pub fn act(
     s: &[u8],
     command: Command,
     given: Params,
@@ -79,34 +77,5 @@ fn act(
         COPY => effect_of(copy(load(memory, i), memory, slots, k), used),
         RUN => effect_of(runs(slots, k), used),
         _ => effect_of(swap(load(memory, i), memory, slots, k), used),
-    }
-}
-
-// The command, and its event.
-pub fn perform(
-    s: &[u8],
-    command: Command,
-    given: Params,
-    vendor: &Sixteen,
-    class: &Sixteen,
-    answers: &[u8],
-    slots: &mut [u8],
-    memory: &mut Memory,
-    trace: &mut [u8],
-) -> Progress
-    requires { ⌜ Commanded (now s) command given (now answers) (now slots) (now memory) × RoomFor (command .events) (now trace) ⌝ }
-    ensures { λ r. ⌜ Performs s command given vendor class answers slots memory trace r ⌝ }
-{
-    let events = command.events;
-    let place = command.place;
-    let index = command.index;
-    let code = command.code;
-    let d = act(s, command, given, vendor, class, answers, slots, memory);
-    let end = d.end;
-    put_event(trace, events, code, index, place, end);
-    Progress {
-        events: events + 1,
-        used: d.used,
-        end,
     }
 }
