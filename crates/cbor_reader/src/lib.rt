@@ -6,7 +6,7 @@ ghost use lib.ListN.{length};
 ghost use Rattle.rules.specs.Lent.{was};
 ghost use Rattle.rules.specs.Cbor.{head};
 ghost use Rattle.cbor_reader.specs.Read.{readOf, headHere, moved};
-use cbor::HeadRead;
+use cbor_heads::HeadRead;
 use rules::answers::Refusal;
 
 // It moves only by reading a head. A place past the end is 65 there, with nothing left.
@@ -15,8 +15,8 @@ pub struct Reader<'a> {
     at: usize,
 }
 
-// refusal is 0: the head's kind (one of cbor's), its number (0 for false, true and nil) and the place after it. Else refusal is 65, next is the place where it
-// was refused, and the rest is 0.
+// refusal is 0: the head's kind (one of cbor_heads's), its number (0 for false, true and nil) and the place after it. Else refusal is 65, next is
+// the place where it was refused, and the rest is 0.
 pub struct Read {
     pub refusal: usize,
     pub kind: usize,
@@ -28,7 +28,7 @@ pub struct Read {
 fn head_of(s: &[u8], at: usize) -> Read
     ensures { λ r. ⌜ r ≡ readOf (head (was s) (length (was s)) at) ⌝ }
 {
-    match cbor::read_head(s, s.len(), at) {
+    match cbor_heads::read_head(s, s.len(), at) {
         HeadRead::Head(h) => Read {
             refusal: 0,
             kind: h.kind,

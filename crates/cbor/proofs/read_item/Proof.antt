@@ -4,7 +4,7 @@ use borrow.Author.Needs.{needs}
 use Rattle.rules.specs.Got.{got}
 use Rattle.rules.specs.Cbor.{whole}
 use Rattle.rules.proofs.CborLaws.{item-refused, item-other, item-low, item-high, item-got}
-use Rattle.cbor.specs.Answer.{headOf, headMeans}
+use Rattle.cbor_heads.specs.Answer.{headOf, headMeans}
 use Rattle.cbor.proofs.read_item.Statement.{statement}
 use Rattle.cbor.proofs.read_item.Tie as tie
 

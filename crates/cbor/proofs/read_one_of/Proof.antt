@@ -3,7 +3,7 @@ use borrow.Author.Needs.{needs}
 use Rattle.rules.specs.Got.{got}
 use Rattle.rules.specs.Cbor.{whole}
 use Rattle.rules.proofs.CborLaws.{one-of-refused, one-of-other, one-of-first, one-of-second}
-use Rattle.cbor.specs.Answer.{headOf, headMeans}
+use Rattle.cbor_heads.specs.Answer.{headOf, headMeans}
 use Rattle.cbor.proofs.read_one_of.Statement.{statement}
 use Rattle.cbor.proofs.read_one_of.Tie as tie
 

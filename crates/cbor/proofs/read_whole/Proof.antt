@@ -6,7 +6,7 @@ use Rattle.rules.specs.Got.{got}
 use Rattle.rules.specs.Cbor.{head}
 use Rattle.rules.proofs.CheckLaws.{head-bounds}
 use Rattle.rules.proofs.CborLaws.{whole-refused, whole-past, whole-got}
-use Rattle.cbor.specs.Answer.{headOf, headMeans}
+use Rattle.cbor_heads.specs.Answer.{headOf, headMeans}
 use Rattle.cbor.proofs.read_whole.Statement.{statement}
 use Rattle.cbor.proofs.read_whole.Tie as tie
 

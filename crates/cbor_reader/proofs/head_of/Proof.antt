@@ -1,6 +1,6 @@
 use mathlib.Core.Path.{sym, _∙_, ap}
 use borrow.Author.Needs.{needs}
-use Rattle.cbor.specs.Answer.{headMeans}
+use Rattle.cbor_heads.specs.Answer.{headMeans}
 use Rattle.cbor_reader.specs.Read.{readOf}
 use Rattle.cbor_reader.proofs.head_of.Statement.{statement}
 use Rattle.cbor_reader.proofs.head_of.Tie as tie

@@ -3,7 +3,8 @@ use native.Mathlib.Omega.{arith}
 use borrow.Author.Needs.{needs}
 use Rattle.rules.specs.Got.{got}
 use Rattle.rules.specs.Cbor.{NIL, BYTES, oneOf}
-use Rattle.cbor.specs.Answer.{headOf, itemMeans}
+use Rattle.cbor_heads.specs.Answer.{headOf}
+use Rattle.cbor.specs.Answer.{itemMeans}
 use Rattle.check_envelope.proofs.OuterLaws.{unread-refused, unread-fits, unread-bytes, unread-nil}
 use Rattle.check_envelope.proofs.outer.unread.Statement.{statement}
 use Rattle.check_envelope.proofs.outer.unread.Tie as tie

@@ -2,8 +2,8 @@ use mathlib.Core.Path.{sym}
 use native.Mathlib.Omega.{arith}
 use borrow.Author.Needs.{needs}
 use Rattle.rules.proofs.CborLaws.{head-past, head-negative, head-high, head-short, head-flag}
-use Rattle.cbor.proofs.read_head.Statement.{statement}
-use Rattle.cbor.proofs.read_head.Tie as tie
+use Rattle.cbor_heads.proofs.read_head.Statement.{statement}
+use Rattle.cbor_heads.proofs.read_head.Tie as tie
 
 past : tie.Need-returns
 past c = sym (head-past _ _ _ (omega arith))

@@ -1,7 +1,7 @@
 use mathlib.Core.Path.{refl}
 use native.Mathlib.Omega.{arith}
-use Rattle.cbor.proofs.shortest.Statement.{statement}
-use Rattle.cbor.proofs.shortest.Tie as tie
+use Rattle.cbor_heads.proofs.shortest.Statement.{statement}
+use Rattle.cbor_heads.proofs.shortest.Tie as tie
 
 returns : tie.Need-returns
 returns c = ((λ _. refl), (λ l. absurd (omega arith)))

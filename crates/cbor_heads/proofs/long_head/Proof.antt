@@ -2,8 +2,8 @@ use mathlib.Core.Path.{sym}
 use native.Mathlib.Omega.{arith}
 use borrow.Author.Needs.{needs}
 use Rattle.rules.proofs.CborLaws.{first-long, starts-1, starts-2, starts-4, head-negative, head-high, head-wide, head-cut, head-whole}
-use Rattle.cbor.proofs.long_head.Statement.{statement}
-use Rattle.cbor.proofs.long_head.Tie as tie
+use Rattle.cbor_heads.proofs.long_head.Statement.{statement}
+use Rattle.cbor_heads.proofs.long_head.Tie as tie
 
 negative : tie.Need-returns
 negative c = sym (head-negative _ _ _ (omega arith))
