@@ -12,12 +12,9 @@ use Rattle.rules.specs.Newer.{Newer, inFirst, inSecond}
 use Rattle.rules.specs.Run.{Ran}
 use Rattle.rules.specs.Program.{Program}
 use Rattle.check_newer.specs.declared.Newest.{Newest}
-use Rattle.check_envelope.specs.declared.report.Checked.{Checked}
-use Rattle.check_envelope.specs.declared.report.Checked.the-variants as C
 use Rattle.check_envelope.specs.declared.report.Report.{Report}
 use Rattle.check_newer.specs.Newer.{newestOf}
 use Rattle.check_envelope.specs.Report.{reportOf}
-use Rattle.check_envelope.proofs.EnvelopeLaws.{differ}
 use Rattle.run_admission.specs.declared.answer.Outcome.{Outcome}
 use Rattle.run_admission.specs.Answer.{outcomeOf}
 use Rattle.program_test.specs.declared.test.Tested.{Tested}
@@ -30,33 +27,13 @@ use Rattle.pitvorgas_answers.specs.declared.CheckAnswer.{CheckAnswer}
 use Rattle.pitvorgas_answers.specs.declared.NewerAnswer.{NewerAnswer}
 use Rattle.pitvorgas_answers.specs.declared.RunAnswer.{RunAnswer}
 use Rattle.pitvorgas_answers.specs.declared.TranslateAnswer.{TranslateAnswer}
-use Rattle.pitvorgas.specs.Answers.{checkedOf, newerOf, translatedOf, roomAfter, ranOf, answerOf}
+use Rattle.pitvorgas_check_answer.specs.Answer as C
+use Rattle.pitvorgas_run_answer.specs.Answer as R
+use Rattle.pitvorgas.specs.Answers.{checkedOf, newerOf, translatedOf, roomAfter, ranOf}
 
--- a report that accepts, in numbers
-abbrev pub reported : Report → CheckAnswer
-reported r =
-    record { refusal = 0; place = 0; number = r .number; components = r .components; ids = r .ids; sections = r .sections; from = r .manifest .from; to = r .manifest .to }
-
-module _ (g : Got Manifest) (r : Report) (e : r ≡ reportOf g) where
-  pub accepted-answer : r .answer ≡ C.Accepted → reported r ≡ checkedOf g
-  accepted-answer h = go g e
-    where
-      go : (g : Got Manifest) → r ≡ reportOf g → reported r ≡ checkedOf g
-      go (refused k p) u = absurd (differ k p (ap (λ (x : Report). x .answer) (sym u) ∙ h))
-      go (got m) u = ap reported u
-
-  pub refused-answer : (k : Refusal) (p n : ℕ) → r .answer ≡ C.Refused k p → n ≡ refusalNumber k →
-      _≡_ {A = CheckAnswer} (record { refusal = n; place = p; number = 0; components = 0; ids = r .ids; sections = r .sections; from = 0; to = 0 }) (checkedOf g)
-  refused-answer k p n h q = go g e
-    where
-      go : (g : Got Manifest) → r ≡ reportOf g → _≡_ {A = CheckAnswer}
-          (record { refusal = n; place = p; number = 0; components = 0; ids = r .ids; sections = r .sections; from = 0; to = 0 }) (checkedOf g)
-      go (refused k′ p′) u =
-          let f : _≡_ {A = Checked} (C.Refused k′ p′) (C.Refused k p) = ap (λ (x : Report). x .answer) (sym u) ∙ h in
-          let a : k ≡ k′ = cc in
-          let b : p ≡ p′ = cc in
-          rw (q, a, b) (ap (λ (x : Report). record { refusal = refusalNumber k′; place = p′; number = 0; components = 0; ids = x .ids; sections = x .sections; from = 0; to = 0 }) u)
-      go (got m) u = absurd (differ k p (sym h ∙ ap (λ (x : Report). x .answer) u))
+pub checked-answer : (g : Got Manifest) (r : Report) (a : CheckAnswer) → r ≡ reportOf g → a ≡ C.answerOf r → a ≡ checkedOf g
+checked-answer (refused k p) r a e h = h ∙ ap C.answerOf e
+checked-answer (got m) r a e h = h ∙ ap C.answerOf e
 
 pub newer-answer : (g : Newer) (r : Newest) → r ≡ newestOf g → _≡_ {A = NewerAnswer} (record { second = r .second; from = r .from; to = r .to }) (newerOf g)
 newer-answer (inFirst p) r e = rw e refl
@@ -66,9 +43,9 @@ pub tested-answer : (p : Bytes) (g : Got Program) (t : Tested) → TestedAs p g 
 tested-answer p (refused k q) t e = ap (λ (x : Tested). x .good) e
 tested-answer p (got y) t e = ap (λ (x : Tested). x .good) (e .exact)
 
-pub ran-answer : (d : Controller) (g : Got Ran) (o : Outcome) (r : RunAnswer) → o ≡ outcomeOf d g → r ≡ answerOf o → r ≡ ranOf d g
-ran-answer d (refused k p) o r e h = h ∙ ap answerOf e
-ran-answer d (got x) o r e h = h ∙ ap answerOf e
+pub ran-answer : (d : Controller) (g : Got Ran) (o : Outcome) (r : RunAnswer) → o ≡ outcomeOf d g → r ≡ R.answerOf o → r ≡ ranOf d g
+ran-answer d (refused k p) o r e h = h ∙ ap R.answerOf e
+ran-answer d (got x) o r e h = h ∙ ap R.answerOf e
 
 module _ (g : Got Bytes) (t : Translated) (room room′ : Bytes) (h : Translates g t room room′) where
   pub refused-translation : (k : Refusal) (p n : ℕ) → t ≡ T.Refused k p → n ≡ refusalNumber k →

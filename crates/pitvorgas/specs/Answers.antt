@@ -1,6 +1,5 @@
 -- The answers of the jobs as C has them. The numbers of refusals and ends are those that the rules' definitions `refusalNumber` and
 -- `endNumber` give each case (01: 'a definition gives this paper's number .. The promises use that definition').
-use Prim.Native.Nat.{ℕ}
 use mathlib.Core.Path.{_≡_}
 use mathlib.Core.Bool.{Bool}
 use mathlib.Core.List.{_++_}
@@ -16,9 +15,6 @@ use Rattle.rules.specs.Newer.{Newer, inFirst, inSecond}
 use Rattle.rules.specs.Run.{Input, Ran}
 use Rattle.component_ids.specs.Identifiers.{laid}
 use Rattle.check_manifest.specs.Sections.{placed}
-use Rattle.run_admission.specs.declared.answer.Answer.{Answer}
-use Rattle.run_admission.specs.declared.answer.Answer.the-variants as A
-use Rattle.run_admission.specs.declared.answer.Outcome.{Outcome}
 use Rattle.run_admission.specs.Answer as Run
 use Rattle.run_admission.specs.Answer.{slotsAfter, traceAfter}
 use Rattle.pitvorgas_answers.specs.Inputs.{controllerOf}
@@ -59,14 +55,6 @@ roomAfter room (got b) = b ++ drop (length b) room
 abbrev pub ranOf : Controller → Got Ran → RunAnswer
 ranOf device (refused k p) = record { refusal = refusalNumber k; place = p; end = 0; events = 0; used = 0; number = device .number }
 ranOf device (got r) = record { refusal = 0; place = r .place; end = endNumber (r .end); events = r .events; used = r .used; number = r .number }
-
--- an outcome in numbers
-abbrev pub answerWith : Answer → ℕ → RunAnswer
-answerWith (A.Refused k p) n = record { refusal = refusalNumber k; place = p; end = 0; events = 0; used = 0; number = n }
-answerWith (A.Ran e) n = record { refusal = 0; place = e .place; end = endNumber (e .end); events = e .events; used = e .used; number = n }
-
-abbrev pub answerOf : Outcome → RunAnswer
-answerOf o = answerWith (o .answer) (o .number)
 
 -- the answer and the lent room are those of the rule's answer g
 abbrev pub Translation : Got Bytes → Lent → TranslateAnswer → Type 0

@@ -11,9 +11,8 @@ ghost use Rattle.rules.specs.Program as Program;
 ghost use Rattle.rules.specs.ProgramTest.{programIn};
 ghost use Rattle.rules.specs.ProgramRun.{runProgram};
 ghost use Rattle.pitvorgas_answers.specs.Inputs.{groupOf};
-ghost use Rattle.pitvorgas.specs.Answers.{checkedOf, newerOf, answerOf, Translation, given, Answers};
+ghost use Rattle.pitvorgas.specs.Answers.{checkedOf, newerOf, Translation, given, Answers};
 use check_envelope::check;
-use check_envelope::report::Checked;
 use check_newer::choose;
 use pitvorgas_answers::CheckAnswer;
 use pitvorgas_answers::Device;
@@ -24,71 +23,15 @@ use pitvorgas_answers::controller_of;
 use pitvorgas_answers::group_of;
 use program_run::run_program;
 use program_test::test::test_program;
-use run_admission::answer::Answer;
-use run_admission::answer::Outcome;
 use run_envelope::run;
 use translate::Translated;
 use translate::translate;
-
-// The outcome of a run in numbers.
-fn answer_of(o: Outcome) -> RunAnswer
-    ensures { λ r. ⌜ r ≡ answerOf o ⌝ }
-{
-    let answer = o.answer;
-    match answer {
-        Answer::Refused(refusal, place) => RunAnswer {
-            refusal: refusal.number(),
-            place,
-            end: 0,
-            events: 0,
-            used: 0,
-            number: o.number as usize,
-        },
-        Answer::Ran(ending) => {
-            let end = ending.end;
-            RunAnswer {
-                refusal: 0,
-                place: ending.place,
-                end: end.number(),
-                events: ending.events,
-                used: ending.used,
-                number: o.number as usize,
-            }
-        }
-    }
-}
 
 #[no_mangle]
 pub extern "C" fn pitvorgas_check(envelope: &[u8]) -> CheckAnswer
     ensures { λ r. ⌜ r ≡ checkedOf (Check.check (was envelope)) ⌝ }
 {
-    let report = check(envelope);
-    let answer = report.answer;
-    let manifest = report.manifest;
-    let ids = report.ids;
-    let sections = report.sections;
-    match answer {
-        Checked::Refused(refusal, place) => CheckAnswer {
-            refusal: refusal.number(),
-            place,
-            number: 0,
-            components: 0,
-            ids,
-            sections,
-            from: 0,
-            to: 0,
-        },
-        Checked::Accepted => CheckAnswer {
-            refusal: 0,
-            place: 0,
-            number: report.number,
-            components: report.components,
-            ids,
-            sections,
-            from: manifest.from,
-            to: manifest.to,
-        },
-    }
+    pitvorgas_check_answer::answer_of(check(envelope))
 }
 
 #[no_mangle]
@@ -155,7 +98,7 @@ pub extern "C" fn pitvorgas_run(
         answers,
         trace,
     );
-    answer_of(o)
+    pitvorgas_run_answer::answer_of(o)
 }
 
 #[no_mangle]
@@ -177,5 +120,5 @@ pub extern "C" fn pitvorgas_run_program(
         answers,
         trace,
     );
-    answer_of(o)
+    pitvorgas_run_answer::answer_of(o)
 }

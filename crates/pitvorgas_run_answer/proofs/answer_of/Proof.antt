@@ -1,6 +1,6 @@
 use borrow.Author.Needs.{needs}
-use Rattle.pitvorgas.proofs.answer_of.Statement.{statement}
-use Rattle.pitvorgas.proofs.answer_of.Tie as tie
+use Rattle.pitvorgas_run_answer.proofs.answer_of.Statement.{statement}
+use Rattle.pitvorgas_run_answer.proofs.answer_of.Tie as tie
 
 refused : tie.Need-returns
 refused c = rw (c .before .before .before .answer .given .1, c .before .number .ensures)
