@@ -15,7 +15,7 @@ use Rattle.rules.specs.Manifest.{Seq, count, Section, countAll}
 use Rattle.rules.specs.Check.{Read, key, inBytes, sequenceAt, sectionAt, sectionsAt, commonSeq}
 use Rattle.cbor.specs.declared.reading.Reading.{Reading}
 use Rattle.cbor.specs.Reading.{fault, ends, reading}
-use Rattle.check_sequence.specs.Command as Q
+use Rattle.check_command.specs.Command as Q
 use Rattle.check_manifest.specs.Sections.{sectionNo, placedOne, Placed}
 use Rattle.cbor.proofs.ReadingLaws.{Stopped, reading-went}
 use Rattle.check_sequence.proofs.SequenceLaws.{read}

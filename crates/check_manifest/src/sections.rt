@@ -8,7 +8,7 @@ ghost use Rattle.rules.specs.Commands.{PAYLOAD_FETCH};
 ghost use Rattle.rules.specs.Tables.{byNumber};
 ghost use Rattle.rules.specs.Manifest.{count, countAll};
 ghost use Rattle.rules.specs.Check as Check;
-ghost use Rattle.check_sequence.specs.Command.{Section};
+ghost use Rattle.check_command.specs.Command.{Section};
 ghost use Rattle.check_manifest.specs.Sections.{sectionNo, SectionRead, SectionsRead};
 use cbor::reading::Reading;
 use cbor::reading::item;

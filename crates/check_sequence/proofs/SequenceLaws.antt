@@ -20,8 +20,8 @@ use Rattle.cbor.specs.Reading.{fault, ends, reading}
 use Rattle.cbor.specs.declared.reading.Reading.{Reading}
 use Rattle.cbor.proofs.ReadingLaws.{Stopped, alike, bind-assoc, reading-went}
 use Rattle.check_argument.specs.Argument.{argumentStart}
-use Rattle.check_sequence.specs.Command.{commandStart}
-use Rattle.check_sequence.proofs.CommandLaws.{start-forth}
+use Rattle.check_command.specs.Command.{commandStart}
+use Rattle.check_command.proofs.CommandLaws.{start-forth}
 
 -- k sequences, each in a byte string, after m commands: how many commands there are then
 unfoldable pub nested : (s : Bytes) → (ℕ → Read Seq) → ℕ → ℕ → ℕ → ℕ → Got (ℕ × ℕ)

@@ -1,32 +1,10 @@
--- A command up to the sequences that it holds.
+-- A command with the sequences that it holds.
 use Prim.Native.Nat.{ℕ}
-use mathlib.Core.Path.{_≡_}
-use mathlib.Core.Bool.{true}
-use lib.Dec.{ltb}
-use Rattle.rules.specs.declared.answers.Refusal.the-variants.{UnknownCommand, NotAllowed, TooManyCommands}
-use Rattle.rules.specs.Limits.{limits}
 use Rattle.rules.specs.Bytes.{Bytes}
-use Rattle.rules.specs.Got.{Got, need, found, _>>=_}
-use Rattle.rules.specs.Commands.{allSections, commands, rowOf, isAllowed, among}
-use Rattle.rules.specs.Tables.{kindOf}
+use Rattle.rules.specs.Got.{Got}
 use Rattle.rules.specs.Manifest.{Cmd}
-use Rattle.rules.specs.Check.{number, command, sequenceAt}
-use Rattle.check_argument.specs.Argument.{argumentStart}
+use Rattle.rules.specs.Check.{command, sequenceAt}
 
-module _ (s : Bytes) where
-  -- its code, and its argument up to the sequences: how many these are, and where the first is
-  unfoldable pub commandStart : ℕ → ℕ → ℕ → ℕ → ℕ → Got (ℕ × ℕ)
-  commandStart components section before end at = do
-    (c, p) ← number s end at
-    row ← found (rowOf c commands) UnknownCommand at
-    _ ← need (isAllowed section (row .allowed)) NotAllowed at
-    _ ← need (ltb before (limits .commands)) TooManyCommands at
-    argumentStart s components (kindOf (row .form)) end p
-
-  -- a whole command, after that many; the sequences that it holds may be `depth` deep
-  abbrev pub commandAt : ℕ → ℕ → ℕ → ℕ → ℕ → ℕ → Got (Cmd × ℕ)
-  commandAt components section depth before end at = command s (sequenceAt s components section depth) components section before end at
-
--- the key of a section, or of common for its sequence
-abbrev pub Section : ℕ → Type 0
-Section k = among k allSections ≡ true
+-- the command at `at`, after that many; the sequences that it holds may be `depth` deep
+abbrev pub commandAt : Bytes → ℕ → ℕ → ℕ → ℕ → ℕ → ℕ → Got (Cmd × ℕ)
+commandAt s components section depth before end at = command s (sequenceAt s components section depth) components section before end at

@@ -7,16 +7,15 @@ ghost use Rattle.rules.specs.Tables.{byNumber};
 ghost use Rattle.rules.specs.Manifest.{count, countCmd};
 ghost use Rattle.rules.specs.Check as Check;
 ghost use Rattle.cbor.specs.Reading.{reading};
-ghost use Rattle.check_sequence.specs.Command.{Section, commandAt};
+ghost use Rattle.check_command.specs.Command.{Section};
+ghost use Rattle.check_sequence.specs.Command.{commandAt};
 use cbor::reading::Reading;
 use cbor::reading::item;
 use cbor::reading::refuse;
-use command::open_command;
+use check_command::open_command;
 use rules::answers::Refusal;
 use rules::controller::Controller;
 use rules_tables::Table;
-
-mod command;
 
 // The sequence at `at`, after so many commands; it and those in it may be `depth` deep.
 pub fn check_sequence(

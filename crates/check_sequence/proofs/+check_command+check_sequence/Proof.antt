@@ -10,7 +10,7 @@ use Rattle.rules.specs.Check.{command, commandsAt, sequenceAt}
 use Rattle.cbor.specs.Reading.{reading}
 use Rattle.cbor.proofs.ReadingLaws.{item-stopped, item-went, string-fits, pos, above, reading-stopped}
 use Rattle.rules.proofs.CheckLaws.{item-law}
-use Rattle.check_sequence.proofs.CommandLaws.{start-forth}
+use Rattle.check_command.proofs.CommandLaws.{start-forth}
 use Rattle.check_sequence.proofs.SequenceLaws.{nested, opened, read, done, command-forth, command-stop, command-opened, nested-none}
 use Rattle.check_sequence.proofs.SequenceLaws.{nested-stop, nested-bad, nested-left-over, nested-more, commands-none, commands-stop}
 use Rattle.check_sequence.proofs.SequenceLaws.{commands-more, sequence-stop, sequence-odd, sequence-deep, sequence-body}
@@ -22,7 +22,7 @@ use Rattle.check_sequence.proofs.check_sequence.Kinds as check-sequence
 use Rattle.check_sequence.proofs.+check_command+check_sequence.Lts-check_sequence as check-sequence-lts
 use Rattle.cbor.proofs.reading.item.Reads as item-reads
 use Rattle.cbor.proofs.reading.refuse.Reads as refuse-reads
-use Rattle.check_sequence.proofs.command.open_command.Reads as open-command-reads
+use Rattle.check_command.proofs.open_command.Reads as open-command-reads
 use Rattle.check_sequence.proofs.+check_command+check_sequence.{statement}
 use Rattle.check_sequence.proofs.+check_command+check_sequence.Tie.{close}
 

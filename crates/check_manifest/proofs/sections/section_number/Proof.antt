@@ -7,7 +7,7 @@ use lib.Dec.{eqb, leb}
 use Rattle.rules.specs.Commands.{allSections, COMMON, PAYLOAD_FETCH, RUN}
 use Rattle.rules.proofs.GotLaws.{and-true}
 use Rattle.rules.proofs.TableLaws.{one-of}
-use Rattle.check_sequence.specs.Command.{Section}
+use Rattle.check_command.specs.Command.{Section}
 use Rattle.check_manifest.proofs.sections.section_number.Statement.{statement}
 use Rattle.check_manifest.proofs.sections.section_number.Tie as tie
 

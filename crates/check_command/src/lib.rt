@@ -1,4 +1,4 @@
-// A command up to the sequences that it holds.
+// The head of a command: its code, whether it may stand there, and what stands before the sequences that it holds.
 ghost use mathlib.Core.Path.{_≡_};
 ghost use Prim.Native.Nat.{_/_, _%_, _≤_};
 ghost use lib.Dec.{eqb};
@@ -6,7 +6,7 @@ ghost use lib.ListN.{length};
 ghost use Rattle.rules.specs.Lent.{was};
 ghost use Rattle.rules.specs.Tables.{byNumber, weightOf};
 ghost use Rattle.cbor.specs.Reading.{reading};
-ghost use Rattle.check_sequence.specs.Command.{commandStart, Section};
+ghost use Rattle.check_command.specs.Command.{commandStart, Section};
 use cbor::reading::Reading;
 use cbor::reading::refuse;
 use check_argument::number;
@@ -34,7 +34,7 @@ fn has_section(sections: u8, section: usize) -> bool
 }
 
 // A command's code, and what stands before the sequences that it holds: how many they are, and where the first is.
-pub(crate) fn open_command(
+pub fn open_command(
     s: &[u8],
     table: &Table,
     components: usize,

@@ -23,7 +23,7 @@ use Rattle.cbor.specs.declared.reading.Reading.{Reading}
 use Rattle.cbor.proofs.ReadingLaws.{Stopped}
 use Rattle.check_argument.specs.Argument.{argumentStart}
 use Rattle.check_argument.proofs.ArgumentLaws.{argument-forth}
-use Rattle.check_sequence.specs.Command.{commandStart, Section}
+use Rattle.check_command.specs.Command.{commandStart, Section}
 
 -- the start of a command, by the tests in their order
 module _ (s : Bytes) (n section m e at : ℕ) where

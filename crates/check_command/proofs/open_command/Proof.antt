@@ -3,9 +3,9 @@ use native.Mathlib.Omega.{arith}
 use borrow.Author.Needs.{needs}
 use borrow.Author.Tests.{not-true, not-false}
 use Rattle.cbor.proofs.ReadingLaws.{number-stopped, number-went}
-use Rattle.check_sequence.proofs.CommandLaws.{start-stop, start-unknown, start-not-allowed, start-many, start-argument}
-use Rattle.check_sequence.proofs.command.open_command.Statement.{statement}
-use Rattle.check_sequence.proofs.command.open_command.Tie as tie
+use Rattle.check_command.proofs.CommandLaws.{start-stop, start-unknown, start-not-allowed, start-many, start-argument}
+use Rattle.check_command.proofs.open_command.Statement.{statement}
+use Rattle.check_command.proofs.open_command.Tie as tie
 
 -- back to the entry, from where its code was looked up
 abbrev to-entry : tie.After-look-up → tie.Start

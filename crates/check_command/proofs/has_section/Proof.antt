@@ -1,7 +1,7 @@
 use borrow.Author.Tests.{ne-eqb}
 use Rattle.rules.specs.Commands.{PAYLOAD_FETCH, INSTALL, VALIDATE, LOAD, RUN}
-use Rattle.check_sequence.proofs.command.has_section.Statement.{statement}
-use Rattle.check_sequence.proofs.command.has_section.Tie as tie
+use Rattle.check_command.proofs.has_section.Statement.{statement}
+use Rattle.check_command.proofs.has_section.Tie as tie
 
 common : tie.Need-returns-6
 common c =
