@@ -1,3 +1,2 @@
-pub mod NameLaws
 pub mod RepeatLaws
 pub mod ProgramLaws

@@ -29,8 +29,9 @@ use Rattle.program_test.specs.declared.test.Tested.{Tested}
 use Rattle.program_parameters.specs.Entries.{nextIn}
 use Rattle.program_record.specs.Record.{mark₁, mark₂}
 use Rattle.program_records.specs.Records.{recordsAre}
-use Rattle.program_test.specs.Test.{NamesAre, startFits, noProgram, TestedAs}
-use Rattle.program_test.proofs.NameLaws.{Named, none-named, all-named}
+use Rattle.program_names.specs.Names.{NamesAre}
+use Rattle.program_test.specs.Test.{startFits, noProgram, TestedAs}
+use Rattle.program_names.proofs.NameLaws.{Named, none-named, all-named}
 use Rattle.program_parameters.proofs.PartLaws.{same-3}
 use Rattle.program_test.proofs.RepeatLaws.{again, repeated-law}
 

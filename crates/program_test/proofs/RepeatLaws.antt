@@ -12,7 +12,7 @@ use Rattle.run_slot_search.specs.Search.{namesAt}
 use Rattle.component_ids.specs.declared.Repeat.{Repeat}
 use Rattle.component_ids.specs.declared.Repeat.the-variants.{At, Nothing}
 use Rattle.component_ids.specs.Identifiers.{among, searchFrom, repeated}
-use Rattle.program_test.proofs.NameLaws.{names-more}
+use Rattle.program_names.proofs.NameLaws.{names-more}
 
 member-more : (x y : Bytes) (ys : List Bytes) → member x (ys ++ (y ∷ [])) ≡ (same x y || member x ys)
 member-more x y [] = refl

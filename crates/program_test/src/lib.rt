@@ -1,3 +1,2 @@
 // The program test.
-mod names;
 pub mod test;

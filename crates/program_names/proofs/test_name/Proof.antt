@@ -1,7 +1,7 @@
 use borrow.Author.Needs.{needs}
-use Rattle.program_test.proofs.NameLaws.{name-short, name-first, name-second, name-third, name-empty, name-long, name-cut, name-good}
-use Rattle.program_test.proofs.names.test_name.Statement.{statement}
-use Rattle.program_test.proofs.names.test_name.Tie as tie
+use Rattle.program_names.proofs.NameLaws.{name-short, name-first, name-second, name-third, name-empty, name-long, name-cut, name-good}
+use Rattle.program_names.proofs.test_name.Statement.{statement}
+use Rattle.program_names.proofs.test_name.Tie as tie
 
 -- back to the entry, from where a name's head has room
 abbrev to-entry : tie.Else1 → tie.Start

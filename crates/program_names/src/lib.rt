@@ -6,7 +6,7 @@ ghost use Rattle.rules.specs.Lent.{was, left};
 ghost use Rattle.rules.specs.Limits.{limits, places};
 ghost use Rattle.rules.specs.ProgramTest as Rule;
 ghost use Rattle.program_parameters.specs.Entries.{nextIn};
-ghost use Rattle.program_test.specs.Test.{nameEnd, NamesAre};
+ghost use Rattle.program_names.specs.Names.{nameEnd, NamesAre};
 use byte_buffer::wide;
 use rules::controller::Controller;
 use rules::controller::Places;
@@ -51,7 +51,7 @@ fn test_name(p: &[u8], at: usize) -> usize
 }
 
 // The place after the n identifiers from `at` on, 0 if one is not well formed; and their places.
-pub(crate) fn test_names(p: &[u8], at: usize, n: usize, ids: &mut Places) -> usize
+pub fn test_names(p: &[u8], at: usize, n: usize, ids: &mut Places) -> usize
     requires { ⌜ (0 < at) × (at ≤ length (now p)) × (n ≤ limits .components) × (now ids ≡ replicate places 0) ⌝ }
     ensures { λ r. ⌜ (r ≡ nextIn (length (was p)) (Rule.idsIn n (drop at (was p)))) × NamesAre (was p) at n (Rule.idsIn n (drop at (was p))) (left ids) ⌝ }
 {

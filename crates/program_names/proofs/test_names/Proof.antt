@@ -6,9 +6,9 @@ use borrow.Author.Needs.{needs}
 use lib.ListN.{length}
 use lib.Seq.{lt-length-set}
 use Rattle.rules.specs.Limits as Limits
-use Rattle.program_test.proofs.NameLaws.{Sofar, sofar-start, sofar-stop, sofar-next, sofar-end}
-use Rattle.program_test.proofs.names.test_names.Statement.{statement}
-use Rattle.program_test.proofs.names.test_names.Tie as tie
+use Rattle.program_names.proofs.NameLaws.{Sofar, sofar-start, sofar-stop, sofar-next, sofar-end}
+use Rattle.program_names.proofs.test_names.Statement.{statement}
+use Rattle.program_names.proofs.test_names.Tie as tie
 
 abbrev Inv-loop : tie.InvT-loop
 Inv-loop p at n places₀ next₀ k₀ places next k = (k ≤ n) × (length places ≡ Limits.places) × Sofar p at n places next k

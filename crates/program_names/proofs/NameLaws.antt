@@ -24,7 +24,7 @@ use Rattle.run_slot_search.proofs.SearchLaws.{name-at, names-count}
 use Rattle.program_parameters.proofs.PartLaws.{rest-at, same-3}
 use Rattle.program_parameters.specs.Entries.{nextIn}
 use Rattle.program_record.specs.Record.{mark₁, mark₂}
-use Rattle.program_test.specs.Test.{nameEnd, placesFrom, NamesAre}
+use Rattle.program_names.specs.Names.{nameEnd, placesFrom, NamesAre}
 
 pub marked-at : (p : Bytes) (at c : ℕ) → at + 3 ≤ length p →
     marked c (drop at p) ≡ (eqb (getD p at 0) mark₁ && (eqb (getD p (at + 1) 0) mark₂ && (eqb (getD p (at + codeFrom) 0) c && true)))
