@@ -6,42 +6,17 @@ use lib.Dec.{eqb}
 use lib.ListN.{length, getD, take, drop, replicate}
 use Rattle.rules.specs.declared.tables.Argument.{Argument}
 use Rattle.rules.specs.declared.tables.Argument.the-variants as A
-use Rattle.rules.specs.declared.tables.Known.{Known}
-use Rattle.rules.specs.declared.tables.Known.the-variants as K
-use Rattle.rules.specs.declared.tables.Parameter.{Parameter}
-use Rattle.rules.specs.declared.tables.Parameter.the-variants as P
-use Rattle.rules.specs.Bytes.{fourAt}
-use Rattle.rules.specs.Commands.{params, paramOf}
 use Rattle.rules.specs.Limits.{limits}
-use Rattle.rules.specs.ProgramFormat.{entryLengthFrom, entrySize, sizeBytes, sourceBytes}
-use Rattle.rules.specs.Tables.{known}
+use Rattle.rules.specs.ProgramFormat.{entryLengthFrom, entrySize}
 use Rattle.rules_kinds.specs.Kinds.{kindOf}
-use Rattle.text.specs.Text.{Bytes, ascii, decimal, hex, quoted}
+use Rattle.text.specs.Text.{Bytes, ascii, hex}
 use Rattle.text_names.specs.Words.{parameterWords}
+use Rattle.depot_values.specs.Values.{valueText}
 use Rattle.depot_argument_lines.specs.Items.{sizeIn, itemsText}
 
 -- the spaces before what stands below a record
 abbrev pub indent : Bytes
 indent = replicate 12 32
-
--- a number of as many bytes as a size or a source
-unfoldable pub numberText : Bytes → Bytes
-numberText v = cond (eqb (length v) sizeBytes) (decimal (fourAt v 0)) (cond (eqb (length v) sourceBytes) (decimal (getD v 0 0)) (hex v))
-
--- the value of a parameter
-abbrev pub knownText : Parameter → Bytes → Bytes
-knownText P.Coerce v = numberText v
-knownText P.Uri v = quoted v
-knownText P.Source v = numberText v
-knownText P.Digest v = hex v
-knownText P.Size v = numberText v
-
-abbrev pub valueIn : Known → Bytes → Bytes
-valueIn (K.Parameter p) v = knownText p v
-valueIn K.Unknown v = numberText v
-
-unfoldable pub valueText : ℕ → Bytes → Bytes
-valueText key v = valueIn (known (paramOf key params)) v
 
 unfoldable pub parameterSize : Bytes → ℕ
 parameterSize s = sizeIn s entrySize (getD s entryLengthFrom 0)

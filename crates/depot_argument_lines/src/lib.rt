@@ -6,25 +6,17 @@ ghost use Rattle.rules.specs.Lent.{was};
 ghost use Rattle.rules.specs.ProgramFormat.{entryLengthFrom, entrySize};
 ghost use Rattle.rules_kinds.specs.Kinds.{kindOf};
 ghost use Rattle.text.specs.Text.{Writes};
-ghost use Rattle.depot_argument_lines.specs.Arguments.{listsParameters, numberText, knownText, valueText, parameterSize};
+ghost use Rattle.depot_argument_lines.specs.Arguments.{listsParameters, parameterSize};
 ghost use Rattle.depot_argument_lines.specs.Arguments.{parameterText, strayText, parametersText, hexText, argumentText};
-use byte_buffer::four;
 use byte_buffer::wide;
+use depot_values::put_value;
 use rules::controller::Controller;
 use rules::program_format::ENTRY_BYTES;
 use rules::program_format::ENTRY_LENGTH;
-use rules::program_format::SIZE_BYTES;
-use rules::program_format::SOURCE_BYTES;
 use rules::tables::Argument;
-use rules::tables::Known;
-use rules::tables::Parameter;
 use rules_kinds::argument_of;
-use rules_lookup::look_up_parameter;
-use rules_tables::tables;
 use text::put;
-use text::put_decimal;
 use text::put_hex;
-use text::put_quoted;
 use text::put_spaces;
 
 // The keys that a program has: all but coerce.
@@ -32,41 +24,6 @@ const KEYS: usize = Controller::PARAMETERS - 1;
 
 // The spaces before what stands below a record.
 const INDENT: usize = 12;
-
-// A number of as many bytes as a size or a source.
-fn put_number(room: &mut [u8], at: usize, s: &[u8]) -> usize
-    ensures { λ r. ⌜ Writes (numberText (was s)) at room r ⌝ }
-{
-    if s.len() == SIZE_BYTES {
-        return put_decimal(room, at, four(s, 0));
-    }
-    if s.len() == SOURCE_BYTES {
-        return put_decimal(room, at, wide(s[0]));
-    }
-    put_hex(room, at, s)
-}
-
-fn put_known(room: &mut [u8], at: usize, parameter: Parameter, s: &[u8]) -> usize
-    ensures { λ r. ⌜ Writes (knownText parameter (was s)) at room r ⌝ }
-{
-    match parameter {
-        Parameter::Coerce => put_number(room, at, s),
-        Parameter::Uri => put_quoted(room, at, s),
-        Parameter::Source => put_number(room, at, s),
-        Parameter::Digest => put_hex(room, at, s),
-        Parameter::Size => put_number(room, at, s),
-    }
-}
-
-fn put_value(room: &mut [u8], at: usize, key: usize, s: &[u8]) -> usize
-    ensures { λ r. ⌜ Writes (valueText key (was s)) at room r ⌝ }
-{
-    let row = look_up_parameter(&tables(), key);
-    match row {
-        Known::Parameter(parameter) => put_known(room, at, parameter, s),
-        Known::Unknown => put_number(room, at, s),
-    }
-}
 
 // How long the parameter at the start of the bytes is, 0 if none lies there.
 fn size_of(s: &[u8]) -> usize

@@ -1,8 +1,8 @@
 use mathlib.Core.Path.{sym, _∙_}
-use Rattle.depot_argument_lines.specs.Arguments.{valueText}
+use Rattle.depot_values.specs.Values.{valueText}
 use borrow.Author.Needs.{needs}
-use Rattle.depot_argument_lines.proofs.put_value.Statement.{statement}
-use Rattle.depot_argument_lines.proofs.put_value.Tie as tie
+use Rattle.depot_values.proofs.put_value.Statement.{statement}
+use Rattle.depot_values.proofs.put_value.Tie as tie
 
 returns : tie.Need-returns
 unfolding valueText

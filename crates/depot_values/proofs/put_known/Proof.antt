@@ -1,6 +1,6 @@
 use borrow.Author.Needs.{needs}
-use Rattle.depot_argument_lines.proofs.put_known.Statement.{statement}
-use Rattle.depot_argument_lines.proofs.put_known.Tie as tie
+use Rattle.depot_values.proofs.put_known.Statement.{statement}
+use Rattle.depot_values.proofs.put_known.Tie as tie
 
 returns : tie.Need-returns
 returns c =

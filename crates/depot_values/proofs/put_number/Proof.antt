@@ -1,10 +1,10 @@
 use borrow.Author.Tests.{eq-eqb, ne-eqb}
 use lib.ListN.{length}
 use Rattle.rules.specs.ProgramFormat.{sizeBytes, sourceBytes}
-use Rattle.depot_argument_lines.specs.Arguments.{numberText}
+use Rattle.depot_values.specs.Values.{numberText}
 use borrow.Author.Needs.{needs}
-use Rattle.depot_argument_lines.proofs.put_number.Statement.{statement}
-use Rattle.depot_argument_lines.proofs.put_number.Tie as tie
+use Rattle.depot_values.proofs.put_number.Statement.{statement}
+use Rattle.depot_values.proofs.put_number.Tie as tie
 
 returns : tie.Need-returns
 unfolding numberText
