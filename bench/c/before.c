@@ -1,5 +1,5 @@
-/* Two builds of the library in one process: for each job and envelope, the time of the new one over that of the old one.
-   The old one's functions are called before_..; `before` builds and runs this. */
+/* Two builds of the library in one process: a line for each job, a number for each envelope, the time of the new one over that of the
+   old one. The old one's functions are called before_..; `before` builds and runs this. */
 #include <stdbool.h>
 #include <stdint.h>
 #include <string.h>
@@ -84,11 +84,10 @@ static void read_subjects(const char *folder)
     board.number = 1;
 }
 
-static void row(const char *job, work now, work then)
+static void row(work now, work then)
 {
-    printf("| %s |", job);
     for (int i = 0; i < ENVELOPES; i++)
-        printf(" %.2f |", ratio(now, then, &subjects[i]));
+        printf("%.4f ", ratio(now, then, &subjects[i]));
     printf("\n");
 }
 
@@ -99,10 +98,9 @@ int main(int count, char **words)
         return 2;
     }
     read_subjects(words[1]);
-    printf("| new / old | E, 83 bytes | 4,096 bytes | 256 commands, nested | 256 commands, flat |\n|---|---:|---:|---:|---:|\n");
-    row("check", pitvorgas_checks, before_checks);
-    row("boot by envelope", pitvorgas_boots, before_boots);
-    row("boot by program", pitvorgas_boots_program, before_boots_program);
-    row("translate for boot", pitvorgas_translates, before_translates);
+    row(pitvorgas_checks, before_checks);
+    row(pitvorgas_boots, before_boots);
+    row(pitvorgas_boots_program, before_boots_program);
+    row(pitvorgas_translates, before_translates);
     return 0;
 }
