@@ -66,7 +66,7 @@ pub fn holds_alternatives(kind: Argument) -> bool
     }
 }
 
-// The same without a table at hand: the runs read an argument by it.
+// The same without a table at hand: the run of an envelope and the tools read an argument by it.
 pub fn argument_of(code: usize) -> Argument
     ensures { λ r. ⌜ r ≡ kindOf code ⌝ }
 {
