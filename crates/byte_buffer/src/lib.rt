@@ -24,7 +24,7 @@ pub fn four(s: &[u8], at: usize) -> usize
     requires { ⌜ at + 4 ≤ length (now s) ⌝ }
     ensures { λ r. ⌜ (r ≡ fourAt (was s) at) × (r < 4294967296) ⌝ }
 {
-    (two(s, at) * 256 + wide(s[at + 2])) * 256 + wide(s[at + 3])
+    two(s, at) * 65536 + two(s, at + 2)
 }
 
 // The number n in two bytes, and in four, over those of `room` from `at` on.
