@@ -122,9 +122,6 @@ module _ (p : Bytes) (at to key lo hi : ℕ) where
     next-bad : reading ≡ bad → 0 ≡ nextIn to reading
     next-bad q = rw q
 
-    pub next-cut : at < to → getD p at 0 ≡ key → to - at < entrySize → 0 ≡ nextIn to reading
-    next-cut h k s = next-bad (reading-cut h k s)
-
     pub next-low : at + 1 < to → getD p at 0 ≡ key → size < lo → 0 ≡ nextIn to reading
     next-low h k s = next-bad (reading-low h k s)
 
@@ -156,6 +153,14 @@ module _ (p : Bytes) (at to key lo hi : ℕ) where
         cut : (b : Bool) → leb entrySize (to - at) ≡ b → (reading ≡ bad) ⊎ Whole
         cut true e = low (omega (arith, leb-true entrySize (to - at) e)) (leb lo size) refl
         cut false e = inl (reading-cut h k (leb-false _ _ e))
+
+    -- too few bytes are left for its key, its length and the least value
+    pub next-cut : at < to → getD p at 0 ≡ key → to - at < entrySize + lo → 0 ≡ nextIn to reading
+    next-cut h k s = go (keyed h k)
+      where
+        go : (reading ≡ bad) ⊎ Whole → 0 ≡ nextIn to reading
+        go (inl e) = next-bad e
+        go (inr w) = absurd (omega (arith, w))
 
     cases : (reading ≡ bad) ⊎ ((r : ℕ) × Step r)
     cases = ended (eqb at to) refl

@@ -34,6 +34,11 @@ fn optional(p: &[u8], at: usize, to: usize, key: usize, lo: usize, hi: usize) ->
     if left < ENTRY_BYTES {
         return 0;
     }
+    let room = left - ENTRY_BYTES;
+    // where the length is fixed, this makes the last test idle
+    if room < lo {
+        return 0;
+    }
     let n = wide(p[at + ENTRY_LENGTH]);
     if n < lo {
         return 0;
@@ -41,7 +46,7 @@ fn optional(p: &[u8], at: usize, to: usize, key: usize, lo: usize, hi: usize) ->
     if hi < n {
         return 0;
     }
-    if left - ENTRY_BYTES < n {
+    if room < n {
         return 0;
     }
     at + ENTRY_BYTES + n

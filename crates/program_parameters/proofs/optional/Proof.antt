@@ -12,7 +12,7 @@ to-entry c = c .before .before .before .before .before
 
 -- back to where the parameter has its key, from where its length was read
 abbrev to-keyed : tie.After-wide2 → tie.Else2
-to-keyed c = c .before .before .before
+to-keyed c = c .before .before .before .before
 
 ended : tie.Need-returns
 ended c = next-end _ _ _ _ _ _ (omega arith) (omega arith) (c .if1 .taken)
@@ -25,21 +25,27 @@ cut c =
     let a = to-entry (c .before) .args in
     next-cut (now (a .p)) (a .at) (a .to) (a .key) (a .lo) (a .hi) (omega arith) (omega arith) (omega arith) (sym (c .before .before .wide .ensures .0) ∙ c .before .if2 .left) (omega arith)
 
-low : tie.Need-returns-4
+no-room : tie.Need-returns-4
+no-room c =
+    let keyed = c .before .before in
+    let a = to-entry keyed .args in
+    next-cut (now (a .p)) (a .at) (a .to) (a .key) (a .lo) (a .hi) (omega arith) (omega arith) (omega arith) (sym (keyed .before .wide .ensures .0) ∙ keyed .if2 .left) (omega arith)
+
+low : tie.Need-returns-5
 low c =
     let keyed = to-keyed (c .before) in
     let a = to-entry keyed .args in
     next-low (now (a .p)) (a .at) (a .to) (a .key) (a .lo) (a .hi) (omega arith) (omega arith) (omega arith)
     (sym (keyed .before .wide .ensures .0) ∙ keyed .if2 .left) (omega arith)
 
-high : tie.Need-returns-5
+high : tie.Need-returns-6
 high c =
     let keyed = to-keyed (c .before .before) in
     let a = to-entry keyed .args in
     next-high (now (a .p)) (a .at) (a .to) (a .key) (a .lo) (a .hi) (omega arith) (omega arith) (omega arith)
     (sym (keyed .before .wide .ensures .0) ∙ keyed .if2 .left) (omega arith) (omega arith)
 
-long : tie.Need-returns-6
+long : tie.Need-returns-7
 long c =
     let keyed = to-keyed (c .before .before .before) in
     let a = to-entry keyed .args in
@@ -47,7 +53,7 @@ long c =
     (sym (keyed .before .wide .ensures .0) ∙ keyed .if2 .left)
     (omega arith) (omega arith) (omega arith)
 
-there : tie.Need-returns-7
+there : tie.Need-returns-8
 there c =
     let length = c .before .before .before in
     let keyed = to-keyed length in
@@ -65,6 +71,7 @@ optional-spec =
     other
     (λ c. search needs)
     cut
+    no-room
     (λ c. search needs)
     (λ c. search needs)
     (λ c κs. search needs)
