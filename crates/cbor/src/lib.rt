@@ -37,7 +37,7 @@ pub enum ItemRead {
 }
 
 // How many bytes follow a head of that kind and number as its content.
-fn content(kind: usize, num: usize) -> usize
+pub(crate) fn content(kind: usize, num: usize) -> usize
     ensures { λ r. ⌜ ((next : ℕ) → after (record { kind = kind; num = num; next = next }) ≡ next + r) ⌝ }
 {
     if kind == BYTES {

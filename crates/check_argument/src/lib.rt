@@ -13,6 +13,7 @@ ghost use Rattle.cbor.specs.Reading.{reading, after, itemReading, unnumbered};
 ghost use Rattle.check_argument.specs.Argument.{argumentStart};
 use cbor::reading::Reading;
 use cbor::reading::item;
+use cbor::reading::nil;
 use cbor::reading::one_of;
 use cbor::reading::refuse;
 use rules::answers::Refusal;
@@ -154,7 +155,7 @@ pub fn read_argument(
             let class = Controller::CLASS_BYTES;
             string(s, cbor::BYTES, class, class, end, at)
         }
-        Argument::Nil => place(item(s, end, at, cbor::NIL, 0, 0)),
+        Argument::Nil => place(nil(s, end, at)),
         Argument::Index => component(s, components, end, at),
         Argument::Alternatives => item(s, end, at, cbor::ARRAY, 1, Controller::ALTERNATIVES),
         Argument::Parameters => {

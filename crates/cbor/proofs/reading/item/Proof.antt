@@ -1,19 +1,27 @@
-use mathlib.Core.Path.{_∙_}
+use mathlib.Core.Path.{refl, sym, ap}
+use native.Mathlib.Omega.{arith}
 use borrow.Author.Needs.{needs}
-use Rattle.cbor.proofs.ReadingLaws.{answered}
+use Rattle.cbor.specs.Reading.{headReading}
+use Rattle.cbor.proofs.ShortLaws.{short-item}
 use Rattle.cbor.proofs.reading.item.Statement.{statement}
 use Rattle.cbor.proofs.reading.item.Tie as tie
+
+short : tie.Need-returns
+short c =
+    let kinds = c .before .before .before .is-short .ensures (c .before .before .if2 .taken) in
+    let number = c .before .number-fits .ensures (c .if3 .taken) in
+    sym (ap headReading (short-item _ _ _ _ _ _ _ _ (c .before .before .before .before .wide .ensures .0) (omega arith) kinds number))
 
 pub item-spec : {M : Type 1} → statement M
 item-spec =
     tie.close
     (tie.spec
-    (λ c κs. search needs)
-    (λ c. search needs)
     (λ c. search needs)
     (λ c κs. search needs)
     (λ c. search needs)
     (λ c κs. search needs)
-    (λ c. answered _ _ _ (c .before .before .before .read-item .ensures) (c .before .h .given .1))
-    (λ c. c .refuse .ensures ∙ answered _ _ _ (c .before .before .before .before .read-item .ensures) (c .before .before .p .given .1))
-    (λ c. c .refuse2 .ensures ∙ answered _ _ _ (c .before .before .before .before .read-item .ensures) (c .before .before .p2 .given .1)))
+    (λ c. search needs)
+    (λ c κs. search needs)
+    short
+    (λ c κs. search needs)
+    (λ c. search needs))

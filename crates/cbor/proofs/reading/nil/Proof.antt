@@ -1,0 +1,13 @@
+use mathlib.Core.Path.{_≡_, refl, sym, ap}
+use native.Mathlib.Omega.{arith}
+use borrow.Author.Needs.{needs}
+use Rattle.cbor.specs.Reading.{headReading}
+use Rattle.cbor.proofs.ShortLaws.{nil-item}
+use Rattle.cbor.proofs.reading.nil.Statement.{statement}
+use Rattle.cbor.proofs.reading.nil.Tie as tie
+
+short : tie.Need-returns
+short c = sym (ap headReading (nil-item _ _ _ (omega arith)))
+
+pub nil-spec : {M : Type 1} → statement M
+nil-spec = tie.close (tie.spec (λ c. search needs) (λ c. search needs) short (λ c κs. search needs) (λ c. search needs))
