@@ -102,5 +102,6 @@ int main(int count, char **words)
     row(pitvorgas_boots, before_boots);
     row(pitvorgas_boots_program, before_boots_program);
     row(pitvorgas_translates, before_translates);
+    row(pitvorgas_boots, pitvorgas_boots_program);
     return 0;
 }

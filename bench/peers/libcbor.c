@@ -1,0 +1,119 @@
+/* Our check of an envelope against libcbor's walk of the same bytes: a number for each envelope, the time of check over that of the walk.
+   The walk reads every head by libcbor's stream decoder and opens every byte string that holds one array or map, and tests nothing else.
+   Which ones these are is found before the time is taken. `libcbor` builds and runs this. */
+#include <cbor.h>
+#include <string.h>
+
+#include "../../include/pitvorgas.h"
+#include "../c/rounds.h"
+
+enum { ENVELOPES = 4, ENVELOPE_ROOM = 4096 };
+
+typedef struct {
+    unsigned char bytes[ENVELOPE_ROOM];
+    size_t length;
+    unsigned char opened[ENVELOPE_ROOM]; /* by the place where the string's bytes start */
+} subject;
+
+/* How many items are still to come. */
+typedef struct {
+    size_t items;
+} count;
+
+static void counts_array(void *x, size_t items)
+{
+    ((count *)x)->items += items;
+}
+
+static void counts_map(void *x, size_t pairs)
+{
+    ((count *)x)->items += 2 * pairs;
+}
+
+/* Whether the bytes are one array or map, with all that it holds, and nothing after it. */
+static int holds_items(cbor_data bytes, size_t length)
+{
+    struct cbor_callbacks counting = cbor_empty_callbacks;
+    count left = {1};
+    size_t at = 0;
+    counting.array_start = counts_array;
+    counting.map_start = counts_map;
+    if (!length || (bytes[0] >> 5 != 4 && bytes[0] >> 5 != 5))
+        return 0;
+    for (; left.items && at < length; left.items--) {
+        struct cbor_decoder_result head = cbor_stream_decode(bytes + at, length - at, &counting, &left);
+        if (head.status != CBOR_DECODER_FINISHED)
+            return 0;
+        at += head.read;
+    }
+    return !left.items && at == length;
+}
+
+static struct cbor_callbacks marking, walking;
+
+static size_t walk(cbor_data bytes, size_t length, const struct cbor_callbacks *callbacks, subject *s)
+{
+    size_t at = 0;
+    while (at < length) {
+        struct cbor_decoder_result head = cbor_stream_decode(bytes + at, length - at, callbacks, s);
+        if (head.status != CBOR_DECODER_FINISHED)
+            return at;
+        at += head.read;
+    }
+    return at;
+}
+
+static void marks(void *x, cbor_data bytes, size_t length)
+{
+    subject *s = x;
+    if (holds_items(bytes, length)) {
+        s->opened[bytes - s->bytes] = 1;
+        walk(bytes, length, &marking, s);
+    }
+}
+
+static void opens(void *x, cbor_data bytes, size_t length)
+{
+    subject *s = x;
+    if (s->opened[bytes - s->bytes])
+        walk(bytes, length, &walking, s);
+}
+
+static void walks(const void *x)
+{
+    subject *s = (subject *)x;
+    size_t at = walk(s->bytes, s->length, &walking, s);
+    __asm__ volatile("" : : "r"(at) : "memory");
+}
+
+static void checks(const void *x)
+{
+    const subject *s = x;
+    struct pitvorgas_check_answer answer = pitvorgas_check(s->bytes, s->length);
+    __asm__ volatile("" : : "r"(&answer) : "memory");
+}
+
+int main(int words, char **word)
+{
+    static subject s;
+    if (words != 2) {
+        fprintf(stderr, "usage: libcbor FOLDER\n");
+        return 2;
+    }
+    marking = walking = cbor_empty_callbacks;
+    marking.byte_string = marks;
+    walking.byte_string = opens;
+    for (int i = 0; i < ENVELOPES; i++) {
+        char name[32];
+        snprintf(name, sizeof name, "%d.envelope", i);
+        memset(&s, 0, sizeof s);
+        s.length = file(word[1], name, s.bytes, ENVELOPE_ROOM);
+        if (walk(s.bytes, s.length, &marking, &s) != s.length) {
+            fprintf(stderr, "%s: not read to its end\n", name);
+            return 2;
+        }
+        printf("%.4f ", ratio(checks, walks, &s));
+    }
+    printf("\n");
+    return 0;
+}
