@@ -15,38 +15,33 @@ typedef struct {
     unsigned char opened[ENVELOPE_ROOM]; /* by the place where the string's bytes start */
 } subject;
 
-/* How many items are still to come. */
-typedef struct {
-    size_t items;
-} count;
-
-static void counts_array(void *x, size_t items)
+/* How many items are still to come: an array or a map adds those that it holds. */
+static void counts_array(void *left, size_t items)
 {
-    ((count *)x)->items += items;
+    *(size_t *)left += items;
 }
 
-static void counts_map(void *x, size_t pairs)
+static void counts_map(void *left, size_t pairs)
 {
-    ((count *)x)->items += 2 * pairs;
+    *(size_t *)left += 2 * pairs;
 }
 
 /* Whether the bytes are one array or map, with all that it holds, and nothing after it. */
 static int holds_items(cbor_data bytes, size_t length)
 {
     struct cbor_callbacks counting = cbor_empty_callbacks;
-    count left = {1};
-    size_t at = 0;
+    size_t left = 1, at = 0;
     counting.array_start = counts_array;
     counting.map_start = counts_map;
     if (!length || (bytes[0] >> 5 != 4 && bytes[0] >> 5 != 5))
         return 0;
-    for (; left.items && at < length; left.items--) {
+    for (; left && at < length; left--) {
         struct cbor_decoder_result head = cbor_stream_decode(bytes + at, length - at, &counting, &left);
         if (head.status != CBOR_DECODER_FINISHED)
             return 0;
         at += head.read;
     }
-    return !left.items && at == length;
+    return !left && at == length;
 }
 
 static struct cbor_callbacks marking, walking;
