@@ -1,7 +1,10 @@
-use mathlib.Core.Path.{sym, _∙_}
+use Prim.Native.Nat.{_+_, _-_, _<_}
+use mathlib.Core.Path.{_≡_, sym, _∙_}
 use native.Mathlib.Omega.{arith}
 use borrow.Author.Needs.{needs}
 use denote.Ref.{now}
+use Rattle.rules.specs.ProgramFormat.{entrySize}
+use Rattle.program_parameters.specs.Entries.{endAt}
 use Rattle.program_parameters.proofs.EntryLaws.{next-end, next-other, next-some, next-cut, next-low, next-high, next-long}
 use Rattle.program_parameters.proofs.optional.Statement.{statement}
 use Rattle.program_parameters.proofs.optional.Tie as tie
@@ -20,16 +23,18 @@ ended c = next-end _ _ _ _ _ _ (omega arith) (omega arith) (c .if1 .taken)
 other : tie.Need-returns-2
 other c = next-other _ _ _ _ _ _ (omega arith) (omega arith) (omega arith) (λ e. c .if2 .taken (c .before .wide .ensures .0 ∙ e))
 
+-- the parameter has its key, and too few bytes are left for it
+too-few : (c : tie.Else2) → (let a = to-entry c .args in a .to - a .at < entrySize + a .lo) →
+    (let a = to-entry c .args in 0 ≡ endAt (now (a .p)) (a .to) (a .key) (a .lo) (a .hi) (a .at))
+too-few c h =
+    let a = to-entry c .args in
+    next-cut (now (a .p)) (a .at) (a .to) (a .key) (a .lo) (a .hi) (omega arith) (omega arith) (omega arith) (sym (c .before .wide .ensures .0) ∙ c .if2 .left) h
+
 cut : tie.Need-returns-3
-cut c =
-    let a = to-entry (c .before) .args in
-    next-cut (now (a .p)) (a .at) (a .to) (a .key) (a .lo) (a .hi) (omega arith) (omega arith) (omega arith) (sym (c .before .before .wide .ensures .0) ∙ c .before .if2 .left) (omega arith)
+cut c = too-few (c .before) (omega arith)
 
 no-room : tie.Need-returns-4
-no-room c =
-    let keyed = c .before .before in
-    let a = to-entry keyed .args in
-    next-cut (now (a .p)) (a .at) (a .to) (a .key) (a .lo) (a .hi) (omega arith) (omega arith) (omega arith) (sym (keyed .before .wide .ensures .0) ∙ keyed .if2 .left) (omega arith)
+no-room c = too-few (c .before .before) (omega arith)
 
 low : tie.Need-returns-5
 low c =
