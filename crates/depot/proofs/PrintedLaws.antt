@@ -2,6 +2,7 @@
 use Prim.Native.Nat.{ℕ}
 use mathlib.Core.Path.{_≡_, ap}
 use mathlib.Core.Bool.{Bool, true, false}
+use mathlib.Core.List.{_++_}
 use borrow.Author.Tests.{eq-eqb, ne-eqb}
 use Rattle.rules.specs.declared.answers.Refusal.the-variants.{BadProgram}
 use Rattle.rules.specs.Answers.{refusalNumber}
@@ -12,18 +13,16 @@ use Rattle.rules.specs.ProgramTest.{programIn}
 use Rattle.pitvorgas_answers.specs.declared.CheckAnswer.{CheckAnswer}
 use Rattle.pitvorgas_answers.specs.declared.NewerAnswer.{NewerAnswer}
 use Rattle.pitvorgas.specs.Answers.{checkedOf, newerOf}
-use Rattle.io.specs.Counts.{Counts}
 use Rattle.text.specs.Text.{Bytes, Wrote}
 use Rattle.depot_refusals.specs.Refusals.{refusedText}
 use Rattle.depot_report.specs.Report.{newerText}
 use Rattle.depot_show.specs.Manifest.{partsText}
 use Rattle.depot_listing.specs.Listing.{programText}
 use Rattle.depot.specs.Printed.{shownOf, shownText, newestOf, newestText, listedOf, listedText}
-use Rattle.depot.proofs.PageLaws.{wrote-counts}
 
--- what was written can be printed
-pub printed : {b b′ room : Bytes} {r : ℕ} {room′ : Bytes} → b ≡ b′ → Wrote b 0 room r room′ → Wrote b′ 0 room r room′ × Counts r room′
-printed e w = (rw e at w, wrote-counts w)
+-- what was written, by the jobs' answers
+pub printed : {b b′ room : Bytes} {r : ℕ} {room′ : Bytes} → b ≡ b′ → Wrote b 0 room r room′ → Wrote b′ 0 room r room′
+printed e w = rw e at w
 
 module _ (s : Bytes) (a : CheckAnswer) (e : a ≡ checkedOf (check s)) where
   pub shown-refused : (a .refusal ≡ 0 → ⊥) → refusedText (a .refusal) (a .place) s ≡ shownText s
@@ -48,6 +47,6 @@ module _ (s : Bytes) (good : Bool) (e : good ≡ accepted (programIn s)) where
   unfolding listedOf
   listed-program h = rw h at (ap (λ (b : Bool). listedOf b s) e)
 
-  pub listed-refused : good ≡ false → refusedText (refusalNumber BadProgram) 0 s ≡ listedText s
+  pub listed-refused : good ≡ false → refusedText (refusalNumber BadProgram) 0 s ++ programText s ≡ listedText s
   unfolding listedOf
   listed-refused h = rw h at (ap (λ (b : Bool). listedOf b s) e)

@@ -1,5 +1,6 @@
 -- What is printed of files, by the jobs' answers.
 use mathlib.Core.Bool.{Bool, cond}
+use mathlib.Core.List.{_++_}
 use lib.Dec.{eqb}
 use Rattle.rules.specs.declared.answers.Refusal.the-variants.{BadProgram}
 use Rattle.rules.specs.Answers.{refusalNumber}
@@ -31,9 +32,9 @@ newestOf a s t = newerText a (checkedOf (check (cond (eqb (a .second) 0) s t)) .
 abbrev pub newestText : Bytes → Bytes → Bytes
 newestText s t = newestOf (newerOf (newer s t)) s t
 
--- the records of a program, or its refusal
+-- the records of a program; below its refusal, if it is refused
 unfoldable pub listedOf : Bool → Bytes → Bytes
-listedOf good s = cond good (programText s) (refusedText (refusalNumber BadProgram) 0 s)
+listedOf good s = cond good (programText s) (refusedText (refusalNumber BadProgram) 0 s ++ programText s)
 
 abbrev pub listedText : Bytes → Bytes
 listedText s = listedOf (accepted (programIn s)) s

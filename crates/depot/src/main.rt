@@ -1,24 +1,79 @@
 // The depot tool: checks, shows, compares and translates files of envelopes, lists programs, and runs both on described devices.
+mod batch;
+mod command;
 mod files;
 mod inspect;
-mod pages;
+mod messages;
 mod runs;
+mod streams;
 mod translation;
 
+use byte_buffer::is;
 use depot_usage::Job;
+use depot_usage::fits;
 use depot_usage::job_of;
+use depot_words::later_words;
+use depot_words::word_at;
+use depot_words::word_count;
+use libc::STDERR_FILENO;
+use libc::STDOUT_FILENO;
+use streams::Streams;
+use text::put;
+use text::put_byte;
+
+// One more word; of one that is too long for a path, as much as makes it so.
+fn put_arg(words: &mut [u8], at: usize, i: usize) -> usize {
+    let mut word = io::buffer();
+    let n = os::arg(i, &mut word);
+    if os::errno() == libc::ENAMETOOLONG {
+        let to = put(words, at, &word);
+        return put_byte(words, to, 0);
+    }
+    let to = put(words, at, &word[..n]);
+    put_byte(words, to, 0)
+}
+
+// The words of the command line, without the program's own name.
+fn gather(words: &mut [u8]) -> usize {
+    let count = os::arg_count();
+    let mut to = 0;
+    let mut i = 1;
+    while i < count {
+        to = put_arg(words, to, i);
+        i += 1;
+    }
+    to
+}
+
+fn run_words(words: &[u8], streams: Streams) -> usize {
+    match job_of(word_at(words, 0)) {
+        Job::Batch => {
+            if fits(Job::Batch, word_count(words)) {
+                return batch::batch_file(word_at(words, 1), streams);
+            }
+            command::run_command(words, streams)
+        }
+        _ => command::run_command(words, streams),
+    }
+}
+
+// Before the command may stand `--status`: its status is then the last line on standard error.
+fn run_told(words: &[u8], streams: Streams) {
+    if is(word_at(words, 0), b"--status") {
+        let status = run_words(later_words(words), streams);
+        messages::say_status(streams.err, status);
+        return;
+    }
+    run_words(words, streams);
+}
 
 fn main() {
-    let mut word = io::buffer();
-    let n = os::arg(1, &mut word);
-    match job_of(&word[..n], os::arg_count()) {
-        Job::Check => inspect::check_file(),
-        Job::Show => inspect::show_file(),
-        Job::Newer => inspect::newer_file(),
-        Job::Translate => translation::translate_file(),
-        Job::List => inspect::list_file(),
-        Job::Run => runs::run_file(),
-        Job::RunProgram => runs::run_program_file(),
-        Job::Unknown => pages::say_usage(),
-    }
+    let streams = Streams {
+        out: STDOUT_FILENO,
+        err: STDERR_FILENO,
+    };
+    let mut words = io::large_buffer();
+    let to = gather(&mut words);
+    let n = streams::fitted(&words, to);
+    run_told(&words[..n], streams);
 }

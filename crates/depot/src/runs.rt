@@ -2,16 +2,26 @@
 ghost use mathlib.Core.Path.{_≡_};
 ghost use lib.ListN.{length};
 ghost use Rattle.rules.specs.Limits.{limits};
+use crate::files::is_standard;
 use crate::files::load;
-use crate::pages::group_word;
-use crate::pages::page;
-use crate::pages::print;
-use crate::pages::say_group;
-use crate::pages::say_line;
+use crate::messages::say_group;
+use crate::messages::say_once;
+use crate::messages::say_option;
+use crate::streams::Streams;
+use crate::streams::fitted;
+use crate::streams::page;
+use crate::streams::print;
+use byte_buffer::is;
 use depot_outcome::put_run;
 use depot_runs::Run;
 use depot_runs::run_as;
 use depot_usage::Asked;
+use depot_usage::FAULT;
+use depot_usage::asked_group;
+use depot_usage::run_status;
+use depot_words::later_words;
+use depot_words::word_at;
+use depot_words::word_count;
 use device_description::Scenario;
 use device_description::describe;
 use rules::controller::Controller;
@@ -30,54 +40,96 @@ fn trace_room() -> [u8; Controller::TRACE_BYTES]
 }
 
 // Runs the bytes, and prints what the run did or why it was refused.
-fn run_bytes(bytes: &[u8], what: Run, d: Scenario, slots: &mut [u8], answers: &[u8]) {
+fn run_bytes(
+    bytes: &[u8],
+    what: Run,
+    d: Scenario,
+    slots: &mut [u8],
+    answers: &[u8],
+    then: &[u8],
+    streams: Streams,
+) -> usize {
     let mut trace = trace_room();
     let answer = run_as(what, bytes, d, slots, answers, &mut trace);
     let mut text = page();
     let to = put_run(&mut text, 0, answer, bytes, &trace, slots);
-    print(&text, to);
+    print(streams, &text, to, run_status(answer.refusal, answer.end))
 }
 
 // Reads the description, and runs on the device that it describes.
-fn run_described(bytes: &[u8], what: Run, description: &[u8]) {
+fn run_described(
+    bytes: &[u8],
+    what: Run,
+    description: &[u8],
+    name: &[u8],
+    then: &[u8],
+    streams: Streams,
+) -> usize {
     let mut slots = [0u8; SLOTS_ROOM];
     let mut answers = [0u8; ANSWERS_ROOM];
     let d = describe(description, &mut slots, &mut answers);
-    let refused = d.refused;
-    if refused != 0 {
-        say_line(refused);
-        return;
+    if d.refused != 0 {
+        return FAULT;
     }
-    let n = d.slots;
-    let m = d.answers;
-    run_bytes(bytes, what, d, &mut slots[..n], &answers[..m]);
+    let n = fitted(&slots, d.slots);
+    let m = fitted(&answers, d.answers);
+    run_bytes(
+        bytes,
+        what,
+        d,
+        &mut slots[..n],
+        &answers[..m],
+        then,
+        streams,
+    )
 }
 
-// The files that two words of the command line name: what is run, and the description.
-fn run_files(what: Run, file: usize, device: usize) {
+// The files of two names: what is run, and the description.
+fn run_files(what: Run, file: &[u8], device: &[u8], then: &[u8], streams: Streams) -> usize {
+    if is_standard(file) {
+        if is_standard(device) {
+            return say_once(streams.err);
+        }
+    }
     let mut bytes = io::large_buffer();
-    let one = load(file, &mut bytes);
+    let one = load(file, &mut bytes, streams.err);
     if !one.ok {
-        return;
+        return FAULT;
     }
     let mut description = io::large_buffer();
-    let two = load(device, &mut description);
+    let two = load(device, &mut description, streams.err);
     if !two.ok {
-        return;
+        return FAULT;
     }
     let n = one.n;
     let m = two.n;
-    run_described(&bytes[..n], what, &description[..m]);
+    run_described(&bytes[..n], what, &description[..m], device, then, streams)
 }
 
-pub(crate) fn run_file() {
-    match group_word() {
-        Asked::Install => run_files(Run::Install, 3, 4),
-        Asked::Boot => run_files(Run::Boot, 3, 4),
-        Asked::Unknown => say_group(),
+// The words behind the job and its group: a file, a description and, if there are more, `--then` and a file.
+fn run_words(what: Run, words: &[u8], streams: Streams) -> usize {
+    let file = word_at(words, 0);
+    let device = word_at(words, 1);
+    if word_count(words) == 2 {
+        return run_files(what, file, device, b"", streams);
+    }
+    let option = word_at(words, 2);
+    if !is(option, b"--then") {
+        return say_option(streams.err, option);
+    }
+    run_files(what, file, device, word_at(words, 3), streams)
+}
+
+pub(crate) fn run_file(words: &[u8], streams: Streams) -> usize {
+    let group = word_at(words, 1);
+    let rest = later_words(later_words(words));
+    match asked_group(group) {
+        Asked::Install => run_words(Run::Install, rest, streams),
+        Asked::Boot => run_words(Run::Boot, rest, streams),
+        Asked::Unknown => say_group(streams.err, group),
     }
 }
 
-pub(crate) fn run_program_file() {
-    run_files(Run::Program, 2, 3)
+pub(crate) fn run_program_file(words: &[u8], streams: Streams) -> usize {
+    run_words(Run::Program, later_words(words), streams)
 }

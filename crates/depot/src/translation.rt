@@ -1,46 +1,60 @@
 // Translation of a file into a new file.
+use crate::files::beside;
 use crate::files::load;
 use crate::files::store;
-use crate::pages::group_word;
-use crate::pages::page;
-use crate::pages::print;
-use crate::pages::say_group;
+use crate::messages::say_group;
+use crate::streams::Streams;
+use crate::streams::fitted;
+use crate::streams::page;
+use crate::streams::print;
 use depot_refusals::put_refused;
 use depot_report::put_translated;
 use depot_usage::Asked;
+use depot_usage::DONE;
+use depot_usage::FAULT;
+use depot_usage::REFUSED;
+use depot_usage::asked_group;
+use depot_words::word_at;
 use pitvorgas::pitvorgas_translate;
 
-const FILE: usize = 3;
+const GROUP: usize = 1;
 
-const OUT: usize = 4;
+const FILE: usize = 2;
 
-// The program of an envelope goes to the file OUT; a refusal is told, and no file is made.
-fn translate_bytes(envelope: &[u8], boot: bool) {
+const OUT: usize = 3;
+
+// The program of an envelope goes to the file; a refusal is told, and no file is made.
+fn translate_bytes(envelope: &[u8], boot: bool, out: &[u8], streams: Streams) -> usize {
     let mut room = io::large_buffer();
     let answer = pitvorgas_translate(envelope, boot, &mut room);
     let mut text = page();
     if answer.refusal != 0 {
         let to = put_refused(&mut text, 0, answer.refusal, answer.place, envelope);
-        print(&text, to);
-        return;
+        return print(beside(out, streams), &text, to, REFUSED);
     }
-    let n = answer.length;
-    if store(OUT, &room[..n]) {
-        let to = put_translated(&mut text, 0, n);
-        print(&text, to);
+    let n = fitted(&room, answer.length);
+    if !store(out, &room[..n], streams) {
+        return FAULT;
     }
+    let to = put_translated(&mut text, 0, n);
+    print(beside(out, streams), &text, to, DONE)
 }
 
-pub(crate) fn translate_file() {
+fn translate_load(words: &[u8], boot: bool, streams: Streams) -> usize {
     let mut file = io::large_buffer();
-    let loaded = load(FILE, &mut file);
+    let loaded = load(word_at(words, FILE), &mut file, streams.err);
     if !loaded.ok {
-        return;
+        return FAULT;
     }
     let n = loaded.n;
-    match group_word() {
-        Asked::Install => translate_bytes(&file[..n], false),
-        Asked::Boot => translate_bytes(&file[..n], true),
-        Asked::Unknown => say_group(),
+    translate_bytes(&file[..n], boot, word_at(words, OUT), streams)
+}
+
+pub(crate) fn translate_file(words: &[u8], streams: Streams) -> usize {
+    let group = word_at(words, GROUP);
+    match asked_group(group) {
+        Asked::Install => translate_load(words, false, streams),
+        Asked::Boot => translate_load(words, true, streams),
+        Asked::Unknown => say_group(streams.err, group),
     }
 }

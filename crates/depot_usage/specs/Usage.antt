@@ -1,29 +1,83 @@
 -- The words of the command line.
 use Prim.Native.Nat.{ℕ}
-use mathlib.Core.Bool.{Bool, false, cond}
+use mathlib.Core.Bool.{Bool, true, cond}
 use lib.Dec.{eqb}
 use Rattle.rules.specs.Bytes.{Bytes, same}
+use Rattle.rules.specs.declared.answers.End.the-variants as E
+use Rattle.rules.specs.Answers.{endNumber}
 use Rattle.text.specs.Text.{ascii}
 use Rattle.depot_usage.specs.declared.Job.{Job}
 use Rattle.depot_usage.specs.declared.Job.the-variants as J
 use Rattle.depot_usage.specs.declared.Asked.{Asked}
 use Rattle.depot_usage.specs.declared.Asked.the-variants as A
 
--- the word is that name, on a command line of that many words
-unfoldable pub named : Bytes → ℕ → Bytes → ℕ → Bool
-named word count name wanted = cond (eqb count wanted) (same word name) false
+-- what is told of the tool itself
+unfoldable pub toldOf : Bytes → Job
+toldOf word =
+    cond (same word (ascii "help")) J.Help
+    (cond (same word (ascii "--help")) J.Help
+    (cond (same word (ascii "-h")) J.Help
+    (cond (same word (ascii "--version")) J.Version J.Unknown)))
 
--- the job, by the first word and how many words there are with the program's own name
-unfoldable pub jobOf : Bytes → ℕ → Job
-jobOf word count =
-    cond (named word count (ascii "check") 3) J.Check
-    (cond (named word count (ascii "show") 3) J.Show
-    (cond (named word count (ascii "newer") 4) J.Newer
-    (cond (named word count (ascii "translate") 5) J.Translate
-    (cond (named word count (ascii "list") 3) J.List
-    (cond (named word count (ascii "run") 5) J.Run
-    (cond (named word count (ascii "run-program") 4) J.RunProgram J.Unknown))))))
+-- the job that the first word names
+unfoldable pub jobOf : Bytes → Job
+jobOf word =
+    cond (same word (ascii "check")) J.Check
+    (cond (same word (ascii "show")) J.Show
+    (cond (same word (ascii "newer")) J.Newer
+    (cond (same word (ascii "translate")) J.Translate
+    (cond (same word (ascii "list")) J.List
+    (cond (same word (ascii "run")) J.Run
+    (cond (same word (ascii "run-program")) J.RunProgram
+    (cond (same word (ascii "batch")) J.Batch (toldOf word))))))))
+
+-- how many words a job takes, the first among them
+abbrev pub wordsOf : Job → ℕ
+wordsOf J.Check = 2
+wordsOf J.Show = 2
+wordsOf J.Newer = 3
+wordsOf J.Translate = 4
+wordsOf J.List = 2
+wordsOf J.Run = 4
+wordsOf J.RunProgram = 3
+wordsOf J.Batch = 2
+wordsOf J.Help = 1
+wordsOf J.Version = 1
+wordsOf J.Unknown = 1
+
+-- and at most: a run may have two more, `--then` and a file
+abbrev pub mostOf : Job → ℕ
+mostOf J.Check = 2
+mostOf J.Show = 2
+mostOf J.Newer = 3
+mostOf J.Translate = 4
+mostOf J.List = 2
+mostOf J.Run = 6
+mostOf J.RunProgram = 5
+mostOf J.Batch = 2
+mostOf J.Help = 1
+mostOf J.Version = 1
+mostOf J.Unknown = 1
+
+-- whether a job takes that many words
+unfoldable pub fits : Job → ℕ → Bool
+fits job count = cond (eqb count (wordsOf job)) true (eqb count (mostOf job))
 
 -- the group that a word names
 unfoldable pub askedOf : Bytes → Asked
-askedOf word = cond (named word 0 (ascii "install") 0) A.Install (cond (named word 0 (ascii "boot") 0) A.Boot A.Unknown)
+askedOf word = cond (same word (ascii "install")) A.Install (cond (same word (ascii "boot")) A.Boot A.Unknown)
+
+-- the status of a command: 0 done, 1 refused or a run that did not end well, 2 usage or file
+abbrev pub DONE : ℕ
+DONE = 0
+
+abbrev pub REFUSED : ℕ
+REFUSED = 1
+
+unfoldable pub refusalStatus : ℕ → ℕ
+refusalStatus refusal = cond (eqb refusal 0) DONE REFUSED
+
+-- a run ends well that finished or started
+unfoldable pub runStatus : ℕ → ℕ → ℕ
+runStatus refusal end =
+    cond (eqb end (endNumber E.Finished)) (refusalStatus refusal) (cond (eqb end (endNumber E.Started)) (refusalStatus refusal) REFUSED)

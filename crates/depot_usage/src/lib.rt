@@ -1,8 +1,17 @@
 // The command line of the depot tool: which job its words ask for.
 ghost use mathlib.Core.Path.{_≡_};
 ghost use Rattle.rules.specs.Lent.{was};
-ghost use Rattle.depot_usage.specs.Usage.{named, jobOf, askedOf};
+ghost use Rattle.depot_usage.specs.Usage.{toldOf, jobOf, wordsOf, mostOf, askedOf, refusalStatus, runStatus};
+ghost use Rattle.depot_usage.specs.Usage.{fits as Usage·fits};
 use byte_buffer::is;
+use rules::answers::End;
+
+// The status of a command: done; refused, or a run that did not end well; a fault of usage, or of a file.
+pub const DONE: usize = 0;
+
+pub const REFUSED: usize = 1;
+
+pub const FAULT: usize = 2;
 
 pub enum Job {
     Check,
@@ -12,6 +21,9 @@ pub enum Job {
     List,
     Run,
     RunProgram,
+    Batch,
+    Help,
+    Version,
     Unknown,
 }
 
@@ -22,53 +34,135 @@ pub enum Asked {
     Unknown,
 }
 
-// Whether the word is that name, on a command line of that many words.
-fn is_named(word: &[u8], count: usize, name: &[u8], wanted: usize) -> bool
-    ensures { λ r. ⌜ r ≡ named (was word) count (was name) wanted ⌝ }
+// What is told of the tool itself.
+fn told_of(word: &[u8]) -> Job
+    ensures { λ r. ⌜ r ≡ toldOf (was word) ⌝ }
 {
-    if count != wanted {
-        return false;
+    if is(word, b"help") {
+        return Job::Help;
     }
-    is(word, name)
-}
-
-// The job, by the first word and how many words there are with the program's own name.
-pub fn job_of(word: &[u8], count: usize) -> Job
-    ensures { λ r. ⌜ r ≡ jobOf (was word) count ⌝ }
-{
-    if is_named(word, count, b"check", 3) {
-        return Job::Check;
+    if is(word, b"--help") {
+        return Job::Help;
     }
-    if is_named(word, count, b"show", 3) {
-        return Job::Show;
+    if is(word, b"-h") {
+        return Job::Help;
     }
-    if is_named(word, count, b"newer", 4) {
-        return Job::Newer;
-    }
-    if is_named(word, count, b"translate", 5) {
-        return Job::Translate;
-    }
-    if is_named(word, count, b"list", 3) {
-        return Job::List;
-    }
-    if is_named(word, count, b"run", 5) {
-        return Job::Run;
-    }
-    if is_named(word, count, b"run-program", 4) {
-        return Job::RunProgram;
+    if is(word, b"--version") {
+        return Job::Version;
     }
     Job::Unknown
+}
+
+// The job that the first word names.
+pub fn job_of(word: &[u8]) -> Job
+    ensures { λ r. ⌜ r ≡ jobOf (was word) ⌝ }
+{
+    if is(word, b"check") {
+        return Job::Check;
+    }
+    if is(word, b"show") {
+        return Job::Show;
+    }
+    if is(word, b"newer") {
+        return Job::Newer;
+    }
+    if is(word, b"translate") {
+        return Job::Translate;
+    }
+    if is(word, b"list") {
+        return Job::List;
+    }
+    if is(word, b"run") {
+        return Job::Run;
+    }
+    if is(word, b"run-program") {
+        return Job::RunProgram;
+    }
+    if is(word, b"batch") {
+        return Job::Batch;
+    }
+    told_of(word)
+}
+
+// How many words a job takes, the first among them.
+fn words_of(job: Job) -> usize
+    ensures { λ r. ⌜ r ≡ wordsOf job ⌝ }
+{
+    match job {
+        Job::Check => 2,
+        Job::Show => 2,
+        Job::Newer => 3,
+        Job::Translate => 4,
+        Job::List => 2,
+        Job::Run => 4,
+        Job::RunProgram => 3,
+        Job::Batch => 2,
+        Job::Help => 1,
+        Job::Version => 1,
+        Job::Unknown => 1,
+    }
+}
+
+// And at most: a run may have two more, `--then` and a file.
+fn most_of(job: Job) -> usize
+    ensures { λ r. ⌜ r ≡ mostOf job ⌝ }
+{
+    match job {
+        Job::Check => 2,
+        Job::Show => 2,
+        Job::Newer => 3,
+        Job::Translate => 4,
+        Job::List => 2,
+        Job::Run => 6,
+        Job::RunProgram => 5,
+        Job::Batch => 2,
+        Job::Help => 1,
+        Job::Version => 1,
+        Job::Unknown => 1,
+    }
+}
+
+// Whether a job takes that many words.
+pub fn fits(job: Job, count: usize) -> bool
+    ensures { λ r. ⌜ r ≡ Usage·fits job count ⌝ }
+{
+    if count == words_of(job) {
+        return true;
+    }
+    count == most_of(job)
 }
 
 // The group that a word names.
 pub fn asked_group(word: &[u8]) -> Asked
     ensures { λ r. ⌜ r ≡ askedOf (was word) ⌝ }
 {
-    if is_named(word, 0, b"install", 0) {
+    if is(word, b"install") {
         return Asked::Install;
     }
-    if is_named(word, 0, b"boot", 0) {
+    if is(word, b"boot") {
         return Asked::Boot;
     }
     Asked::Unknown
+}
+
+pub fn refusal_status(refusal: usize) -> usize
+    ensures { λ r. ⌜ r ≡ refusalStatus refusal ⌝ }
+{
+    if refusal == 0 {
+        return DONE;
+    }
+    REFUSED
+}
+
+// A run ends well that finished or started.
+pub fn run_status(refusal: usize, end: usize) -> usize
+    ensures { λ r. ⌜ r ≡ runStatus refusal end ⌝ }
+{
+    if end == End::FINISHED {
+        return refusal_status(refusal);
+    }
+    if end == End::STARTED {
+        return refusal_status(refusal);
+    }
+    REFUSED
 }

@@ -1,0 +1,67 @@
+// One command, by its words.
+use crate::inspect::check_file;
+use crate::inspect::list_file;
+use crate::inspect::newer_file;
+use crate::inspect::show_file;
+use crate::messages::say_count;
+use crate::messages::say_nested;
+use crate::messages::say_unknown;
+use crate::messages::say_usage;
+use crate::runs::run_file;
+use crate::runs::run_program_file;
+use crate::streams::Streams;
+use crate::streams::print;
+use crate::translation::translate_file;
+use depot_messages::help::put_help;
+use depot_messages::help::put_version;
+use depot_usage::DONE;
+use depot_usage::Job;
+use depot_usage::fits;
+use depot_usage::job_of;
+use depot_words::word_at;
+use depot_words::word_count;
+
+fn help(streams: Streams) -> usize {
+    let mut text = io::large_buffer();
+    let to = put_help(&mut text, 0);
+    print(streams, &text, to, DONE)
+}
+
+fn version(streams: Streams) -> usize {
+    let mut text = io::buffer();
+    let to = put_version(&mut text, 0);
+    print(streams, &text, to, DONE)
+}
+
+fn run_job(job: Job, words: &[u8], streams: Streams) -> usize {
+    match job {
+        Job::Check => check_file(word_at(words, 1), streams),
+        Job::Show => show_file(word_at(words, 1), streams),
+        Job::Newer => newer_file(word_at(words, 1), word_at(words, 2), streams),
+        Job::Translate => translate_file(words, streams),
+        Job::List => list_file(word_at(words, 1), streams),
+        Job::Run => run_file(words, streams),
+        Job::RunProgram => run_program_file(words, streams),
+        Job::Batch => say_nested(streams.err),
+        Job::Help => help(streams),
+        Job::Version => version(streams),
+        Job::Unknown => say_unknown(streams.err, word_at(words, 0)),
+    }
+}
+
+// Any command but a batch; its status.
+pub(crate) fn run_command(words: &[u8], streams: Streams) -> usize {
+    let count = word_count(words);
+    if count == 0 {
+        return say_usage(streams.err);
+    }
+    let word = word_at(words, 0);
+    let job = job_of(word);
+    if fits(job, count) {
+        return run_job(job, words, streams);
+    }
+    match job {
+        Job::Unknown => say_unknown(streams.err, word),
+        _ => say_count(streams.err, word, count - 1),
+    }
+}

@@ -1,0 +1,3 @@
+pub mod Escaped
+pub mod Messages
+pub mod Help

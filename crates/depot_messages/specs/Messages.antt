@@ -1,0 +1,65 @@
+-- What the depot tool says of its command line and of files.
+use Prim.Native.Nat.{ℕ}
+use mathlib.Core.Bool.{cond}
+use mathlib.Core.List.{_++_}
+use lib.Dec.{eqb}
+use Rattle.text.specs.Text.{Bytes, ascii, decimal}
+use Rattle.text_pieces.specs.Pieces.{labelled}
+use Rattle.depot_messages.specs.Escaped.{escaped}
+
+-- a name between two texts
+unfoldable pub around : Bytes → Bytes → Bytes → Bytes
+around before name after = before ++ escaped name ++ after
+
+-- the first word names no job
+unfoldable pub unknownText : Bytes → Bytes
+unknownText word = around (ascii "depot: no command is called '") word (ascii "'; depot help lists them\n")
+
+unfoldable pub wordsText : ℕ → Bytes
+wordsText n = decimal n ++ cond (eqb n 1) (ascii " word") (ascii " words")
+
+-- a job does not take n words behind the first
+unfoldable pub countText : Bytes → ℕ → Bytes
+countText word n =
+    around (ascii "depot: '") word (ascii "' does not take ") ++ wordsText n ++ ascii "; depot help says what it takes\n"
+
+-- where `--then` is understood
+unfoldable pub optionText : Bytes → Bytes
+optionText word = around (ascii "depot: '") word (ascii "' stands where --then may stand\n")
+
+unfoldable pub groupText : Bytes → Bytes
+groupText word = around (ascii "depot: the group is install or boot, not '") word (ascii "'\n")
+
+-- a file with over n bytes
+unfoldable pub longText : Bytes → ℕ → Bytes
+longText name n = around (ascii "depot: ") name (ascii ": over ") ++ decimal n ++ ascii " bytes\n"
+
+-- the commonest errors, by their numbers
+unfoldable pub errorWords : ℕ → Bytes
+errorWords n =
+    cond (eqb n 2) (ascii "no such file or folder")
+    (cond (eqb n 13) (ascii "permission denied")
+    (cond (eqb n 17) (ascii "there already")
+    (cond (eqb n 20) (ascii "a part of the name is no folder")
+    (cond (eqb n 21) (ascii "is a folder")
+    (cond (eqb n 22) (ascii "no name of a file")
+    (cond (eqb n 28) (ascii "no space left")
+    (cond (eqb n 36) (ascii "the name is too long")
+    (labelled (ascii "error ") n))))))))
+
+unfoldable pub errorText : Bytes → ℕ → Bytes
+errorText name n = around (ascii "depot: ") name (ascii ": ") ++ errorWords n ++ ascii "\n"
+
+-- standard input has one reader
+unfoldable pub onceText : Bytes
+onceText = ascii "depot: standard input can be read only once\n"
+
+unfoldable pub nestedText : Bytes
+nestedText = ascii "depot: a batch runs no batch\n"
+
+-- a command of a batch, and how it ended
+unfoldable pub commandText : Bytes → Bytes
+commandText line = around (ascii "$ depot ") line (ascii "\n")
+
+unfoldable pub statusText : ℕ → Bytes
+statusText n = labelled (ascii "status ") n ++ ascii "\n"
