@@ -1,10 +1,10 @@
 // A batch: a command on each line of a file. Messages go to standard output too, and each command's status stands below it.
 use crate::command::run_command;
-use crate::files::load;
-use crate::messages::say_status;
-use crate::streams::Streams;
-use crate::streams::fitted;
-use crate::streams::write;
+use depot_files::files::load;
+use depot_files::messages::say_status;
+use depot_files::streams::Streams;
+use depot_files::streams::fitted;
+use depot_files::streams::write;
 use depot_messages::put_command;
 use depot_usage::DONE;
 use depot_usage::FAULT;

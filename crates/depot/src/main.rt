@@ -1,14 +1,14 @@
 // The depot tool: checks, shows, compares and translates files of envelopes, lists programs, and runs both on described devices.
 mod batch;
 mod command;
-mod files;
 mod inspect;
-mod messages;
 mod runs;
-mod streams;
 mod translation;
 
 use byte_buffer::is;
+use depot_files::messages::say_status;
+use depot_files::streams::Streams;
+use depot_files::streams::fitted;
 use depot_usage::Job;
 use depot_usage::fits;
 use depot_usage::job_of;
@@ -17,7 +17,6 @@ use depot_words::word_at;
 use depot_words::word_count;
 use libc::STDERR_FILENO;
 use libc::STDOUT_FILENO;
-use streams::Streams;
 use text::put;
 use text::put_byte;
 
@@ -61,7 +60,7 @@ fn run_words(words: &[u8], streams: Streams) -> usize {
 fn run_told(words: &[u8], streams: Streams) {
     if is(word_at(words, 0), b"--status") {
         let status = run_words(later_words(words), streams);
-        messages::say_status(streams.err, status);
+        say_status(streams.err, status);
         return;
     }
     run_words(words, streams);
@@ -74,6 +73,6 @@ fn main() {
     };
     let mut words = io::large_buffer();
     let to = gather(&mut words);
-    let n = streams::fitted(&words, to);
+    let n = fitted(&words, to);
     run_told(&words[..n], streams);
 }

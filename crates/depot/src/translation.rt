@@ -1,12 +1,12 @@
 // Translation of a file into a new file.
-use crate::files::beside;
-use crate::files::load;
-use crate::files::store;
-use crate::messages::say_group;
-use crate::streams::Streams;
-use crate::streams::fitted;
-use crate::streams::page;
-use crate::streams::print;
+use depot_files::files::beside;
+use depot_files::files::load;
+use depot_files::files::store;
+use depot_files::messages::say_group;
+use depot_files::streams::Streams;
+use depot_files::streams::fitted;
+use depot_files::streams::page;
+use depot_files::streams::print;
 use depot_refusals::put_refused;
 use depot_report::put_translated;
 use depot_usage::Asked;

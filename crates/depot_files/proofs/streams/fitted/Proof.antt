@@ -1,8 +1,8 @@
 use mathlib.Core.Path.{sym}
 use native.Mathlib.Omega.{arith}
 use lib.Seq.{length-take-le}
-use Rattle.depot.proofs.streams.fitted.Statement.{statement}
-use Rattle.depot.proofs.streams.fitted.Tie as tie
+use Rattle.depot_files.proofs.streams.fitted.Statement.{statement}
+use Rattle.depot_files.proofs.streams.fitted.Tie as tie
 
 returns : tie.Need-returns
 returns c = (c .if1 .taken, sym (length-take-le _ _ (c .if1 .taken)))

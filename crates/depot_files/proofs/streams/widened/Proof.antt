@@ -3,8 +3,8 @@ use borrow.Author.Needs.{needs}
 use mir.Syntax.{w32, w64}
 use mir.Val.{SFits}
 use mir.Facts.{sfits-widen, toZ-ofZ}
-use Rattle.depot.proofs.streams.widened.Statement.{statement}
-use Rattle.depot.proofs.streams.widened.Tie as tie
+use Rattle.depot_files.proofs.streams.widened.Statement.{statement}
+use Rattle.depot_files.proofs.streams.widened.Tie as tie
 
 -- a number of 32 bits, read as one of 64
 cast-result : tie.Need-cast-result

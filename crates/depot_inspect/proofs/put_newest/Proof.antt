@@ -1,7 +1,7 @@
 use borrow.Author.Needs.{needs}
-use Rattle.depot.proofs.PrintedLaws.{printed, newest-first, newest-second}
-use Rattle.depot.proofs.inspect.put_newest.Statement.{statement}
-use Rattle.depot.proofs.inspect.put_newest.Tie as tie
+use Rattle.depot_inspect.proofs.PrintedLaws.{printed, newest-first, newest-second}
+use Rattle.depot_inspect.proofs.put_newest.Statement.{statement}
+use Rattle.depot_inspect.proofs.put_newest.Tie as tie
 
 returns : tie.Need-returns
 returns c =

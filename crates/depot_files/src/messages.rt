@@ -10,28 +10,28 @@ use depot_messages::put_status;
 use depot_messages::put_unknown;
 use depot_usage::FAULT;
 
-pub(crate) fn say_unknown(err: i32, word: &[u8]) -> usize {
+pub fn say_unknown(err: i32, word: &[u8]) -> usize {
     let mut text = io::large_buffer();
     let to = put_unknown(&mut text, 0, word);
     write(err, &text, to);
     FAULT
 }
 
-pub(crate) fn say_count(err: i32, word: &[u8], n: usize) -> usize {
+pub fn say_count(err: i32, word: &[u8], n: usize) -> usize {
     let mut text = io::large_buffer();
     let to = put_count(&mut text, 0, word, n);
     write(err, &text, to);
     FAULT
 }
 
-pub(crate) fn say_option(err: i32, word: &[u8]) -> usize {
+pub fn say_option(err: i32, word: &[u8]) -> usize {
     let mut text = io::large_buffer();
     let to = put_option(&mut text, 0, word);
     write(err, &text, to);
     FAULT
 }
 
-pub(crate) fn say_group(err: i32, word: &[u8]) -> usize {
+pub fn say_group(err: i32, word: &[u8]) -> usize {
     let mut text = io::large_buffer();
     let to = put_group(&mut text, 0, word);
     write(err, &text, to);
@@ -39,14 +39,14 @@ pub(crate) fn say_group(err: i32, word: &[u8]) -> usize {
 }
 
 // Standard input has one reader.
-pub(crate) fn say_once(err: i32) -> usize {
+pub fn say_once(err: i32) -> usize {
     let mut text = io::buffer();
     let to = put_once(&mut text, 0);
     write(err, &text, to);
     FAULT
 }
 
-pub(crate) fn say_nested(err: i32) -> usize {
+pub fn say_nested(err: i32) -> usize {
     let mut text = io::buffer();
     let to = put_nested(&mut text, 0);
     write(err, &text, to);
@@ -54,14 +54,14 @@ pub(crate) fn say_nested(err: i32) -> usize {
 }
 
 // No words at all.
-pub(crate) fn say_usage(err: i32) -> usize {
+pub fn say_usage(err: i32) -> usize {
     let mut text = io::large_buffer();
     let to = put_help(&mut text, 0);
     write(err, &text, to);
     FAULT
 }
 
-pub(crate) fn say_status(fd: i32, status: usize) {
+pub fn say_status(fd: i32, status: usize) {
     let mut text = io::buffer();
     let to = put_status(&mut text, 0, status);
     write(fd, &text, to);

@@ -1,8 +1,8 @@
 use borrow.Author.Needs.{needs}
 use Rattle.text.proofs.TextLaws.{wrote-then}
-use Rattle.depot.proofs.PrintedLaws.{printed, listed-program, listed-refused}
-use Rattle.depot.proofs.inspect.put_listed.Statement.{statement}
-use Rattle.depot.proofs.inspect.put_listed.Tie as tie
+use Rattle.depot_inspect.proofs.PrintedLaws.{printed, listed-program, listed-refused}
+use Rattle.depot_inspect.proofs.put_listed.Statement.{statement}
+use Rattle.depot_inspect.proofs.put_listed.Tie as tie
 
 returns : tie.Need-returns
 returns c =

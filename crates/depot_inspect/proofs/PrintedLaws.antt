@@ -18,7 +18,7 @@ use Rattle.depot_refusals.specs.Refusals.{refusedText}
 use Rattle.depot_report.specs.Report.{newerText}
 use Rattle.depot_show.specs.Manifest.{partsText}
 use Rattle.depot_listing.specs.Listing.{programText}
-use Rattle.depot.specs.Printed.{shownOf, shownText, newestOf, newestText, listedOf, listedText}
+use Rattle.depot_inspect.specs.Printed.{shownOf, shownText, newestOf, newestText, listedOf, listedText}
 
 -- what was written, by the jobs' answers
 pub printed : {b b′ room : Bytes} {r : ℕ} {room′ : Bytes} → b ≡ b′ → Wrote b 0 room r room′ → Wrote b′ 0 room r room′

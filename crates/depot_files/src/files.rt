@@ -9,13 +9,13 @@ use depot_messages::put_long;
 use libc::STDIN_FILENO;
 
 // Whether a file was read, and how many bytes it has.
-pub(crate) struct Loaded {
-    pub(crate) ok: bool,
-    pub(crate) n: usize,
+pub struct Loaded {
+    pub ok: bool,
+    pub n: usize,
 }
 
 // Whether a name stands for standard input or output.
-pub(crate) fn is_standard(name: &[u8]) -> bool {
+pub fn is_standard(name: &[u8]) -> bool {
     is(name, b"-")
 }
 
@@ -45,7 +45,7 @@ fn read_whole(fd: i32, name: &[u8], buf: &mut [u8], err: i32) -> Loaded
 }
 
 // The file of that name, at the start of the buffer.
-pub(crate) fn load(name: &[u8], buf: &mut [u8], err: i32) -> Loaded
+pub fn load(name: &[u8], buf: &mut [u8], err: i32) -> Loaded
     ensures { λ r. ⌜ Counts (r .n) (left buf) ⌝ }
 {
     if is_standard(name) {
@@ -78,7 +78,7 @@ fn store_new(name: &[u8], bytes: &[u8], err: i32) -> bool {
 }
 
 // The same, or standard output.
-pub(crate) fn store(name: &[u8], bytes: &[u8], streams: Streams) -> bool {
+pub fn store(name: &[u8], bytes: &[u8], streams: Streams) -> bool {
     if !is_standard(name) {
         return store_new(name, bytes, streams.err);
     }
@@ -90,7 +90,7 @@ pub(crate) fn store(name: &[u8], bytes: &[u8], streams: Streams) -> bool {
 }
 
 // Where the report goes beside a file that is written: not to standard output where the file does.
-pub(crate) fn beside(name: &[u8], streams: Streams) -> Streams {
+pub fn beside(name: &[u8], streams: Streams) -> Streams {
     if is_standard(name) {
         return Streams {
             out: streams.err,

@@ -1,7 +1,7 @@
 use borrow.Author.Needs.{needs}
-use Rattle.depot.proofs.PrintedLaws.{printed, shown-refused, shown-parts}
-use Rattle.depot.proofs.inspect.put_shown.Statement.{statement}
-use Rattle.depot.proofs.inspect.put_shown.Tie as tie
+use Rattle.depot_inspect.proofs.PrintedLaws.{printed, shown-refused, shown-parts}
+use Rattle.depot_inspect.proofs.put_shown.Statement.{statement}
+use Rattle.depot_inspect.proofs.put_shown.Tie as tie
 
 returns : tie.Need-returns
 returns c =

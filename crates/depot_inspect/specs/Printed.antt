@@ -1,4 +1,5 @@
--- What is printed of files, by the jobs' answers.
+-- What is printed of envelopes and programs by the jobs' answers, and the status of it.
+use Prim.Native.Nat.{ℕ}
 use mathlib.Core.Bool.{Bool, cond}
 use mathlib.Core.List.{_++_}
 use lib.Dec.{eqb}
@@ -16,6 +17,7 @@ use Rattle.depot_refusals.specs.Refusals.{refusedText}
 use Rattle.depot_report.specs.Report.{newerText}
 use Rattle.depot_show.specs.Manifest.{partsText}
 use Rattle.depot_listing.specs.Listing.{programText}
+use Rattle.depot_usage.specs.Usage.{DONE, REFUSED}
 
 -- the manifest of an envelope, or its refusal
 unfoldable pub shownOf : CheckAnswer → Bytes → Bytes
@@ -38,3 +40,10 @@ listedOf good s = cond good (programText s) (refusedText (refusalNumber BadProgr
 
 abbrev pub listedText : Bytes → Bytes
 listedText s = listedOf (accepted (programIn s)) s
+
+-- refused where both are: then no manifest is handed back
+unfoldable pub newestStatus : Bytes → Bytes → ℕ
+newestStatus s t = cond (eqb (newerOf (newer s t) .to) 0) REFUSED DONE
+
+unfoldable pub listedStatus : Bytes → ℕ
+listedStatus s = cond (accepted (programIn s)) DONE REFUSED

@@ -6,20 +6,20 @@ ghost use Rattle.io.specs.Counts.{Counts};
 use depot_messages::put_error;
 use depot_usage::FAULT;
 
-pub(crate) struct Streams {
-    pub(crate) out: i32,
-    pub(crate) err: i32,
+pub struct Streams {
+    pub out: i32,
+    pub err: i32,
 }
 
 // Room for any text: that of a program of 32,768 bytes has some hundred thousand.
-pub(crate) fn page() -> [u8; 262144]
+pub fn page() -> [u8; 262144]
     ensures { λ r. ⌜ 262144 ≡ length r ⌝ }
 {
     [0; 262144]
 }
 
 // How much of a page is text, if that is its first `to` bytes.
-pub(crate) fn fitted(page: &[u8], to: usize) -> usize
+pub fn fitted(page: &[u8], to: usize) -> usize
     ensures { λ r. ⌜ Counts r (was page) ⌝ }
 {
     if to <= page.len() {
@@ -29,7 +29,7 @@ pub(crate) fn fitted(page: &[u8], to: usize) -> usize
 }
 
 // Writes the first `to` bytes of a page, and answers whether they were written.
-pub(crate) fn write(fd: i32, page: &[u8], to: usize) -> bool {
+pub fn write(fd: i32, page: &[u8], to: usize) -> bool {
     let n = fitted(page, to);
     io::write_all(fd, &page[..n])
 }
@@ -45,7 +45,7 @@ fn error_number() -> usize {
 }
 
 // Says why a file could not be opened, read, made or written.
-pub(crate) fn say_error(err: i32, name: &[u8]) {
+pub fn say_error(err: i32, name: &[u8]) {
     let n = error_number();
     let mut text = io::large_buffer();
     let to = put_error(&mut text, 0, name, n);
@@ -53,7 +53,7 @@ pub(crate) fn say_error(err: i32, name: &[u8]) {
 }
 
 // Writes an answer, and gives the status of the command; a stream that takes no more is told.
-pub(crate) fn print(streams: Streams, page: &[u8], to: usize, status: usize) -> usize {
+pub fn print(streams: Streams, page: &[u8], to: usize, status: usize) -> usize {
     if write(streams.out, page, to) {
         return status;
     }
