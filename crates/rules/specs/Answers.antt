@@ -3,12 +3,17 @@ use Rattle.rules.specs.Base.{ℕ, cond, eqb, Group, Install, Boot, Refus
 use Rattle.rules.specs.Base.{NoSuchComponent, TooDeep, TooManyCommands, NotVerified, EventOpen, WrongNumber, BadSlots, NoSlot, BadAnswers, ShortTrace, ShortRoom, BadProgram, Failure}
 use Rattle.rules.specs.Base.{ParameterUnset, Aborted, NoAnswer, BadStatus, TooLarge, NothingToCopy, NothingToRun, End, Finished, ConditionFailed, Started, Failed}
 
--- 01, The flat program: the group in the start record
+-- 01, The flat program: 'group (0 install, 1 boot)'
 abbrev pub groupNumber : Group → ℕ
 groupNumber Install = 0
 groupNumber Boot = 1
 
--- 01, Refusal numbers
+-- 01, Refusal numbers, 'Given exactly when': 64 'envelope over 4,096 bytes'; 65 'CBOR rule broken, item past its container's end, or bytes
+-- left over'; 66 'wrong type, key, order, count or length'; 67 'version not 1'; 68 'identifier twice'; 69, 70 'code, parameter not listed';
+-- 71 'command not allowed there'; 72 'index or source not below the count'; 73, 74 'depth over 4; 257th command'; 80 'signature verdict is
+-- no'; 81 'install while an event is open'; 82 'install: number not above the device's; boot: not equal'; 85 'slot count not 1 to 8,
+-- identifier not 1 to 32 bytes or twice, present size over capacity'; 83 'a component has no slot'; 86 'answers not a multiple of 37
+-- bytes'; 84 'trace under 2,048 bytes'; 96 'program longer than the room'; 97 'program not well formed'
 abbrev pub refusalNumber : Refusal → ℕ
 refusalNumber EnvelopeTooLong = 64
 refusalNumber NotCbor = 65
@@ -54,7 +59,8 @@ refusalOf n =
     (cond (eqb n 86) BadAnswers
     (cond (eqb n 96) ShortRoom BadProgram))))))))))))))))))
 
--- 01, How a run goes: the failures
+-- 01, How a run goes: a parameter 'unset, 32'; '14: failure 33'; of 21 'no answer left, 34', 'bad status, 35'; of 21, 22, 32 too large for
+-- the 'capacity, 36'; of 22 'source slot absent, 37'; of 23 'slot absent, 38'
 abbrev pub failureNumber : Failure → ℕ
 failureNumber ParameterUnset = 32
 failureNumber Aborted = 33
@@ -64,14 +70,14 @@ failureNumber TooLarge = 36
 failureNumber NothingToCopy = 37
 failureNumber NothingToRun = 38
 
--- 01, How a run goes: the end of a run
+-- 'End: 0 finished, 1 condition failed, 2 started, or the failure number'
 abbrev pub endNumber : End → ℕ
 endNumber Finished = 0
 endNumber ConditionFailed = 1
 endNumber Started = 2
 endNumber (Failed f) = failureNumber f
 
--- and the result in an event, where a run that starts an image is a success
+-- in an event 'result (0, 1 condition failed, or failure number)': of a run command that starts an image it is 0
 abbrev pub resultNumber : End → ℕ
 resultNumber Finished = 0
 resultNumber ConditionFailed = 1

@@ -33,7 +33,7 @@ InBytes a n size = (k : ℕ) → k < n → (spanAt a k .from ≤ spanAt a k .to)
 abbrev pub put : Bytes → ℕ → Bytes → Bytes
 put s at b = sets s at b
 
--- a big-endian number (01, How a run goes), after the digits read so far
+-- 01, How a run goes: 'Multi-byte numbers here are big-endian'. A number, after the digits read so far
 abbrev pub numFrom : ℕ → Bytes → ℕ
 numFrom n [] = n
 numFrom n (b ∷ bs) = numFrom (n * 256 + b) bs
@@ -48,18 +48,21 @@ twoAt s at = getD s at 0 * 256 + getD s (at + 1) 0
 abbrev pub fourAt : Bytes → ℕ → ℕ
 fourAt s at = (twoAt s at * 256 + getD s (at + 2) 0) * 256 + getD s (at + 3) 0
 
+-- a number as two and as four bytes
 abbrev pub be2 : ℕ → Bytes
 be2 n = n / 256 % 256 ∷ n % 256 ∷ []
 
 abbrev pub be4 : ℕ → Bytes
 be4 n = n / 16777216 % 256 ∷ n / 65536 % 256 ∷ be2 n
 
+-- equal bytes
 abbrev pub same : Bytes → Bytes → Bool
 same [] [] = true
 same [] (y ∷ ys) = false
 same (x ∷ xs) [] = false
 same (x ∷ xs) (y ∷ ys) = eqb x y && same xs ys
 
+-- x is one of the list
 abbrev pub member : Bytes → List Bytes → Bool
 member x [] = false
 member x (y ∷ ys) = same x y || member x ys
@@ -69,10 +72,12 @@ abbrev pub indexOf : Bytes → List Bytes → ℕ
 indexOf x [] = 0
 indexOf x (y ∷ ys) = elim (same x y) [ true ↦ 0 | false ↦ suc (indexOf x ys) ]
 
+-- some bytes stand in the list twice
 abbrev pub repeats : List Bytes → Bool
 repeats [] = false
 repeats (x ∷ xs) = member x xs || repeats xs
 
+-- each of the first list is one of the second
 abbrev pub allIn : List Bytes → List Bytes → Bool
 allIn [] ys = true
 allIn (x ∷ xs) ys = member x ys && allIn xs ys

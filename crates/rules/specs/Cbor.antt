@@ -1,5 +1,5 @@
--- CBOR as a manifest may use it (01, What a manifest may hold): definite lengths, shortest heads, numbers to 2^32-1; unsigned numbers,
--- byte and text strings, arrays, maps, false, true, nil.
+-- CBOR as a manifest may use it (01, What a manifest may hold): 'definite lengths, shortest heads, numbers to 2^32-1 (eight-byte heads
+-- refused); only unsigned numbers, byte and text strings, arrays, maps, false, true, nil'.
 use Rattle.rules.specs.Base.{ℕ, _+_, _/_, _%_, Bool, true, false, _&&_, _||_, cond, ltb, leb, eqb, getD, NotCbor, Malformed}
 use Rattle.rules.specs.Bytes.{Bytes, part, num}
 use Rattle.rules.specs.Got.{Got, got, need, _>>=_}
@@ -35,7 +35,7 @@ pub record Head : Type 0 where
   pub num : ℕ
   pub next : ℕ
 
--- first bytes that may stand: a number, string, array or map whose number is in the byte or in 1, 2 or 4 more; false, true, nil
+-- first bytes that may stand: of a number, string, array or map whose number is in the byte or in 1, 2 or 4 more; false, true, nil
 abbrev pub known : ℕ → Bool
 known b =
     cond (leb 0xf4 b) (ltb b 0xf7) (cond (leb 0xc0 b) false (cond (ltb 26 (b % 32)) false (cond (ltb b 0x20) true (leb 0x40 b))))
@@ -54,10 +54,12 @@ value s at =
     let b = getD s at 0 in
     cond (eqb (more b) 0) (cond (ltb b 0xe0) (b % 32) 0) (num (part s (at + 1) (more b)))
 
+-- the major type, or the simple value
 abbrev pub kindOf : ℕ → ℕ
 kindOf b = cond (ltb b 0xe0) (b / 32) (b % 32)
 
--- the head at `at`, in a container that ends at `e`
+-- the head at `at`, in a container that ends at `e`; 65 ('CBOR rule broken') where nothing is left, its first byte may not stand, the head
+-- is cut or it is not the shortest
 unfoldable pub head : Bytes → ℕ → ℕ → Got Head
 head s e at = do
   _ ← need (ltb at e) NotCbor at
@@ -71,14 +73,14 @@ head s e at = do
 abbrev pub after : Head → ℕ
 after h = cond (eqb (h .kind) BYTES || eqb (h .kind) TEXT) (h .next + h .num) (h .next)
 
--- the head of an item whose bytes lie in the container
+-- the head of an item whose bytes lie in the container: 65 is also 'item past its container's end'
 unfoldable pub whole : Bytes → ℕ → ℕ → Got Head
 whole s e at = do
   h ← head s e at
   _ ← need (leb (after h) e) NotCbor at
   got h
 
--- of an item of that kind, whose number, length or count is from lo to hi
+-- of an item of that kind, whose number, length or count is from lo to hi: 66 is 'wrong type, key, order, count or length'
 unfoldable pub item : ℕ → ℕ → ℕ → Bytes → ℕ → ℕ → Got Head
 item kind lo hi s e at = do
   h ← whole s e at

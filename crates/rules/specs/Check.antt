@@ -1,5 +1,6 @@
--- Check: the manifest that an envelope holds, or the first fault (01, What a manifest may hold; Refusal numbers). It reads depth first,
--- left to right, and a fault stands at its item's first byte.
+-- Check: the manifest that an envelope holds, or the first fault (01, What a manifest may hold; Refusal numbers): 'Check reads depth first,
+-- left to right; the first fault met counts, at its item's first byte; on one item the lowest number.' 'A count that no good item has .. is
+-- met at the head, before the contents'.
 use Rattle.rules.specs.Base.{ℕ, zero, suc, _+_, _-_, _/_, _%_, List, [], _∷_, _++_, map, Bool, not, Option, some, none, ltb, leb, eqb, length}
 use Rattle.rules.specs.Base.{EnvelopeTooLong, NotCbor, Malformed, WrongVersion, RepeatedIdentifier, UnknownCommand, UnknownParameter, NotAllowed}
 use Rattle.rules.specs.Base.{NoSuchComponent, TooDeep, TooManyCommands, Parameter, Coerce, Uri, Source, Digest, Size}
@@ -32,12 +33,13 @@ abbrev pub overGiven : Given → Given → Given
 overGiven v g = record { coerce = orElse (v .coerce) (g .coerce); params = over (v .params) (g .params) }
 
 module _ (s : Bytes) where
+  -- an unsigned number
   unfoldable pub number : Read ℕ
   number e at = do
     h ← item NUMBER 0 (limits .largest) s e at
     got (h .num, h .next)
 
-  -- a key, which is k; the place after it
+  -- a key, which is k; the place after it. 'A key out of order or standing for a required one, at that key'
   unfoldable pub key : ℕ → ℕ → ℕ → Got ℕ
   key k e at = do
     h ← item NUMBER k k s e at
@@ -58,7 +60,8 @@ module _ (s : Bytes) where
     h ← item BYTES 0 (limits .largest) s e at
     strings n e (after h)
 
-  -- an identifier, after those of `before`. 'Identifier length, then 68, are tested once the identifier is read, at its head'
+  -- an identifier, after those of `before`: 'an array of 1 to 4 byte strings, at most 32 bytes as encoded. No identifier twice'.
+  -- 'Identifier length, then 68, are tested once the identifier is read, at its head'
   unfoldable pub identifier : List Span → ℕ → ℕ → Got Span
   identifier before e at = do
     h ← item ARRAY 1 (limits .parts) s e at
@@ -75,12 +78,14 @@ module _ (s : Bytes) where
     id ← identifier before e at
     identifiers n (before ++ (id ∷ [])) e (id .to)
 
+  -- 'List: array of 1 to 8 identifiers'
   unfoldable pub components : Read (List Span)
   components e at = do
     h ← item ARRAY 1 (limits .components) s e at
     identifiers (h .num) [] e (h .next)
 
-  -- a parameter's value, in a manifest of n components
+  -- a parameter's value, in a manifest of n components: 'coerce (boolean)', 'URI (text, 1 to 96 bytes, not examined)', 'source (number
+  -- below component count)', 'digest (32 bytes)', 'size (number)'. 72: 'index or source not below the count'
   unfoldable pub parameter : ℕ → Parameter → Read Given
   parameter n Coerce e at = do
     h ← oneOf FALSE TRUE s e at
@@ -99,7 +104,7 @@ module _ (s : Bytes) where
     (k, next) ← number e at
     got (give none none none none (some k), next)
 
-  -- k entries more, whose keys are at least `low`, after those of `g`
+  -- k entries more, whose keys are at least `low`, after those of `g`: 'ascending'; 70: 'parameter not listed'
   unfoldable pub entries : ℕ → ℕ → ℕ → Given → Read Given
   entries n zero low g e at = got (g, at)
   entries n (suc k) low g e at = do
@@ -109,7 +114,7 @@ module _ (s : Bytes) where
     (v, q) ← parameter n what e p
     entries n k (name + 1) (overGiven v g) e q
 
-  -- k + 1 sequences, each in a byte string, after m commands; `deeper` reads a sequence
+  -- k + 1 'sequences, each in a byte string', after m commands; `deeper` reads a sequence
   unfoldable pub alternativesAt : (ℕ → Read Seq) → ℕ → ℕ → Read Alts
   alternativesAt deeper zero m e at = do
     (a, p) ← inBytes (deeper m) e at
@@ -119,7 +124,8 @@ module _ (s : Bytes) where
     (rest, q) ← alternativesAt deeper k (m + count a) e (p .to)
     got (or a rest, q)
 
-  -- the argument at `at` of the command whose code is at `place`, with m commands before those that it holds
+  -- the argument at `at` of the command whose code is at `place`, with m commands before those that it holds: the command table's column
+  -- Argument. 72: 'index or source not below the count'
   unfoldable pub argument : (ℕ → Read Seq) → ℕ → ℕ → ℕ → Form → Read Cmd
   argument deeper n m place (sixteen op) e at = do
     h ← item BYTES (limits .class) (limits .class) s e at
@@ -143,7 +149,7 @@ module _ (s : Bytes) where
     (a, p) ← inBytes (deeper m) e at
     got (sub a, p .to)
 
-  -- a code and its argument, after m commands
+  -- 'code, argument', after m commands. On the code 69 'not listed', 71 'command not allowed there', 74 '257th command': '74 at the code'
   unfoldable pub command : (ℕ → Read Seq) → ℕ → ℕ → ℕ → Read Cmd
   command deeper n section m e at = do
     (c, p) ← number e at
@@ -160,7 +166,8 @@ module _ (s : Bytes) where
     (cs, q) ← commandsAt deeper n section k (m + countCmd c) e p
     got (then c cs, q)
 
-  -- a sequence of a section, after m commands; it and those in it may be d deep. 'An odd sequence is met at the head'
+  -- a sequence of a section, after m commands: 'array of 2n items, n 0 to 64: code, argument, and so on', an odd count 'met at the head'.
+  -- It and those in it may be d deep: '73 is at the deep sequence's array head'
   unfoldable pub sequenceAt : ℕ → ℕ → ℕ → ℕ → Read Seq
   sequenceAt n section zero m e at = do
     h ← item ARRAY 0 (limits .sequence + limits .sequence) s e at
@@ -171,13 +178,13 @@ module _ (s : Bytes) where
     _ ← need (eqb (h .num % 2) 0) Malformed at
     commandsAt (sequenceAt n section d) n section (h .num / 2) m e (h .next)
 
-  -- a section under `k`: its sequence in a byte string, after m commands
+  -- a section under `k`: 'a sequence in a byte string', after m commands; 'common or section is depth 1' of 4
   unfoldable pub sectionAt : ℕ → ℕ → ℕ → Read Section
   sectionAt n k m e at = do
     (a, p) ← inBytes (sequenceAt n k (limits .depth) m) e at
     got (record { key = k; place = p; seq = a }, p .to)
 
-  -- common's own sequence, of which k entries are left
+  -- common's own, of which k entries are left: 'optional key 4 a sequence in a byte string'
   unfoldable pub commonSeq : ℕ → ℕ → Read (List Section)
   commonSeq n zero e at = got ([], at)
   commonSeq n (suc k) e at = do
@@ -185,7 +192,7 @@ module _ (s : Bytes) where
     (x, next) ← sectionAt n COMMON 0 e p
     got (x ∷ [], next)
 
-  -- common: the components, and its sequence if there is one
+  -- 'Common: map, key 2 the component list in a byte string, optional key 4 a sequence'; its count is '1 or 2'
   unfoldable pub commonAt : Read (List Span × List Section)
   commonAt e at = do
     h ← item MAP 1 2 s e at
@@ -194,7 +201,8 @@ module _ (s : Bytes) where
     (xs, next) ← commonSeq (length ids) (h .num - 1) e (q .to)
     got ((ids, xs), next)
 
-  -- k sections more, whose keys are at least `low`, after m commands
+  -- k sections more, whose keys are at least `low`, after m commands: 'keys ascending', 'optional 8 payload fetch, 9 install, 10 validate,
+  -- 11 load, 12 run'
   unfoldable pub sectionsAt : ℕ → ℕ → ℕ → ℕ → Read (List Section)
   sectionsAt n zero low m e at = got ([], at)
   sectionsAt n (suc k) low m e at = do
@@ -203,11 +211,11 @@ module _ (s : Bytes) where
     (xs, q) ← sectionsAt n k (h .num + 1) (m + count (x .seq)) e p
     got (x ∷ xs, q)
 
-  -- common in its byte string, and its place
+  -- 'common in a byte string', and its place
   unfoldable pub commonIn : ℕ → ℕ → Got ((List Span × List Section) × Span)
   commonIn e at = inBytes commonAt e at
 
-  -- the version under its key: the place after it
+  -- '1 version, is 1', else 67: the place after it
   unfoldable pub versionAt : ℕ → ℕ → Got ℕ
   versionAt e at = do
     p ← key 1 e at
@@ -215,7 +223,7 @@ module _ (s : Bytes) where
     _ ← need (eqb version 1) WrongVersion p
     got next
 
-  -- the sequence number under its key, and the place after the key of common
+  -- '2 sequence number; 3 common': the number, and the place after the key of common
   unfoldable pub numberedAt : Read ℕ
   numberedAt e at = do
     p ← key 2 e at
@@ -223,7 +231,7 @@ module _ (s : Bytes) where
     next ← key COMMON e q
     got (n, next)
 
-  -- the manifest up to common: how many entries it has, and its sequence number
+  -- 'Manifest: map, keys ascending', '3 to 8 entries', up to common: how many entries it has, and its sequence number
   unfoldable pub frontAt : Read (ℕ × ℕ)
   frontAt e at = do
     h ← item MAP 3 8 s e at
@@ -231,6 +239,7 @@ module _ (s : Bytes) where
     (n, next) ← numberedAt e p
     got ((h .num, n), next)
 
+  -- the whole manifest: the commands of common's sequence count before those of the sections
   unfoldable pub manifestAt : Read Manifest
   manifestAt e at = do
     ((k, n), p) ← frontAt e at
@@ -238,13 +247,13 @@ module _ (s : Bytes) where
     (ys, next) ← sectionsAt (length ids) (k - 3) PAYLOAD_FETCH (countAll xs) e (common .to)
     got (record { part = span at next; number = n; ids = ids; common = common; sections = xs ++ ys }, next)
 
-  -- nil or a byte string; the place after it
+  -- 'nil or a byte string (unread)'; the place after it
   unfoldable pub unread : ℕ → ℕ → Got ℕ
   unread e at = do
     h ← oneOf NIL BYTES s e at
     got (after h)
 
-  -- the envelope up to the byte string of its manifest; the place of that
+  -- 'map of 2, key 1 nil or a byte string (unread), key 3 the manifest in a byte string': up to that byte string, and its place
   unfoldable pub outerAt : ℕ → Got ℕ
   outerAt e = do
     h ← item MAP 2 2 s e 0
@@ -252,6 +261,7 @@ module _ (s : Bytes) where
     q ← unread e p
     key 3 e q
 
+  -- 'Envelope, at most 4,096 bytes': '64 has place 0'. 'Left-over bytes: the first of them'
   unfoldable pub check : Got Manifest
   check = do
     let e = length s

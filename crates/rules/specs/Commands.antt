@@ -16,7 +16,7 @@ abbrev pub orElse : {A : Type 0} → Option A → Option A → Option A
 orElse none b = b
 orElse (some a) b = some a
 
--- those of a, and those of b that a leaves unset
+-- those of a, and those of b that a leaves unset: '19 skips a parameter already set; 20 replaces it'
 abbrev pub over : Params → Params → Params
 over a b =
     record {
@@ -26,7 +26,7 @@ over a b =
       size = orElse (a .size) (b .size);
     }
 
--- the codes of the commands, and the keys of the parameters
+-- the codes of the commands, as in the command table's column Code, and the keys of the parameters
 abbrev pub vendorCode : ℕ
 vendorCode = 1
 
@@ -81,7 +81,7 @@ digestKey = 11
 abbrev pub sizeKey : ℕ
 sizeKey = 12
 
--- the eleven commands that write an event, with their arguments
+-- the eleven commands that write an event ('Each command but 15 and 30 writes one'), with their arguments
 pub data Op : Type 0 where
   vendor : Bytes → Op
   class : Bytes → Op
@@ -108,7 +108,7 @@ code copy = copyCode
 code run = runCode
 code swap = swapCode
 
--- the component in a command's event and record (for 12 the new one); it is also the index after the command
+-- the component in a command's event and record: 'component (for 12 the new one)'; it is also the index after the command
 abbrev pub component : Op → ℕ → ℕ
 component (vendor b) i = i
 component (class b) i = i
@@ -122,7 +122,8 @@ component copy i = i
 component run i = i
 component swap i = i
 
--- the forms of an argument, each with the command that it makes
+-- the command table's column Argument, each with the command that it makes: '16-byte string', 'nil', 'number below component count', 'array
+-- of 1 to 4 sequences, each in a byte string', 'map, 1 to 5 entries, ascending', 'a sequence in a byte string'
 pub data Form : Type 0 where
   sixteen : (Bytes → Op) → Form
   nil : Op → Form
@@ -131,7 +132,7 @@ pub data Form : Type 0 where
   parameters : (Params → Op) → Form
   sequence : Form
 
--- the keys of the sections; common's own sequence goes by the key of common
+-- '3 common', '8 payload fetch, 9 install, 10 validate, 11 load, 12 run'; common's own sequence goes by the key of common
 abbrev pub COMMON : ℕ
 COMMON = 3
 
@@ -154,12 +155,12 @@ RUN = 12
 abbrev pub allSections : List ℕ
 allSections = COMMON ∷ PAYLOAD_FETCH ∷ INSTALL ∷ VALIDATE ∷ LOAD ∷ RUN ∷ []
 
--- where a command is allowed: by the keys of the sections
+-- the command table's column Allowed: 'anywhere', or the keys of sections
 pub data Allowed : Type 0 where
   anywhere : Allowed
   only : List ℕ → Allowed
 
--- `condition`: its failure is one that a run sequence or a try each may catch
+-- `condition`: of 1, 2 and 3, whose failure is one that a run sequence or a try each may catch ('Only condition failures are caught')
 pub record Row : Type 0 where
   pub number : ℕ
   pub condition : Bool
@@ -172,7 +173,7 @@ condition n f a = record { number = n; condition = true; form = f; allowed = a }
 abbrev directive : ℕ → Form → Allowed → Row
 directive n f a = record { number = n; condition = false; form = f; allowed = a }
 
--- the command table
+-- 'The command table is kept as data': code, argument, allowed
 abbrev pub commands : List Row
 commands =
     condition vendorCode (sixteen vendor) anywhere
@@ -190,6 +191,7 @@ commands =
     ∷ directive swapCode (nil swap) (only (PAYLOAD_FETCH ∷ INSTALL ∷ LOAD ∷ []))
     ∷ []
 
+-- the row of a code, if it is listed
 abbrev pub rowOf : ℕ → List Row → Option Row
 rowOf n [] = none
 rowOf n (r ∷ rs) = elim (eqb n (r .number)) [ true ↦ some r | false ↦ rowOf n rs ]
@@ -206,12 +208,13 @@ abbrev pub among : ℕ → List ℕ → Bool
 among n [] = false
 among n (x ∷ xs) = eqb n x || among n xs
 
--- 'Allowed' is by the outermost section
+-- '"Allowed" is by the outermost section'
 abbrev pub isAllowed : ℕ → Allowed → Bool
 isAllowed section anywhere = true
 isAllowed section (only sections) = among section sections
 
--- the parameter table: 'Parameters: 2 coerce, 6 URI, 10 source, 11 digest, 12 size'
+-- 'Parameters: 2 coerce (boolean), 6 URI (text, 1 to 96 bytes, not examined), 10 source (number below component count), 11 digest (32
+-- bytes), 12 size (number)'
 pub record ParamRow : Type 0 where
   pub number : ℕ
   pub param : Parameter
@@ -225,6 +228,7 @@ params =
     ∷ record { number = sizeKey; param = Size }
     ∷ []
 
+-- the parameter of a key, if it is listed
 abbrev pub paramOf : ℕ → List ParamRow → Option Parameter
 paramOf n [] = none
 paramOf n (r ∷ rs) = elim (eqb n (r .number)) [ true ↦ some (r .param) | false ↦ paramOf n rs ]

@@ -1,11 +1,11 @@
--- The limits of document 01, each named once: a field of `Limits` here, a constant of the controller type in the code. The contract of
--- `Controller::limits` ties the two.
+-- The limits of document 01: 'The limits in this paper belong to the controller type, each named there once'. Here each is a field of
+-- `Limits`, in the code a constant of the controller type; the contract of `Controller::limits` ties the two.
 use Rattle.rules.specs.Base.{ℕ, _+_, _*_, Limits}
 
--- 01, What a manifest may hold: bytes of an envelope; the largest number; components; parts of an identifier, and its bytes as encoded;
--- commands of one sequence; sequences one in another; commands of an envelope; alternatives of a try each; parameters of a set or
--- override; bytes of a URI, of a digest, of a vendor or class. 01, How a run goes: slots; bytes that a trace buffer has at least. 01, The flat program: command records;
--- bytes of a program
+-- 01, What a manifest may hold, in this order: 'Envelope, at most 4,096 bytes', 'numbers to 2^32-1', '1 to 8 identifiers', 'each an array
+-- of 1 to 4 byte strings, at most 32 bytes as encoded', 'n 0 to 64', 'at most 4 deep', 'At most 256 commands in an envelope', 'array of 1
+-- to 4 sequences', 'map, 1 to 5 entries', 'text, 1 to 96 bytes', '32 bytes', '16-byte string'. How a run goes: '1 to 8 slots'. Refusal
+-- numbers, 84: 'trace under 2,048 bytes'. The flat program: '1,024 records, 32,768 bytes'
 abbrev pub limits : Limits
 limits =
     record {

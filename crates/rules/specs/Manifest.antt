@@ -1,4 +1,5 @@
--- A checked manifest: what check answers, and its commands as a tree with the places of their codes.
+-- A checked manifest: what check answers ('sequence number, components and sections', 01, Five jobs), and its commands as a tree with the
+-- places of their codes.
 use Rattle.rules.specs.Base.{ℕ, _+_, List, [], _∷_, map, Bool, Option}
 use Rattle.rules.specs.Bytes.{Bytes, Span, bytesAt}
 use Rattle.rules.specs.Commands.{Op}
@@ -15,11 +16,12 @@ mutual
     sub : Seq → Cmd
     try : Alts → Cmd
 
+  -- the sequences of a try each, in turn
   pub data Alts : Type 0 where
     last : Seq → Alts
     or : Seq → Alts → Alts
 
--- how many commands, nested ones included
+-- how many commands, 'nested ones included'; 15 and 30 are commands too
 unfoldable mutual
   pub count : Seq → ℕ
   count end = 0

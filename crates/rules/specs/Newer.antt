@@ -1,5 +1,6 @@
--- Newer (01, Five jobs): which of two envelopes has the newer manifest, and where it stands in it. 'First wins a tie. One that check
--- refuses is passed over; both refused gives the empty start of the first.'
+-- Newer (01, Five jobs): which of two envelopes has the newer manifest, and where it stands in it: 'of two lent envelopes, hand back the
+-- manifest bytes of the newer one, a part of that envelope itself. First wins a tie. One that check refuses is passed over; both refused
+-- gives the empty start of the first.'
 use Rattle.rules.specs.Base.{cond, ltb}
 use Rattle.rules.specs.Bytes.{Bytes, Span, span}
 use Rattle.rules.specs.Got.{Got, refused, got}

@@ -34,7 +34,7 @@ unfoldable mutual
   sizeAlts (last s) = size s
   sizeAlts (or s a) = size s + (1 + sizeAlts a)
 
--- the records, the first of which has number n. t: where a failed condition goes on
+-- the records, the first of which has number n ('Record numbers count command records from 0'). t: where a failed condition goes on
 unfoldable mutual
   -- `coercible`: code 30 runs it, so that under its coerce a failed condition goes on at z, the record after it
   pub flatSeq : Seq → Bool → ℕ → Bool → ℕ → ℕ → ℕ → List Rec
@@ -47,12 +47,14 @@ unfoldable mutual
   flatCmd (sub s) i t n = flatSeq s true i false t (n + size s) n
   flatCmd (try a) i t n = flatAlts a i t (n + sizeAlts a) n
 
-  -- z: the record after the try each. A failure goes on at the next alternative; that of the last goes where the try each's own does
+  -- z: 'the record after the try each', to which a jump 'follows each alternative but the last'. A failure goes on at the next alternative;
+  -- that of the last goes where the try each's own does
   pub flatAlts : Alts → ℕ → ℕ → ℕ → ℕ → List Rec
   flatAlts (last s) i t z n = flatSeq s false i false t z n
   flatAlts (or s a) i t z n =
       flatSeq s false i false (n + size s + 1) z n ++ jump z ∷ flatAlts a i t z (n + size s + 1)
 
+-- sequences one after the other, each from index 0; nothing catches their failures
 unfoldable pub flatAll : List Seq → ℕ → List Rec
 flatAll [] n = []
 flatAll (s ∷ ss) n = flatSeq s false 0 false NONE 0 n ++ flatAll ss (n + size s)
@@ -63,7 +65,7 @@ pub record Program : Type 0 where
   pub ids : List Bytes
   pub records : List Rec
 
--- the program of the envelope s, whose manifest is m
+-- 'Its program is the records written out above for that envelope and group' (01, What we hold you to): of s, whose manifest is m
 unfoldable pub programOf : Bytes → Group → Manifest → Program
 programOf s g m = record { group = g; number = m .number; ids = names s m; records = flatAll (planOf g m) 0 }
 
@@ -76,7 +78,7 @@ abbrev pub paramBytes : Params → Bytes
 paramBytes p =
     flat (entry uriKey (λ b. b) (p .uri) ∷ entry sourceKey (λ n. n ∷ []) (p .source) ∷ entry digestKey (λ b. b) (p .digest) ∷ entry sizeKey be4 (p .size) ∷ [])
 
--- 'Arguments: 1 and 2, the 16 bytes; 19 and 20, [the parameters]; other codes none'
+-- 'Arguments: 1 and 2, the 16 bytes; 19 and 20, for each parameter but coerce .. other codes none'
 abbrev pub argBytes : Op → Bytes
 argBytes (vendor b) = b
 argBytes (class b) = b
@@ -90,7 +92,8 @@ argBytes copy = []
 argBytes run = []
 argBytes swap = []
 
--- 'Command: mark, code, component, place 2, target 2, argument length 2, argument'; 'Jump FF (component 0, place 0; no argument)'
+-- 'Command: mark, code, component (for 12 the new one), place 2, target 2, argument length 2, argument'; 'Jump FF (component 0, place 0; no
+-- argument; no event)'
 unfoldable pub recBytes : Rec → Bytes
 recBytes (does op i p t) = mark ++ (code op ∷ i ∷ be2 p) ++ be2 t ++ be2 (length (argBytes op)) ++ argBytes op
 recBytes (jump t) = mark ++ (JUMP ∷ 0 ∷ be2 0) ++ be2 t ++ be2 0
@@ -99,13 +102,13 @@ recBytes (jump t) = mark ++ (JUMP ∷ 0 ∷ be2 0) ++ be2 t ++ be2 0
 abbrev pub idBytes : Bytes → Bytes
 idBytes id = mark ++ (NAME ∷ length id ∷ id)
 
--- 'Start: mark, FE, group, sequence number 4, component count 1, command record count 2'
+-- 'Start: mark, FE, group (0 install, 1 boot), sequence number 4, component count 1, command record count 2'
 unfoldable pub programBytes : Program → Bytes
 programBytes p =
     mark ++ (START ∷ groupNumber (p .group) ∷ be4 (p .number)) ++ (length (p .ids) ∷ be2 (length (p .records)))
     ++ (flat (map idBytes (p .ids)) ++ flat (map recBytes (p .records)))
 
--- translate: the program of the envelope and the group, if a room of that length has space for it
+-- 'Translate an envelope and group into a program', into a room of that length; 96: 'program longer than the room'
 unfoldable pub translate : Bytes → Group → ℕ → Got Bytes
 translate s g room = do
   m ← check s

@@ -15,14 +15,14 @@ NAME = 0xfd
 abbrev pub JUMP : ℕ
 JUMP = 0xff
 
--- no target
+-- no target: 'FFFF if uncaught; other codes have FFFF'
 abbrev pub NONE : ℕ
 NONE = 0xffff
 
 abbrev pub codeFrom : ℕ
 codeFrom = 2
 
--- 'Start: mark, FE, group, sequence number 4, component count 1, command record count 2'
+-- 'Start: mark, FE, group (0 install, 1 boot), sequence number 4, component count 1, command record count 2'
 abbrev pub groupFrom : ℕ
 groupFrom = 3
 
@@ -45,7 +45,7 @@ lengthFrom = 3
 abbrev pub nameSize : ℕ
 nameSize = 4
 
--- 'Command: mark, code, component, place 2, target 2, argument length 2, argument'
+-- 'Command: mark, code, component (for 12 the new one), place 2, target 2, argument length 2, argument'
 abbrev pub componentFrom : ℕ
 componentFrom = 3
 

@@ -1,4 +1,4 @@
--- The run of a program (01, The flat program): record by record, forward only.
+-- 'Run a program' (01, Five jobs; The flat program): record by record, forward only.
 use Rattle.rules.specs.Base.{ℕ, zero, suc, _-_, List, [], _∷_, true, false, eqb, Finished, ConditionFailed}
 use Rattle.rules.specs.Bytes.{Bytes}
 use Rattle.rules.specs.Got.{Got, _>>=_}
@@ -25,6 +25,7 @@ module _ (env : Env) where
   abbrev pub resume : List Rec → ℕ → ℕ → Out → Out
   resume rest m t o = next o (λ st. exec rest m 0 st) (λ st. goto rest m t st)
 
+-- the tests come 'after 97'; group, number and components are those of the program
 unfoldable pub runProgram : Bytes → Input → Got Ran
 runProgram b x = do
   p ← programIn b

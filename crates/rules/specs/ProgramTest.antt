@@ -22,7 +22,7 @@ bad = refused BadProgram 0
 abbrev pub marked : ℕ → Bytes → Bool
 marked c p = same (take 3 p) (mark ++ (c ∷ []))
 
--- the parameter of key k, of lo to hi bytes, if it stands next; and what follows
+-- the parameter of key k, of lo to hi bytes, if it stands next ('key 1, length 1, value'); and what follows
 unfoldable pub optional : {A : Type 0} → ℕ → ℕ → ℕ → (Bytes → A) → Bytes → Got (Option A × Bytes)
 optional k lo hi f [] = got (none, [])
 optional k lo hi f (x ∷ []) = elim (eqb x k) [ false ↦ got (none, x ∷ []) | true ↦ bad ]
@@ -49,7 +49,8 @@ paramsIn n p = do
   _ ← need (isBelow source n)
   got (record { uri = uri; source = source; digest = digest; size = size })
 
--- the command of a form with component i and those bytes as its argument
+-- the command of a form with component i and those bytes as its argument: '1 and 2, the 16 bytes', 'other codes none'; '15 and 30 leave no
+-- record'
 unfoldable pub opIn : ℕ → ℕ → Form → Bytes → Got Op
 opIn n i (sixteen op) p = do
   _ ← need (eqb (length p) (limits .class))
@@ -75,7 +76,8 @@ abbrev pub groupAllows : Group → Allowed → Bool
 groupAllows g anywhere = true
 groupAllows g (only sections) = anyOf (sectionsOf g) sections
 
--- record number n of `total`, at the start of p, and what follows it
+-- record number n of `total`, at the start of p, and what follows it: 'any place but in jumps'; 'targets of jumps and conditions are
+-- greater than the record's own number and at most the count (a condition's may be FFFF)'; 'other codes have FFFF'
 unfoldable pub recordIn : Group → ℕ → ℕ → ℕ → Bytes → Got (Rec × Bytes)
 recordIn g comps total n p = do
   _ ← need (leb recordSize (length p) && same (take 2 p) mark)
@@ -99,6 +101,7 @@ recordIn g comps total n p = do
       got (does op i place target, rest)
   ]
 
+-- k records more, from number n on
 unfoldable pub recordsIn : Group → ℕ → ℕ → ℕ → ℕ → Bytes → Got (List Rec × Bytes)
 recordsIn g comps total zero n p = got ([], p)
 recordsIn g comps total (suc k) n p = do
@@ -106,6 +109,7 @@ recordsIn g comps total (suc k) n p = do
   (rs, p₂) ← recordsIn g comps total k (n + 1) p₁
   got (r ∷ rs, p₂)
 
+-- k identifiers: '1 to 32 bytes, not read as CBOR'
 unfoldable pub idsIn : ℕ → Bytes → Got (List Bytes × Bytes)
 idsIn zero p = got ([], p)
 idsIn (suc k) p = do
@@ -122,6 +126,8 @@ nonJumps (jump t ∷ rs) = nonJumps rs
 abbrev pub groupIn : ℕ → Option Group
 groupIn g = cond (eqb g 0) (some Install) (cond (eqb g 1) (some Boot) none)
 
+-- 'Well formed: all this holds for the lengths and ranges above', 'no identifier stands twice', 'at most 256 non-jumps, 1,024 records,
+-- 32,768 bytes, nothing left over'
 unfoldable pub programIn : Bytes → Got Program
 programIn p = do
   _ ← need (leb (length p) (limits .program) && leb startSize (length p) && marked START p)

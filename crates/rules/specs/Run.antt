@@ -11,7 +11,8 @@ use Rattle.rules.specs.Check.{check}
 use Rattle.rules.specs.Slots.{answerBytes, goodSlots, slotNames}
 use Rattle.rules.specs.Step.{Env, State, state, Out, out, step, eventBytes, eventPlace}
 
--- the index and coerce after a command of the same sequence
+-- the index and coerce after a command of the same sequence: 'the caller's index comes back afterwards'; 'Coerce belongs to the sequence it
+-- is written in, starts false, and both write it' (19 and 20)
 abbrev pub indexAfter : Cmd → ℕ → ℕ
 indexAfter (one p op b) i = component op i
 indexAfter (sub s) i = i
@@ -22,7 +23,8 @@ coerceAfter (one p op b) c = Option·getD b c
 coerceAfter (sub s) c = c
 coerceAfter (try a) c = c
 
--- go on with f where it went well, and with g where a condition failed; anything else ends the run
+-- go on with f where it went well, and with g where a condition failed; anything else ends the run. Both go on from the state that was
+-- left: 'Parameters, slots and events from a failed sequence stay'
 unfoldable pub on : End → State → (State → Out) → (State → Out) → Out
 on Finished st f g = f st
 on ConditionFailed st f g = g st
@@ -33,8 +35,8 @@ abbrev pub next : Out → (State → Out) → (State → Out) → Out
 next o f g = on (o .end) (o .state) f g
 
 module _ (env : Env) where
-  -- a sequence from index i, with its coerce c. `coercible`: code 30 runs it, so that 'a condition failure inside, while that sequence's coerce
-  -- is true, is a success'
+  -- a sequence from index i, with its coerce c. `coercible`: code 30 runs it, so that 'a condition failure inside, while that sequence's
+  -- coerce is true, is a success; otherwise the result is the inner one'
   unfoldable mutual
     pub runSeq : Seq → Bool → ℕ → Bool → State → Out
     runSeq end coercible i c st = out Finished st
@@ -71,7 +73,7 @@ chosen ks (x ∷ xs) = cond (among (x .key) ks) (x .seq ∷ chosen ks xs) (chose
 abbrev pub planOf : Group → Manifest → List Seq
 planOf g m = chosen (sectionsOf g) (m .sections)
 
--- what a run is given
+-- 'Input: signature verdict; device .. 1 to 8 slots .. host answers of 37 bytes .. trace buffer'
 pub record Input : Type 0 where
   pub verdict : Bool
   pub device : Controller
@@ -79,7 +81,7 @@ pub record Input : Type 0 where
   pub answers : Bytes
   pub trace : Bytes
 
--- what it gives back: the end and its place, how many events and answers used, the slots, the device's number, the trace buffer
+-- what it gives back: the end, 'with the last event's place (0 if finished), events and answers used'; slots, device's number, trace buffer
 pub record Ran : Type 0 where
   pub end : End
   pub place : ℕ
@@ -89,7 +91,7 @@ pub record Ran : Type 0 where
   pub number : ℕ
   pub trace : Bytes
 
--- 81 and 82, for a manifest's number and a device
+-- 81: 'install while an event is open'. 82: 'install: number not above the device's; boot: not equal'
 abbrev pub mayStart : Group → Controller → Bool
 mayStart Install d = not (d .event)
 mayStart Boot d = true
@@ -98,7 +100,7 @@ abbrev pub numberFits : Group → ℕ → Controller → Bool
 numberFits Install n d = ltb (d .number) n
 numberFits Boot n d = eqb n (d .number)
 
--- the tests of a run, in the order of the table
+-- the tests of a run: '80 to 97 have place 0 and are tested in table order after check (or after 97)', that is 80, 81, 82, 85, 83, 86, 84
 unfoldable pub admit : Group → ℕ → List Bytes → Input → Got (Unit {0})
 admit group number ids x = do
   _ ← need (x .verdict) NotVerified 0
@@ -125,6 +127,7 @@ abbrev pub numberAfter : Group → End → ℕ → ℕ → ℕ
 numberAfter Install e new old = cond (isFinished e) new old
 numberAfter Boot e new old = old
 
+-- what a run that is over gives back
 unfoldable pub report : Group → ℕ → Input → Out → Ran
 report group number x o =
     record {
@@ -150,6 +153,7 @@ runOf group number ids body x = do
   _ ← admit group number ids x
   got (report group number x (body (envOf ids x) (startState ids x)))
 
+-- 'Run an envelope for a group: install or boot'
 unfoldable pub runEnvelope : Bytes → Group → Input → Got Ran
 runEnvelope s group x = do
   m ← check s

@@ -1,4 +1,5 @@
--- Slots and host answers as lent bytes (01, How a run goes; the layout of a slot is ours, docs/DECISIONS.md).
+-- Slots and host answers as lent bytes (01, How a run goes): '1 to 8 slots (identifier as encoded, capacity, present, size, digest)', 'host
+-- answers of 37 bytes (status, size in 4, digest; status 0 is good)'. The layout of a slot is ours (docs/DECISIONS.md, 4 and 5).
 --
 -- A slot, 74 bytes:  0 identifier's length   1 identifier, as many of 32 bytes as that   33 capacity (4)
 --                   37 present, 0 for no    38 size (4)    42 digest (32)
@@ -74,7 +75,7 @@ slotNames b = map (λ x. x .id) (slotsIn b)
 unfoldable pub slotOf : Bytes → Bytes → ℕ
 slotOf id b = indexOf id (slotNames b)
 
--- 85: identifier of 1 to 32 bytes, present size at most the capacity
+-- 85: 'identifier not 1 to 32 bytes', 'present size over capacity'
 abbrev pub goodSlot : Slot → Bool
 goodSlot x =
     leb 1 (x .idLength) && leb (x .idLength) (limits .identifier) && (not (x .present) || leb (x .size) (x .capacity))
@@ -83,7 +84,7 @@ abbrev pub allGood : List Slot → Bool
 allGood [] = true
 allGood (x ∷ xs) = goodSlot x && allGood xs
 
--- 85: whole slots, 1 to 8 of them, each good, no identifier twice
+-- 85: 'slot count not 1 to 8', identifier 'twice'; and bytes that are no whole number of slots
 unfoldable pub goodSlots : Bytes → Bool
 goodSlots b =
     eqb (length b % slotBytes) 0 && leb 1 (length b / slotBytes) && leb (length b / slotBytes) (limits .slots)

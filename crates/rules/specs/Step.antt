@@ -6,7 +6,7 @@ use Rattle.rules.specs.Bytes.{Bytes, part, num, be2, same, put}
 use Rattle.rules.specs.Commands.{Op, vendor, class, imageMatch, setIndex, abort, setParams, overrideParams, fetch, copy, run, swap, Params, unset, over, code}
 use Rattle.rules.specs.Slots.{Slot, sizeFrom, answerBytes, slotAt, imageAt, putImage, slotOf}
 
--- what does not change in a run: the device, the components' identifiers, the host's answers
+-- what does not change in a run: the 'device (vendor, class, sequence number, event-open flag)', the components' identifiers, the answers
 pub record Env : Type 0 where
   pub device : Controller
   pub ids : List Bytes
@@ -32,7 +32,8 @@ withSlots st b = state (st .params) b (st .trace) (st .events) (st .used)
 abbrev pub withUsed : State → ℕ → State
 withUsed st n = state (st .params) (st .slots) (st .trace) (st .events) n
 
--- an event: '`53 54`, code, component, place of the code in 2 bytes, result, 0'
+-- an event: '`53 54`, code, component (for 12 the new one), place of the code in 2 bytes, result (0, 1 condition failed, or failure
+-- number), 0'
 abbrev pub eventBytes : ℕ
 eventBytes = 8
 
@@ -69,20 +70,23 @@ unfoldable pub unless : Bool → Failure → State → Out → Out
 unless true f st o = o
 unless false f st o = out (Failed f) st
 
+-- 'unset, 32'
 unfoldable pub given : {A : Type 0} → Option A → State → (A → Out) → Out
 given none st k = out (Failed ParameterUnset) st
 given (some a) st k = k a
 
+-- the result of a condition
 unfoldable pub passes : Bool → State → Out
 passes true st = out Finished st
 passes false st = out ConditionFailed st
 
+-- 'its size too where size is set'
 abbrev pub sizeIs : Option ℕ → ℕ → Bool
 sizeIs none n = true
 sizeIs (some m) n = eqb m n
 
 module _ (env : Env) where
-  -- the number of component i's slot
+  -- the number of component i's slot, the slot, its image, and the image x in it
   unfoldable pub slotNo : ℕ → State → ℕ
   slotNo i st = slotOf (getD (env .ids) i []) (st .slots)
 
@@ -125,7 +129,7 @@ module _ (env : Env) where
       (unless (leb (slot j st .size) (slot i st .capacity)) TooLarge st
       (out Finished (filled i (image j st) st)))
 
-  -- 32: 'likewise, but both must be present (37) and each must fit the other (36)'
+  -- 32: 'likewise, but both must be present (37) and each must fit the other (36). Self copy or swap of a present slot changes nothing'
   unfoldable pub swaps : ℕ → State → Out
   swaps i st =
       given (paramsOf i st .source) st λ j.
@@ -133,7 +137,8 @@ module _ (env : Env) where
       (unless (leb (slot j st .size) (slot i st .capacity) && leb (slot i st .size) (slot j st .capacity)) TooLarge st
       (out Finished (filled j (image i st) (filled i (image j st) st))))
 
-  -- what a command does at component i, its event aside
+  -- what a command does at component i, its event aside: '1 and 2 pass on equal bytes', '14: failure 33', '19 skips a parameter already
+  -- set; 20 replaces it', '23: slot absent, 38; else the whole run ends, started'
   unfoldable pub acts : Op → ℕ → State → Out
   acts (vendor b) i st = passes (same b (env .device .vendor)) st
   acts (class b) i st = passes (same b (env .device .class)) st
@@ -147,7 +152,7 @@ module _ (env : Env) where
   acts run i st = unless (slot i st .present) NothingToRun st (out Started st)
   acts swap i st = swaps i st
 
-  -- the command with its code at `place`, and its event
+  -- the command with its code at `place`, and its event: 'Each command but 15 and 30 writes one event'
   unfoldable pub step : Op → ℕ → ℕ → State → Out
   step op i place st =
       let o = acts op i st in

@@ -1,4 +1,6 @@
 -- The tables of commands and parameters as the code keeps them: constant arrays, and one table by number that is lent to each look-up.
+-- 01, The shape of some places: 'constant table of codes, argument kinds and allowed sections, consulted by check, translator and program
+-- test'.
 use Rattle.rules.specs.Base.{ℕ, zero, suc, _+_, _*_, List, [], _∷_, _++_, Bool, true, false, cond, Option, some, none, eqb, Argument, Sixteen, Nil, Index}
 use Rattle.rules.specs.Base.{Alternatives, Parameters, Sequence, Command, Listed, Parameter, Coerce, Uri, Source, Digest, Size, ParameterRow, Known}
 use Rattle.rules.specs.declared.tables.Listed.the-variants as L
@@ -6,6 +8,7 @@ use Rattle.rules.specs.declared.tables.Known.the-variants as K
 use Rattle.rules.specs.Commands.{Form, sixteen, nil, below, alternatives, parameters, sequence, Allowed, anywhere, only, PAYLOAD_FETCH}
 use Rattle.rules.specs.Commands.{INSTALL, VALIDATE, LOAD, RUN, swapCode, sizeKey, Row, commands, rowOf, ParamRow, params, paramOf}
 
+-- the kind of an argument that the code declares for each form
 abbrev pub kindOf : Form → Argument
 kindOf (sixteen op) = Sixteen
 kindOf (nil op) = Nil
