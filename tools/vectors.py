@@ -166,9 +166,10 @@ class Copy:
         (self.proofs / 'Vectors.antt').write_text(HELPERS)
         with open(self.proofs / 'Lib.antt', 'a') as root:
             root.write('pub mod Vectors\npub mod VectorsTables\n')
-        # the bench sheet has a line for all that it unfolds of the rules
-        sheet = (self.proofs / 'BenchSheet.antt').read_text().splitlines()
-        self.unfolding = next(line for line in sheet if line.startswith('unfolding '))
+        # the bench sheet says all that it unfolds of the rules, on a line and those indented below it
+        sheet = (self.proofs / 'BenchSheet.antt').read_text()
+        self.unfolding = re.search(r'^unfolding .*(\n .*)*', sheet, re.MULTILINE)[0]
+        sheet = sheet.splitlines()
         self.head = '\n'.join([
             'use mathlib.Core.Path.{_≡_, refl}', 'use mathlib.Core.List.{List, [], _∷_, _++_}',
             'use mathlib.Core.Bool.{true, false}', 'use lib.ListN.{replicate}',
