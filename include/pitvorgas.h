@@ -82,12 +82,13 @@ enum {
     PITVORGAS_NOTHING_TO_RUN = 38
 };
 
-/* The device: vendor and class identifiers, the sequence number of the manifest installed last, and whether an event is open. 37 bytes,
- * and 3 of padding: vendor at 0, class at 16, number at 32 (in the machine's own order), event at 36. */
+/* The device: vendor and class identifiers, the sequence number of the manifest installed last, and whether an event is open. The number
+ * may be any: one over 4,294,967,295 is over every manifest's, so no run gets past 82. On x86-64 a device has 48 bytes: vendor at 0, class
+ * at 16, number at 32 (in the machine's own order), event at 40, and 7 of padding. */
 struct pitvorgas_device {
     uint8_t vendor[PITVORGAS_CLASS_BYTES];
     uint8_t class_id[PITVORGAS_CLASS_BYTES];
-    uint32_t number;
+    size_t number;
     bool event;
 };
 

@@ -13,11 +13,27 @@ typedef struct {
     unsigned char bytes[4096];
 } answer;
 
-typedef struct {
-    unsigned char vendor[16], class_id[16];
-    uint32_t number;
-    bool event;
-} device;
+/* The device of each build: its number was once a uint32_t. */
+#ifndef OLD_NUMBER
+#define OLD_NUMBER size_t
+#endif
+
+#define DEVICE(name, kind)                                                                           \
+    typedef struct {                                                                                 \
+        unsigned char vendor[16], class_id[16];                                                      \
+        kind number;                                                                                 \
+        bool event;                                                                                  \
+    } name##_device;                                                                                 \
+    static name##_device name##_board;                                                               \
+    static void name##_start(void)                                                                   \
+    {                                                                                                \
+        memset(name##_board.vendor, 0x11, sizeof name##_board.vendor);                               \
+        memset(name##_board.class_id, 0x22, sizeof name##_board.class_id);                           \
+        name##_board.number = 1;                                                                     \
+    }
+
+DEVICE(pitvorgas, size_t)
+DEVICE(before, OLD_NUMBER)
 
 typedef struct {
     unsigned char envelope[ENVELOPE_ROOM], program[PROGRAM_ROOM];
@@ -29,8 +45,8 @@ typedef struct {
 #define BUILD(name)                                                                                  \
     answer name##_check(BYTES);                                                                      \
     answer name##_translate(BYTES, bool, ROOM);                                                      \
-    answer name##_run(BYTES, bool, bool, device, ROOM, BYTES, ROOM);                                 \
-    answer name##_run_program(BYTES, bool, device, ROOM, BYTES, ROOM);                               \
+    answer name##_run(BYTES, bool, bool, name##_device, ROOM, BYTES, ROOM);                          \
+    answer name##_run_program(BYTES, bool, name##_device, ROOM, BYTES, ROOM);                        \
     static void name##_checks(const void *x)                                                         \
     {                                                                                                \
         const subject *s = x;                                                                        \
@@ -44,19 +60,18 @@ typedef struct {
     static void name##_boots(const void *x)                                                          \
     {                                                                                                \
         const subject *s = x;                                                                        \
-        keep(name##_run(s->envelope, s->envelope_length, true, true, board, slots, slots_length,     \
-                        room, 0, trace, sizeof trace));                                              \
+        keep(name##_run(s->envelope, s->envelope_length, true, true, name##_board,                   \
+                        slots, slots_length, room, 0, trace, sizeof trace));                         \
     }                                                                                                \
     static void name##_boots_program(const void *x)                                                  \
     {                                                                                                \
         const subject *s = x;                                                                        \
-        keep(name##_run_program(s->program, s->program_length, true, board, slots, slots_length,     \
-                                room, 0, trace, sizeof trace));                                      \
+        keep(name##_run_program(s->program, s->program_length, true, name##_board,                   \
+                                slots, slots_length, room, 0, trace, sizeof trace));                 \
     }
 
 static unsigned char room[PROGRAM_ROOM], slots[SLOTS_ROOM], trace[TRACE_BYTES];
 static size_t slots_length;
-static device board;
 static subject subjects[ENVELOPES];
 
 /* The compiler must take an answer for used. */
@@ -79,9 +94,8 @@ static void read_subjects(const char *folder)
         subjects[i].program_length = file(folder, name, subjects[i].program, PROGRAM_ROOM);
     }
     slots_length = file(folder, "slots", slots, SLOTS_ROOM);
-    memset(board.vendor, 0x11, sizeof board.vendor);
-    memset(board.class_id, 0x22, sizeof board.class_id);
-    board.number = 1;
+    pitvorgas_start();
+    before_start();
 }
 
 static void row(work now, work then)

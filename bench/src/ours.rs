@@ -9,7 +9,7 @@ use crate::reading::{self, Group};
 struct Device {
     vendor: [u8; 16],
     class_id: [u8; 16],
-    number: u32,
+    number: usize,
     event: bool,
 }
 
@@ -18,7 +18,7 @@ impl From<&reading::Device> for Device {
         Device {
             vendor: device.vendor,
             class_id: device.class,
-            number: device.number,
+            number: device.number as usize,
             event: device.event_open,
         }
     }

@@ -68,7 +68,7 @@ pub(crate) fn device_of(head: &[u8]) -> Device
     Device {
         vendor,
         class_id: class,
-        number: four(head, NUMBER) as u32,
+        number: four(head, NUMBER),
         event: head[OPEN] != 0,
     }
 }

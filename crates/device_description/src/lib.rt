@@ -34,7 +34,7 @@ pub struct Scenario {
     pub verdict: bool,
     pub vendor: Sixteen,
     pub class: Sixteen,
-    pub number: u32,
+    pub number: usize,
     pub event: bool,
     pub slots: usize,
     pub answers: usize,
@@ -163,7 +163,7 @@ fn number_line(mut d: Scenario, n: usize, t: &[u8]) -> Scenario
 {
     let number = decimal(t);
     if number < NO_NUMBER {
-        d.number = number as u32;
+        d.number = number;
         return d;
     }
     refuse(d, n)

@@ -47,9 +47,6 @@ module _ (s : Bytes) (number n : ℕ) (ids sections : List ℕ) (a : Accepted s 
   pub few : n ≤ limits .components
   few = omega (arith, counted, known .some-ids)
 
-  pub number-small : number ≤ limits .largest
-  number-small = omega (arith, a .numbered, known .number)
-
   spans : (k : ℕ) → k < length (a .manifest .ids) → spanAt ids k ≡ getD (a .manifest .ids) k (span 0 0)
   spans k h = ap (λ (l : List ℕ). spanAt l k) (a .names) ∙ span-laid (a .manifest .ids) (replicate places 0) k h
 

@@ -14,7 +14,7 @@ pub struct Device {
     pub vendor: Sixteen,
     pub class_id: Sixteen,
     // the sequence number of the manifest that was installed last
-    pub number: u32,
+    pub number: usize,
     // an event is open
     pub event: bool,
 }

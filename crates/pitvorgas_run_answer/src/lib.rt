@@ -16,7 +16,7 @@ pub fn answer_of(o: Outcome) -> RunAnswer
             end: 0,
             events: 0,
             used: 0,
-            number: o.number as usize,
+            number: o.number,
         },
         Answer::Ran(ending) => {
             let end = ending.end;
@@ -26,7 +26,7 @@ pub fn answer_of(o: Outcome) -> RunAnswer
                 end: end.number(),
                 events: ending.events,
                 used: ending.used,
-                number: o.number as usize,
+                number: o.number,
             }
         }
     }

@@ -45,9 +45,6 @@ module _ (p : Bytes) (t : Tested) (a : Known p t) where
   pub inside : InBytes (t .ids) (t .components) (length p)
   inside = a .stands .places
 
-  pub number-small : t .number ≤ limits .largest
-  number-small = a .stands .small
-
   pub counted : length (a .program .ids) ≡ t .components
   counted = ap length (sym (a .stands .names)) ∙ names-count p (t .ids) (t .components)
 

@@ -56,7 +56,7 @@ fn run_tested(
     );
     Outcome {
         answer: Answer::Ran(ended(done.end, done.events, done.used, trace)),
-        number: number_after(group, done.end, t.number as u32, device.number),
+        number: number_after(group, done.end, t.number, device.number),
     }
 }
 

@@ -7,7 +7,7 @@ pub struct Controller {
     pub vendor: Sixteen,
     pub class: Sixteen,
     // the sequence number of the manifest that was installed last
-    pub number: u32,
+    pub number: usize,
     // an event is open, so nothing may be installed
     pub event: bool,
 }

@@ -25,7 +25,7 @@ fn may_start(group: Group, device: Controller) -> bool
 fn number_fits(group: Group, number: usize, device: Controller) -> bool
     ensures { λ r. ⌜ r ≡ Rule.numberFits group number device ⌝ }
 {
-    let held = device.number as usize;
+    let held = device.number;
     match group {
         Group::Install => held < number,
         Group::Boot => number == held,

@@ -24,7 +24,7 @@ pub enum Answer {
 // The answer, and the device's number after the run.
 pub struct Outcome {
     pub answer: Answer,
-    pub number: u32,
+    pub number: usize,
 }
 
 // A refusal leaves the device's number as it is.

@@ -41,7 +41,7 @@ pub fn ended(end: usize, events: usize, used: usize, trace: &[u8]) -> Ending
 }
 
 // The device takes the manifest's number exactly when install finishes.
-pub fn number_after(group: Group, end: usize, new: u32, old: u32) -> u32
+pub fn number_after(group: Group, end: usize, new: usize, old: usize) -> usize
     ensures { λ r. ⌜ r ≡ numberAfter group (endOf end) new old ⌝ }
 {
     match group {

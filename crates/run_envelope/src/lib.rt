@@ -53,7 +53,7 @@ fn run_checked(
     );
     Outcome {
         answer: Answer::Ran(ended(done.end, done.events, done.used, trace)),
-        number: number_after(group, done.end, request.number as u32, device.number),
+        number: number_after(group, done.end, request.number, device.number),
     }
 }
 

@@ -3,10 +3,10 @@ use Rattle.pitvorgas_run_answer.proofs.answer_of.Statement.{statement}
 use Rattle.pitvorgas_run_answer.proofs.answer_of.Tie as tie
 
 refused : tie.Need-returns
-refused c = rw (c .before .before .before .answer .given .1, c .before .number .ensures)
+refused c = rw (c .before .before .answer .given .1, c .number .ensures)
 
 ran : tie.Need-returns-2
-ran c = rw (c .before .before .before .answer2 .given .1, c .before .number2 .ensures)
+ran c = rw (c .before .before .answer2 .given .1, c .number2 .ensures)
 
 pub answer-of-spec : {M : Type 1} → statement M
 answer-of-spec =
@@ -15,8 +15,6 @@ answer-of-spec =
     (λ c. search needs)
     (λ c κs. search needs)
     (λ c. search needs)
-    (λ c. search needs)
     (λ c κs. search needs)
-    (λ c. search needs)
     refused
     ran)

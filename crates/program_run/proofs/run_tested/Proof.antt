@@ -1,6 +1,5 @@
-use native.Mathlib.Omega.{arith}
 use borrow.Author.Needs.{needs}
-use Rattle.program_run.proofs.OutcomeLaws.{few, inside, number-small, refused-answer, job, last-event, answered}
+use Rattle.program_run.proofs.OutcomeLaws.{few, inside, refused-answer, job, last-event, answered}
 use Rattle.program_run.proofs.run_tested.Statement.{statement}
 use Rattle.program_run.proofs.run_tested.Tie as tie
 
@@ -36,12 +35,9 @@ ended-requires c κs =
     let at = e .before in
     last-event _ _ (start (at .before) .pre) _ _ (at .admit .ensures .0) (e .if1 .left) _ (at .admit .ensures .1 (e .if1 .left)) _ _ _ _ (r .run-records .ensures)
 
-number-fits : tie.Need-cast-number-after
-number-fits c = omega (arith, number-small _ _ (start (admitted (ran-records (c .before .before) .before) .before .before) .pre))
-
 ran : tie.Need-returns-2
 ran c =
-    let ended = c .before .before in
+    let ended = c .before in
     let r = ran-records (ended .before) in
     let e = admitted (r .before) in
     let at = e .before in
@@ -60,7 +56,6 @@ run-tested-spec =
     refused
     records-requires
     ended-requires
-    number-fits
     (λ c κs. search needs)
     (λ c. search needs)
     (λ c. search needs)

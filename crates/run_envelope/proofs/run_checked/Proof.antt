@@ -1,6 +1,5 @@
-use native.Mathlib.Omega.{arith}
 use borrow.Author.Needs.{needs}
-use Rattle.manifest_accessors.proofs.AcceptedLaws.{few, inside, number-small}
+use Rattle.manifest_accessors.proofs.AcceptedLaws.{few, inside}
 use Rattle.run_envelope.proofs.OutcomeLaws.{refused-answer, job, last-event, answered}
 use Rattle.run_envelope.proofs.run_checked.Statement.{statement}
 use Rattle.run_envelope.proofs.run_checked.Tie as tie
@@ -38,12 +37,9 @@ ended-requires c κs =
     last-event _ _ _ _ _ (start (at .before) .pre) _ _ _ (at .admit .ensures .0) (e .if1 .left) _ (at .admit .ensures .1 (e .if1 .left))
     _ _ _ _ (r .run-sections .ensures)
 
-number-fits : tie.Need-cast-number-after
-number-fits c = omega (arith, number-small _ _ _ _ _ (start (admitted (ran-sections (c .before .before) .before) .before .before) .pre))
-
 ran : tie.Need-returns-2
 ran c =
-    let ended = c .before .before in
+    let ended = c .before in
     let r = ran-sections (ended .before) in
     let e = admitted (r .before) in
     let at = e .before in
@@ -62,7 +58,6 @@ run-checked-spec =
     refused
     sections-requires
     ended-requires
-    number-fits
     (λ c κs. search needs)
     (λ c. search needs)
     (λ c. search needs)

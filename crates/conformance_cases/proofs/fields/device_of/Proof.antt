@@ -12,4 +12,4 @@ returns c =
     rw (sixteen .sixteen .ensures, sixteen2 .sixteen2 .ensures, four .four .ensures .0)
 
 pub device-of-spec : {M : Type 1} → statement M
-device-of-spec = tie.close (tie.spec (λ c κs. search needs) (λ c κs. search needs) (λ c κs. search needs) (λ c. search needs) (λ c. search needs) returns)
+device-of-spec = tie.close (tie.spec (λ c κs. search needs) (λ c κs. search needs) (λ c κs. search needs) (λ c. search needs) returns)

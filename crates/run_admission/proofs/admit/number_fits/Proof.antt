@@ -9,4 +9,4 @@ boot : tie.Need-returns-2
 boot c = rw (c .enum-told2 .given .1)
 
 pub number-fits-spec : {M : Type 1} → statement M
-number-fits-spec = tie.close (tie.spec (λ c. search needs) (λ c. search needs) (λ c. search needs) install boot)
+number-fits-spec = tie.close (tie.spec (λ c. search needs) (λ c. search needs) install boot)
