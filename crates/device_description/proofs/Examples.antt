@@ -6,7 +6,7 @@ use mathlib.Core.Bool.{true, false}
 use lib.ListN.{replicate}
 use Rattle.rules.specs.Bytes.{Bytes}
 use Rattle.text.specs.Text.{ascii, position}
-use Rattle.device_text.specs.Words.{lines, trim, word, rest, oneMore, numberFrom, number, digit, allDigits, unhex, bytes, isBytes, upToBytes}
+use Rattle.device_text.specs.Words.{lines, firstBlank, skip, trim, content, word, rest, oneMore, numberFrom, number, digit, allDigits, unhex, bytes, isBytes, upToBytes}
 use Rattle.device_slots.specs.SlotText.{isImage, image, isState, isSlot, identifier, slot, status, isAnswer, answer}
 use Rattle.device_description.specs.Scenario.{start, verdictLine, vendorLine, classLine, numberLine, eventLine, setting, Said, slotLine, answerLine, line, linesFrom, described}
 
@@ -17,7 +17,7 @@ text (l ∷ ls) = ascii l ++ (10 ∷ []) ++ text ls
 
 -- rooms for 2 slots and 1 answer
 unfoldable pub says : List String → Said
-unfolding position lines trim word rest oneMore numberFrom number digit allDigits unhex bytes isBytes upToBytes isImage image isState isSlot identifier
+unfolding position lines firstBlank skip trim content word rest oneMore numberFrom number digit allDigits unhex bytes isBytes upToBytes isImage image isState isSlot identifier
     slot status isAnswer answer start verdictLine vendorLine classLine numberLine eventLine setting slotLine answerLine line linesFrom described
 says ls = described 148 37 (text ls)
 
@@ -58,6 +58,32 @@ pub gate : says
 unfolding says
 gate = refl
 
+-- blanks before, between and behind words, tabs among them, and comments behind values: the same as without them
+pub loose : says
+    ("   # turnstile 12"
+    ∷ " \t\r"
+    ∷ "\tverdict   bad\t# by hand"
+    ∷ "number\t7# seven"
+    ∷ "  event \t open \r"
+    ∷ " slot\t8142ee00  200   absent  # nothing in it"
+    ∷ "answer   7\t34768 \t00112233445566778899aabbccddeeff0123456789abcdeffedcba9876543210 #"
+    ∷ [])
+    ≡ says
+    ("verdict bad"
+    ∷ "number 7"
+    ∷ "event open"
+    ∷ "slot 8142ee00 200 absent"
+    ∷ "answer 7 34768 00112233445566778899aabbccddeeff0123456789abcdeffedcba9876543210"
+    ∷ [])
+unfolding says
+loose = refl
+
+-- and what they say is this
+pub loose-says : map (λ ls. says ls .scenario .number) (("\t number  7 # seven" ∷ []) ∷ ("number 7 #8" ∷ []) ∷ ("number 7#8" ∷ []) ∷ [])
+    ≡ 7 ∷ 7 ∷ 7 ∷ []
+unfolding says
+loose-says = refl
+
 -- each of these is refused at the line whose number stands behind it
 pub faults :
     map (λ ls. says ls .scenario .refused)
@@ -65,7 +91,9 @@ pub faults :
     ∷ ("" ∷ "number 4294967296" ∷ [])
     ∷ ("number 1 2" ∷ [])
     ∷ ("number" ∷ [])
-    ∷ (" number 1" ∷ [])
+    ∷ ("Number 1" ∷ [])
+    ∷ ("number # 1" ∷ [])
+    ∷ ("\tverdict good # so" ∷ "verdict good so" ∷ [])
     ∷ ("vendor 00" ∷ [])
     ∷ ("# one" ∷ "# two" ∷ "colour red" ∷ [])
     ∷ ("slot 814 200 absent" ∷ [])
@@ -74,6 +102,6 @@ pub faults :
     ∷ ("answer 256 1 00112233445566778899aabbccddeeff0123456789abcdeffedcba9876543210" ∷ [])
     ∷ ("answer good 1 00112233445566778899aabbccddeeff0123456789abcdeffedcba98765432" ∷ [])
     ∷ [])
-    ≡ 1 ∷ 2 ∷ 1 ∷ 1 ∷ 1 ∷ 1 ∷ 3 ∷ 1 ∷ 1 ∷ 3 ∷ 1 ∷ 1 ∷ []
+    ≡ 1 ∷ 2 ∷ 1 ∷ 1 ∷ 1 ∷ 1 ∷ 2 ∷ 1 ∷ 3 ∷ 1 ∷ 1 ∷ 3 ∷ 1 ∷ 1 ∷ []
 unfolding says
 faults = refl

@@ -6,7 +6,7 @@ use mathlib.Core.Bool.{Bool, true, false, _&&_, cond, not}
 use lib.Dec.{eqb, leb}
 use borrow.Author.Tests.{eq-eqb, ne-eqb, leb-true}
 use native.Mathlib.Omega.{arith}
-use lib.ListN.{length, getD, length-append}
+use lib.ListN.{length, length-append}
 use lib.Seq.{length-sets}
 use Rattle.rules.proofs.GotLaws.{and-true, holds}
 use Rattle.rules.specs.Limits.{limits}
@@ -14,7 +14,7 @@ use Rattle.rules.specs.Bytes.{Bytes, same, put}
 use Rattle.rules.specs.Slots.{slotBytes, answerBytes}
 use Rattle.text.specs.Text.{ascii}
 use Rattle.rules.proofs.BytesLaws.{put-append}
-use Rattle.device_text.specs.Words.{lines, trim, word, rest, isNumber, bytes, isBytes}
+use Rattle.device_text.specs.Words.{lines, content, word, rest, isNumber, bytes, isBytes}
 use Rattle.device_slots.specs.SlotText.{isSlot, slot, isAnswer, answer}
 use Rattle.device_slots.proofs.LengthLaws.{slot-length, answer-length}
 use Rattle.device_description.specs.Scenario.{passed, says, withSlots, withAnswers, refusedAt, understood, verdictLine, vendorLine, classLine, numberLine, eventLine}
@@ -23,17 +23,6 @@ use Rattle.device_description.specs.declared.Scenario.{Scenario}
 use Rattle.device_description.specs.declared.Flag.{Flag}
 use Rattle.device_description.specs.declared.Name.{Name}
 use Rattle.device_description.specs.Values.{flagIf, nameOf}
-
-pub passed-none : (l : Bytes) → length l ≡ 0 → passed l ≡ true
-passed-none [] e = refl
-passed-none (x ∷ l) e = absurd (none e)
-  where
-    none : suc (length l) ≡ 0 → ⊥
-    none q = omega arith
-
-pub passed-some : (l : Bytes) → (length l ≡ 0 → ⊥) → passed l ≡ eqb (getD l 0 0) 35
-passed-some [] h = absurd (h refl)
-passed-some (x ∷ l) h = refl
 
 -- what fits a room does so in numbers
 pub room-for : (good : Bool) (at width m : ℕ) (r : Bool) → r ≡ (good && leb (at + width) m) → not r ≡ false → at + width ≤ m
@@ -181,32 +170,32 @@ behind : (room : Bytes) (at next : ℕ) (x y : Bytes) (room′ : Bytes) → next
 behind room at next x y room′ e h = rw (e, h) (sym (put-append room at x y))
 
 module _ (m k n : ℕ) (d : Scenario) (l : Bytes) (ls : List Bytes) where
-  go-on : (r : Scenario) → r ≡ line m k n d (trim l) .scenario → r .refused ≡ 0 → linesFrom m k n d (l ∷ ls) ≡ (line m k n d (trim l) then linesFrom m k (suc n) r ls)
+  go-on : (r : Scenario) → r ≡ line m k n d (content l) .scenario → r .refused ≡ 0 → linesFrom m k n d (l ∷ ls) ≡ (line m k n d (content l) then linesFrom m k (suc n) r ls)
   unfolding linesFrom
   go-on r e h = rw (← e, eq-eqb (r .refused) 0 h)
 
-  stay : (r : Scenario) → r ≡ line m k n d (trim l) .scenario → (r .refused ≡ 0 → ⊥) → linesFrom m k n d (l ∷ ls) ≡ line m k n d (trim l)
+  stay : (r : Scenario) → r ≡ line m k n d (content l) .scenario → (r .refused ≡ 0 → ⊥) → linesFrom m k n d (l ∷ ls) ≡ line m k n d (content l)
   unfolding linesFrom
   stay r e h = rw (← e, ne-eqb (r .refused) 0 h)
 
   module _ (w : Said) (s₀ a₀ s a : Bytes) (r : Scenario) (s₁ a₁ : Bytes) (f : Left w s₀ a₀ (linesFrom m k n d (l ∷ ls)) d s a)
-      (t : Took (line m k n d (trim l)) d s a r s₁ a₁) where
+      (t : Took (line m k n d (content l)) d s a r s₁ a₁) where
     pub left-next : r .refused ≡ 0 → Left w s₀ a₀ (linesFrom m k (suc n) r ls) r s₁ a₁
     left-next h =
-        let g : Left w s₀ a₀ (line m k n d (trim l) then linesFrom m k (suc n) r ls) d s a = rw (go-on r (t .scenario) h) at f in
-        let e = counted m k n d (trim l) in
+        let g : Left w s₀ a₀ (line m k n d (content l) then linesFrom m k (suc n) r ls) d s a = rw (go-on r (t .scenario) h) at f in
+        let e = counted m k n d (content l) in
         let rest = linesFrom m k (suc n) r ls in
-        let slotsNext : r .slots ≡ d .slots + length (line m k n d (trim l) .slots) = ap (λ (x : Scenario). x .slots) (t .scenario) ∙ e .slots in
-        let answersNext : r .answers ≡ d .answers + length (line m k n d (trim l) .answers) = ap (λ (x : Scenario). x .answers) (t .scenario) ∙ e .answers in
+        let slotsNext : r .slots ≡ d .slots + length (line m k n d (content l) .slots) = ap (λ (x : Scenario). x .slots) (t .scenario) ∙ e .slots in
+        let answersNext : r .answers ≡ d .answers + length (line m k n d (content l) .answers) = ap (λ (x : Scenario). x .answers) (t .scenario) ∙ e .answers in
         record {
           scenario = g .scenario;
-          slotsAre = g .slotsAre ∙ behind s (d .slots) (r .slots) (line m k n d (trim l) .slots) (rest .slots) s₁ slotsNext (t .slotsAre);
-          answersAre = g .answersAre ∙ behind a (d .answers) (r .answers) (line m k n d (trim l) .answers) (rest .answers) a₁ answersNext (t .answersAre);
+          slotsAre = g .slotsAre ∙ behind s (d .slots) (r .slots) (line m k n d (content l) .slots) (rest .slots) s₁ slotsNext (t .slotsAre);
+          answersAre = g .answersAre ∙ behind a (d .answers) (r .answers) (line m k n d (content l) .answers) (rest .answers) a₁ answersNext (t .answersAre);
         }
 
     pub left-stop : (r .refused ≡ 0 → ⊥) → Describes w s₀ a₀ r s₁ a₁
     left-stop h =
-        let g : Left w s₀ a₀ (line m k n d (trim l)) d s a = rw (stay r (t .scenario) h) at f in
+        let g : Left w s₀ a₀ (line m k n d (content l)) d s a = rw (stay r (t .scenario) h) at f in
         record { scenario = t .scenario ∙ sym (g .scenario); slotsAre = t .slotsAre ∙ sym (g .slotsAre); answersAre = t .answersAre ∙ sym (g .answersAre) }
 
 pub left-end : (m k n : ℕ) (d : Scenario) (w : Said) (s₀ a₀ s a : Bytes) → Left w s₀ a₀ (linesFrom m k n d []) d s a → Describes w s₀ a₀ d s a
@@ -228,8 +217,8 @@ lines-counted : (m k n : ℕ) (d : Scenario) (ls : List Bytes) → Counted m k d
 unfolding linesFrom counts
 lines-counted m k n d [] = counted-same m k d d refl
 lines-counted m k n d (l ∷ ls) =
-    let x = line m k n d (trim l) in
-    one-of m k (eqb (x .scenario .refused) 0) _ _ (λ p. after-line m k d x _ (counted m k n d (trim l)) (lines-counted m k (suc n) (x .scenario) ls)) (λ p. counted m k n d (trim l))
+    let x = line m k n d (content l) in
+    one-of m k (eqb (x .scenario .refused) 0) _ _ (λ p. after-line m k d x _ (counted m k n d (content l)) (lines-counted m k (suc n) (x .scenario) ls)) (λ p. counted m k n d (content l))
 
 pub described-lengths : (m k : ℕ) (s : Bytes) → (described m k s .scenario .slots ≡ length (described m k s .slots)) × (described m k s .scenario .answers ≡ length (described m k s .answers))
 unfolding described start

@@ -4,12 +4,13 @@ use mathlib.Core.Path.{_≡_}
 use mathlib.Core.Bool.{Bool, true, false, _&&_, cond}
 use mathlib.Core.List.{List, [], _∷_, _++_}
 use lib.Dec.{eqb, leb}
+use lib.ListN.{length}
 use Rattle.rules.specs.Lent.{Lent, was, left}
 use Rattle.rules.specs.Bytes.{Bytes, same, put}
 use Rattle.rules.specs.Limits.{limits}
 use Rattle.rules.specs.Slots.{slotBytes, answerBytes}
 use Rattle.text.specs.Text.{ascii}
-use Rattle.device_text.specs.Words.{lines, trim, word, rest, number, isNumber, bytes, isBytes}
+use Rattle.device_text.specs.Words.{lines, content, word, rest, number, isNumber, bytes, isBytes}
 use Rattle.device_slots.specs.SlotText.{zeros, isSlot, slot, isAnswer, answer}
 use Rattle.device_description.specs.declared.Scenario.{Scenario}
 
@@ -185,10 +186,9 @@ answerLine m n d t =
     (record { scenario = withAnswers (d .answers + answerBytes) d; slots = []; answers = answer t })
     (says (refusedAt n d))
 
--- an empty line, or a comment: a line that starts with '#'
+-- a line that says nothing
 abbrev pub passed : Bytes → Bool
-passed [] = true
-passed (x ∷ s) = eqb x 35
+passed l = eqb (length l) 0
 
 -- line n, in rooms of m bytes for slots and k for answers
 unfoldable pub line : ℕ → ℕ → ℕ → Scenario → Bytes → Said
@@ -207,7 +207,7 @@ _then_ x y = record { scenario = y .scenario; slots = x .slots ++ y .slots; answ
 unfoldable pub linesFrom : ℕ → ℕ → ℕ → Scenario → List Bytes → Said
 linesFrom m k n d [] = says d
 linesFrom m k n d (l ∷ ls) =
-    let x = line m k n d (trim l) in
+    let x = line m k n d (content l) in
     cond (eqb (x .scenario .refused) 0) (x then linesFrom m k (suc n) (x .scenario) ls) x
 
 -- a whole text

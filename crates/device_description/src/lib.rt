@@ -26,9 +26,6 @@ use rules::controller::Sixteen;
 use rules::slot_format::IMAGE_BYTES;
 use rules::slot_format::SLOT_BYTES;
 
-// '#'.
-const COMMENT: u8 = 35;
-
 // What a description says. The slots and the answers stand in the lent rooms; here is how many bytes they have.
 pub struct Scenario {
     pub verdict: bool,
@@ -230,14 +227,11 @@ fn answer_line(mut d: Scenario, n: usize, t: &[u8], answers: &mut [u8]) -> Scena
     d
 }
 
-// An empty line, or a comment.
+// A line that says nothing.
 fn passed(l: &[u8]) -> bool
     ensures { λ r. ⌜ r ≡ Rule.passed (was l) ⌝ }
 {
-    if l.len() == 0 {
-        return true;
-    }
-    l[0] == COMMENT
+    l.len() == 0
 }
 
 // One line.

@@ -10,9 +10,33 @@ use native.Mathlib.Numerals.{add-one}
 use lib.ListN.{length, take, drop, getD, length-drop, drop-of-length-le}
 use lib.Seq.{drop-cons, drop-drop, drop-length, take-suc}
 use Rattle.rules.specs.Bytes.{Bytes}
-use Rattle.rules.proofs.BytesLaws.{part-rest}
 use Rattle.text.specs.Text.{position}
-use Rattle.device_text.specs.Words.{before, after, rest, lines, lineFeed, blank, kept, trim, oneMore, numberFrom, digit, allDigits, pair, unhex}
+use Rattle.device_text.specs.Words.{before, after, lines, lineFeed, blank, firstBlank, skip, kept, trim, oneMore, numberFrom, digit, allDigits, pair, unhex}
+
+module _ (s : Bytes) (i : ℕ) where
+  pub blank-here : i < length s → blank (getD s i 0) ≡ true → firstBlank s ≡ i + firstBlank (drop i s) → i ≡ firstBlank s
+  unfolding firstBlank
+  blank-here h e q = sym (q ∙ (rw (drop-cons s i 0 h, e) (omega arith)))
+
+  pub blank-next : i < length s → blank (getD s i 0) ≡ false → firstBlank s ≡ i + firstBlank (drop i s) → firstBlank s ≡ i + 1 + firstBlank (drop (i + 1) s)
+  unfolding firstBlank
+  blank-next h e q = q ∙ (rw (drop-cons s i 0 h, e, add-one i) (omega arith))
+
+  pub blank-none : length s ≤ i → firstBlank s ≡ i + firstBlank (drop i s) → i ≡ firstBlank s
+  unfolding firstBlank
+  blank-none h q = sym (q ∙ (rw (drop-of-length-le s h) (omega arith)))
+
+  pub skip-here : i < length s → blank (getD s i 0) ≡ false → skip (drop i s) ≡ drop i s
+  unfolding skip
+  skip-here h e = rw (drop-cons s i 0 h, e)
+
+  pub skip-next : i < length s → blank (getD s i 0) ≡ true → skip (drop i s) ≡ skip (drop (i + 1) s)
+  unfolding skip
+  skip-next h e = rw (drop-cons s i 0 h, e, add-one i)
+
+  pub skip-end : length s ≤ i → skip (drop i s) ≡ drop i s
+  unfolding skip
+  skip-end h = rw (drop-of-length-le s h)
 
 trim-last : (s : Bytes) (x : ℕ) → trim (s ++ (x ∷ [])) ≡ cond (blank x) (trim s) (s ++ (x ∷ []))
 unfolding trim
@@ -62,24 +86,11 @@ module _ (s : Bytes) (i : ℕ) where
   unfolding allDigits
   digits-end h = rw (drop-of-length-le s h)
 
-module _ (s : Bytes) (n : ℕ) (e : n ≡ position 32 s) where
-  pub rest-more : take (length s - (n + 1)) (drop (n + 1) s) ≡ rest s
-  unfolding rest
-  rest-more = part-rest s (n + 1) ∙ rw (add-one n, e)
-
-  pub rest-none : length s ≤ n → take (length s - n) (drop n s) ≡ rest s
-  unfolding rest
-  rest-none h = part-rest s n ∙ drop-of-length-le s h ∙ sym (drop-of-length-le s {i = suc (position 32 s)} (omega arith))
-
 pub unhex-next : (n : ℕ) (s : Bytes) → unhex n s ++ (pair (getD s (n * 2) 0) (getD s (n * 2 + 1) 0) ∷ []) ≡ unhex (n + 1) s
 unfolding unhex
 unhex-next n s = rw (add-one n)
 
--- a line, and the place behind it
-pub line-of : (s t : Bytes) (at n m : ℕ) → t ≡ drop at s → n ≡ position lineFeed t → take m (take n t) ≡ trim (take n t) →
-    take m (take n t) ≡ trim (before lineFeed (drop at s))
-line-of s t at n m e u h = h ∙ rw (u, e)
-
+-- the place behind a line
 module _ (s t : Bytes) (at n : ℕ) (e : t ≡ drop at s) (u : n ≡ position lineFeed t) where
   pub behind-length : length t ≡ length s - at
   behind-length = rw (e, length-drop at s)

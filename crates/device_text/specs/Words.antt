@@ -28,9 +28,19 @@ unfoldable pub lines : Bytes → List Bytes
 lines [] = []
 lines (x ∷ s) = cond (eqb x lineFeed) ([] ∷ lines s) (ahead x (lines s))
 
--- spaces and carriage returns at the end of a line are no part of it
+-- spaces, tabs and carriage returns
 abbrev pub blank : ℕ → Bool
-blank x = cond (eqb x 32) true (eqb x 13)
+blank x = cond (eqb x 32) true (cond (eqb x 9) true (eqb x 13))
+
+-- the place of the first one, or the length where there is none
+unfoldable pub firstBlank : Bytes → ℕ
+firstBlank [] = 0
+firstBlank (x ∷ s) = cond (blank x) 0 (suc (firstBlank s))
+
+-- without those at the start, and without those at the end
+unfoldable pub skip : Bytes → Bytes
+skip [] = []
+skip (x ∷ s) = cond (blank x) (skip s) (x ∷ s)
 
 abbrev pub kept : ℕ → Bytes → Bytes
 kept x [] = cond (blank x) [] (x ∷ [])
@@ -40,12 +50,20 @@ unfoldable pub trim : Bytes → Bytes
 trim [] = []
 trim (x ∷ s) = kept x (trim s)
 
--- words are parted by single spaces: the first one, and what stands behind it
+-- a comment starts with '#'
+abbrev pub comment : ℕ
+comment = 35
+
+-- what a line says: it has no comment, and no blanks at its start and its end
+unfoldable pub content : Bytes → Bytes
+content l = skip (trim (before comment l))
+
+-- words are parted by blanks: the first one, and what stands behind it
 unfoldable pub word : Bytes → Bytes
-word s = before 32 s
+word s = take (firstBlank s) s
 
 unfoldable pub rest : Bytes → Bytes
-rest s = after 32 s
+rest s = skip (drop (firstBlank s) s)
 
 -- no number: it is above the largest
 abbrev pub noNumber : ℕ

@@ -4,10 +4,13 @@ ghost use Prim.Native.Nat.{_<_, _≤_};
 ghost use lib.ListN.{length, drop};
 ghost use Rattle.rules.specs.Lent.{was};
 ghost use Rattle.device_text.specs.Words as Words;
-use crate::trimmed;
+use crate::bare;
 use text::position;
 
 const LINE_FEED: usize = 10;
+
+// '#'.
+const COMMENT: usize = 35;
 
 fn behind(text: &[u8], at: usize) -> &[u8]
     ensures { λ r. ⌜ now r ≡ drop at (was text) ⌝ }
@@ -19,15 +22,21 @@ fn behind(text: &[u8], at: usize) -> &[u8]
     &text[end..]
 }
 
-// The line at a place, without the blanks at its end.
+// What a line says: it has no comment, and no blanks at its start and its end.
+fn content(l: &[u8]) -> &[u8]
+    ensures { λ r. ⌜ now r ≡ Words.content (was l) ⌝ }
+{
+    let n = position(l, COMMENT);
+    bare(&l[..n])
+}
+
+// What the line at a place says.
 pub fn line_at(text: &[u8], at: usize) -> &[u8]
-    ensures { λ r. ⌜ now r ≡ Words.trim (Words.before Words.lineFeed (drop at (was text))) ⌝ }
+    ensures { λ r. ⌜ now r ≡ Words.content (Words.before Words.lineFeed (drop at (was text))) ⌝ }
 {
     let t = behind(text, at);
     let n = position(t, LINE_FEED);
-    let line = &t[..n];
-    let m = trimmed(line);
-    &line[..m]
+    content(&t[..n])
 }
 
 // The place after it.

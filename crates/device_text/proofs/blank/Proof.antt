@@ -6,7 +6,14 @@ returns : tie.Need-returns
 returns c = rw (eq-eqb (c .before .args .x) 32 (c .if1 .taken))
 
 returns-2 : tie.Need-returns-2
-returns-2 c = rw (ne-eqb (c .before .args .x) 32 (c .if1 .left))
+returns-2 c =
+    let x = c .before .before .args .x in
+    rw (ne-eqb x 32 (c .before .if1 .left), eq-eqb x 9 (c .if2 .taken))
+
+returns-3 : tie.Need-returns-3
+returns-3 c =
+    let x = c .before .before .args .x in
+    rw (ne-eqb x 32 (c .before .if1 .left), ne-eqb x 9 (c .if2 .left))
 
 pub blank-spec : {M : Type 1} → statement M
-blank-spec = tie.close (tie.spec returns returns-2)
+blank-spec = tie.close (tie.spec returns returns-2 returns-3)
