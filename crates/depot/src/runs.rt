@@ -22,16 +22,11 @@ use depot_usage::run_status;
 use depot_words::later_words;
 use depot_words::word_at;
 use depot_words::word_count;
+use device_description::ANSWERS_ROOM;
+use device_description::SLOTS_ROOM;
 use device_description::Scenario;
 use device_description::describe;
 use rules::controller::Controller;
-use rules::slot_format::IMAGE_BYTES;
-use rules::slot_format::SLOT_BYTES;
-
-// There is room for twice as many slots as a run takes, so that the run tells of too many, and for 64 answers.
-const SLOTS_ROOM: usize = 2 * Controller::SLOTS * SLOT_BYTES;
-
-const ANSWERS_ROOM: usize = 64 * IMAGE_BYTES;
 
 fn trace_room() -> [u8; Controller::TRACE_BYTES]
     ensures { λ r. ⌜ limits .trace ≡ length r ⌝ }

@@ -1,5 +1,5 @@
 -- Device descriptions: the input of a run (01, How a run goes) as a text. docs/DEPOT.md has the format.
-use Prim.Native.Nat.{ℕ, suc, _+_}
+use Prim.Native.Nat.{ℕ, suc, _+_, _*_}
 use mathlib.Core.Path.{_≡_}
 use mathlib.Core.Bool.{Bool, true, false, _&&_, cond}
 use mathlib.Core.List.{List, [], _∷_, _++_}
@@ -13,6 +13,13 @@ use Rattle.text.specs.Text.{ascii}
 use Rattle.device_text.specs.Words.{lines, content, word, rest, number, isNumber, bytes, isBytes}
 use Rattle.device_slots.specs.SlotText.{zeros, isSlot, slot, isAnswer, answer}
 use Rattle.device_description.specs.declared.Scenario.{Scenario}
+
+-- the rooms that the depot lends have space for so many slots and answers
+abbrev pub mostSlots : ℕ
+mostSlots = 2 * limits .slots
+
+abbrev pub mostAnswers : ℕ
+mostAnswers = 64
 
 -- what a text says before its first line
 unfoldable pub start : Scenario

@@ -26,6 +26,15 @@ use rules::controller::Sixteen;
 use rules::slot_format::IMAGE_BYTES;
 use rules::slot_format::SLOT_BYTES;
 
+// The rooms that the depot lends: for twice as many slots as a run takes, so that the run tells of too many, and for 64 answers.
+pub const MOST_SLOTS: usize = 2 * Controller::SLOTS;
+
+pub const MOST_ANSWERS: usize = 64;
+
+pub const SLOTS_ROOM: usize = MOST_SLOTS * SLOT_BYTES;
+
+pub const ANSWERS_ROOM: usize = MOST_ANSWERS * IMAGE_BYTES;
+
 // What a description says. The slots and the answers stand in the lent rooms; here is how many bytes they have.
 pub struct Scenario {
     pub verdict: bool,

@@ -3,7 +3,7 @@ use Prim.Native.Nat.{ℕ, zero, suc, _-_, _/_, _%_, _≤_}
 use mathlib.Core.Path.{_≡_, refl, _∙_}
 use mathlib.Core.List.{[], _∷_, _++_, append-nil}
 use mathlib.Core.Bool.{Bool, true, false, cond, false≢true}
-use lib.Dec.{eqb, ltb}
+use lib.Dec.{eqb, ltb, leb}
 use borrow.Author.Tests.{eqb-true, ltb-false}
 use native.Mathlib.Omega.{arith}
 use native.Mathlib.Numerals.{add-one}
@@ -14,7 +14,7 @@ use Rattle.rules.specs.Slots.{answerBytes, slotBytes, capacityFrom}
 use Rattle.rules.specs.Bytes.{Bytes, be4, same, put}
 use Rattle.text.specs.Text.{ascii}
 use Rattle.device_text.specs.Words.{word, rest, number, isNumber, unhex, bytes, isBytes, upToBytes}
-use Rattle.device_slots.specs.SlotText.{contentBytes, zeros, isImage, image, isState, isSlot, identifier, slot, isAnswer, answer, status}
+use Rattle.device_slots.specs.SlotText.{contentBytes, zeros, isImage, image, isState, isSlot, identifier, slot, isAnswer, answer, status, largestStatus}
 
 -- two tests that both pass
 both : (x y : Bool) → cond x y false ≡ true → (x ≡ true) × (y ≡ true)
@@ -93,4 +93,4 @@ slot-length t h =
 
 pub answer-length : (t : Bytes) → isAnswer t ≡ true → length (answer t) ≡ answerBytes
 unfolding isAnswer answer
-answer-length t h = rw (given (rest t) (both (ltb (status (word t)) 256) _ h .1))
+answer-length t h = rw (given (rest t) (both (leb (status (word t)) largestStatus) _ h .1))

@@ -2,7 +2,7 @@
 use Prim.Native.Nat.{ℕ, _-_, _/_, _%_}
 use mathlib.Core.Bool.{Bool, true, false, cond}
 use mathlib.Core.List.{[], _∷_, _++_}
-use lib.Dec.{eqb, ltb}
+use lib.Dec.{eqb, leb}
 use lib.ListN.{length, replicate}
 use Rattle.rules.specs.Bytes.{Bytes, be4, same}
 use Rattle.rules.specs.Limits.{limits}
@@ -51,12 +51,15 @@ unfoldable pub slot : Bytes → Bytes
 slot t =
     identifier (word t) ++ be4 (number (word (rest t))) ++ (presence (word (rest (rest t))) ∷ []) ++ image (rest (rest (rest t)))
 
--- an answer: STATUS IMAGE, and its bytes; the status is good, bad or a number below 256
+-- an answer: STATUS IMAGE, and its bytes; the status is good, bad or a number of one byte
+abbrev pub largestStatus : ℕ
+largestStatus = 255
+
 unfoldable pub status : Bytes → ℕ
 status w = cond (same w (ascii "good")) 0 (cond (same w (ascii "bad")) 1 (number w))
 
 unfoldable pub isAnswer : Bytes → Bool
-isAnswer t = cond (ltb (status (word t)) 256) (isImage (rest t)) false
+isAnswer t = cond (leb (status (word t)) largestStatus) (isImage (rest t)) false
 
 unfoldable pub answer : Bytes → Bytes
 answer t = (status (word t) % 256 ∷ []) ++ image (rest t)

@@ -11,6 +11,8 @@ use device_text::rest;
 use device_text::word;
 use rules::controller::Controller;
 
+pub const LARGEST_STATUS: usize = 255;
+
 // A size and a digest.
 fn is_image(t: &[u8]) -> bool
     ensures { λ r. ⌜ r ≡ Rule.isImage (was t) ⌝ }
@@ -52,7 +54,7 @@ pub fn is_slot(t: &[u8]) -> bool
 }
 
 // The status of an answer: good, bad or a number.
-pub(crate) fn status(w: &[u8]) -> usize
+pub fn status(w: &[u8]) -> usize
     ensures { λ r. ⌜ r ≡ Rule.status (was w) ⌝ }
 {
     if is(w, b"good") {
@@ -67,7 +69,7 @@ pub(crate) fn status(w: &[u8]) -> usize
 pub fn is_answer(t: &[u8]) -> bool
     ensures { λ r. ⌜ r ≡ Rule.isAnswer (was t) ⌝ }
 {
-    if 255 < status(word(t)) {
+    if LARGEST_STATUS < status(word(t)) {
         return false;
     }
     is_image(rest(t))

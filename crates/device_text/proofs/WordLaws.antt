@@ -11,7 +11,7 @@ use lib.ListN.{length, take, drop, getD, length-drop, drop-of-length-le}
 use lib.Seq.{drop-cons, drop-drop, drop-length, take-suc}
 use Rattle.rules.specs.Bytes.{Bytes}
 use Rattle.text.specs.Text.{position}
-use Rattle.device_text.specs.Words.{before, after, lines, lineFeed, blank, firstBlank, skip, kept, trim, oneMore, numberFrom, digit, allDigits, pair, unhex}
+use Rattle.device_text.specs.Words.{before, after, lines, lineFeed, behindLines, blank, firstBlank, skip, kept, trim, oneMore, numberFrom, digit, allDigits, pair, unhex}
 
 module _ (s : Bytes) (i : ℕ) where
   pub blank-here : i < length s → blank (getD s i 0) ≡ true → firstBlank s ≡ i + firstBlank (drop i s) → i ≡ firstBlank s
@@ -107,6 +107,26 @@ module _ (s t : Bytes) (at n : ℕ) (e : t ≡ drop at s) (u : n ≡ position li
     where
       h2 : length t ≤ suc n
       h2 = omega arith
+
+-- one line more is passed
+pub behind-none : (s : Bytes) → s ≡ behindLines 0 s
+unfolding behindLines
+behind-none s = refl
+
+pub behind-next : (s : Bytes) (at next i : ℕ) → 1 ≤ i → drop at s ≡ behindLines (i - 1) s → drop next s ≡ after lineFeed (drop at s) → drop next s ≡ behindLines (i + 1 - 1) s
+unfolding behindLines
+behind-next s at next zero h e n = absurd (none h)
+  where
+    none : 1 ≤ 0 → ⊥
+    none x = omega arith
+behind-next s at next (suc i) h e n =
+    let k : suc i + 1 - 1 ≡ suc i = omega arith in
+    let j : suc i - 1 ≡ i = omega arith in
+    let e′ : drop at s ≡ behindLines i s = rw j at e in
+    n ∙ rw (k, e′)
+
+pub behind-all : (s : Bytes) (at i n : ℕ) → i - 1 ≡ n - 1 → drop at s ≡ behindLines (i - 1) s → drop at s ≡ behindLines (n - 1) s
+behind-all s at i n h e = rw h at e
 
 -- the first line, and those behind it
 abbrev Cut : Bytes → Type 0

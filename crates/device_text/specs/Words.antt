@@ -28,6 +28,11 @@ unfoldable pub lines : Bytes → List Bytes
 lines [] = []
 lines (x ∷ s) = cond (eqb x lineFeed) ([] ∷ lines s) (ahead x (lines s))
 
+-- what stands behind the first n lines
+unfoldable pub behindLines : ℕ → Bytes → Bytes
+behindLines zero s = s
+behindLines (suc n) s = after lineFeed (behindLines n s)
+
 -- spaces, tabs and carriage returns
 abbrev pub blank : ℕ → Bool
 blank x = cond (eqb x 32) true (cond (eqb x 9) true (eqb x 13))
@@ -57,6 +62,10 @@ comment = 35
 -- what a line says: it has no comment, and no blanks at its start and its end
 unfoldable pub content : Bytes → Bytes
 content l = skip (trim (before comment l))
+
+-- what the line of number n says, counted from 1
+unfoldable pub lineOf : ℕ → Bytes → Bytes
+lineOf n s = content (before lineFeed (behindLines (n - 1) s))
 
 -- words are parted by blanks: the first one, and what stands behind it
 unfoldable pub word : Bytes → Bytes

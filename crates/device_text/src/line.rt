@@ -1,6 +1,6 @@
 // Lines of a text.
 ghost use mathlib.Core.Path.{_≡_};
-ghost use Prim.Native.Nat.{_<_, _≤_};
+ghost use Prim.Native.Nat.{_-_, _<_, _≤_};
 ghost use lib.ListN.{length, drop};
 ghost use Rattle.rules.specs.Lent.{was};
 ghost use Rattle.device_text.specs.Words as Words;
@@ -49,4 +49,24 @@ pub fn next_line(text: &[u8], at: usize) -> usize
         return at + n + 1;
     }
     text.len()
+}
+
+// Where the line of number n starts, counted from 1.
+fn line_start(text: &[u8], n: usize) -> usize
+    ensures { λ r. ⌜ drop r (was text) ≡ Words.behindLines (n - 1) (was text) ⌝ }
+{
+    let mut at = 0;
+    let mut i = 1;
+    while i < n {
+        at = next_line(text, at);
+        i += 1;
+    }
+    at
+}
+
+// What it says.
+pub fn line_of(text: &[u8], n: usize) -> &[u8]
+    ensures { λ r. ⌜ now r ≡ Words.lineOf n (was text) ⌝ }
+{
+    line_at(text, line_start(text, n))
 }

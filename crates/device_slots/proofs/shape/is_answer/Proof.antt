@@ -1,6 +1,6 @@
 use mathlib.Core.Path.{ap, _∙_}
 use borrow.Author.Needs.{needs}
-use borrow.Author.Tests.{lt-ltb, le-ltb}
+use borrow.Author.Tests.{lt-leb, le-leb}
 use Rattle.device_slots.specs.SlotText as Rule
 use Rattle.device_slots.proofs.shape.is_answer.Statement.{statement}
 use Rattle.device_slots.proofs.shape.is_answer.Tie as tie
@@ -9,14 +9,14 @@ returns : tie.Need-returns
 unfolding Rule.isAnswer
 returns c =
     let e = c .before .status .ensures ∙ ap Rule.status (c .before .before .word .ensures) in
-    rw (← e, le-ltb (c .before .status .result) 256 (c .if1 .taken))
+    rw (← e, lt-leb (c .before .status .result) Rule.largestStatus (c .if1 .taken))
 
 returns-2 : tie.Need-returns-2
 unfolding Rule.isAnswer
 returns-2 c =
     let d = c .before .before .before in
     let e = d .status .ensures ∙ ap Rule.status (d .before .word .ensures) in
-    rw (← e, lt-ltb (d .status .result) 256 (search needs), ← c .before .rest .ensures) (c .is-image .ensures)
+    rw (← e, le-leb (d .status .result) Rule.largestStatus (c .before .before .if1 .left), ← c .before .rest .ensures) (c .is-image .ensures)
 
 pub is-answer-spec : {M : Type 1} → statement M
 is-answer-spec =
