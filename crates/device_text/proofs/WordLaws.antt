@@ -1,7 +1,7 @@
 -- Words, lines, numbers and digits, one byte after the other.
 use Prim.Native.Nat.{ℕ, zero, suc, _+_, _-_, _*_, _≤_, _<_}
-use mathlib.Core.Path.{_≡_, refl, sym, _∙_}
-use mathlib.Core.List.{[], _∷_, _++_}
+use mathlib.Core.Path.{_≡_, refl, sym, ap, _∙_}
+use mathlib.Core.List.{List, [], _∷_, _++_, nil≢cons, head-eq-of-cons-eq, tail-eq-of-cons-eq}
 use mathlib.Core.Bool.{Bool, true, false, cond}
 use lib.Dec.{eqb}
 use borrow.Author.Tests.{lt-ltb, le-ltb}
@@ -11,7 +11,7 @@ use lib.ListN.{length, take, drop, getD, length-drop, drop-of-length-le}
 use lib.Seq.{drop-cons, drop-drop, drop-length, take-suc}
 use Rattle.rules.specs.Bytes.{Bytes}
 use Rattle.text.specs.Text.{position}
-use Rattle.device_text.specs.Words.{before, after, lines, lineFeed, behindLines, blank, firstBlank, skip, kept, trim, oneMore, numberFrom, digit, allDigits, pair, unhex}
+use Rattle.device_text.specs.Words.{before, after, lines, lineFeed, behindLines, blank, firstBlank, skip, kept, trim, content, lineOf, oneMore, numberFrom, digit, allDigits, pair, unhex}
 
 module _ (s : Bytes) (i : ℕ) where
   pub blank-here : i < length s → blank (getD s i 0) ≡ true → firstBlank s ≡ i + firstBlank (drop i s) → i ≡ firstBlank s
@@ -152,3 +152,29 @@ lines-next s at h = rw (drop-cons s at 0 h) (cut (getD s at 0) (drop (suc at) s)
 pub lines-end : (s : Bytes) (at : ℕ) → length s ≤ at → lines (drop at s) ≡ []
 unfolding lines
 lines-end s at h = rw (drop-of-length-le s h)
+
+-- the line of number n, counted from 1, is that of the lines which has so many before it
+behind-first : (n : ℕ) (s : Bytes) → behindLines (suc n) s ≡ behindLines n (after lineFeed s)
+unfolding behindLines
+behind-first zero s = refl
+behind-first (suc n) s = ap (after lineFeed) (behind-first n s)
+
+line-behind : (n : ℕ) (s : Bytes) → lineOf (suc (suc n)) s ≡ lineOf (suc n) (after lineFeed s)
+unfolding lineOf
+line-behind n s =
+    let a : suc (suc n) - 1 ≡ suc n = omega arith in
+    let b : suc n - 1 ≡ n = omega arith in
+    rw (a, b, behind-first n s)
+
+line-first : (s : Bytes) → lineOf 1 s ≡ content (before lineFeed s)
+unfolding lineOf behindLines
+line-first s = refl
+
+parted : (s l : Bytes) (ls : List Bytes) → lines s ≡ l ∷ ls → (before lineFeed s ≡ l) × (lines (after lineFeed s) ≡ ls)
+unfolding lines
+parted [] l ls h = absurd (nil≢cons h)
+parted (x ∷ s) l ls h = (head-eq-of-cons-eq (sym (cut x s) ∙ h), tail-eq-of-cons-eq (sym (cut x s) ∙ h))
+
+pub line-of-lines : (xs : List Bytes) (l : Bytes) (ys : List Bytes) (s : Bytes) → lines s ≡ xs ++ (l ∷ ys) → lineOf (suc (length xs)) s ≡ content l
+line-of-lines [] l ys s h = line-first s ∙ ap content (parted s l ys h .0)
+line-of-lines (x ∷ xs) l ys s h = line-behind (length xs) s ∙ line-of-lines xs l ys (after lineFeed s) (parted s x (xs ++ (l ∷ ys)) h .1)
