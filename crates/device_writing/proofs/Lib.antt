@@ -1,1 +1,4 @@
+pub mod LineLaws
+pub mod DigitLaws
+pub mod SettingLaws
 pub mod Examples
