@@ -1,16 +1,16 @@
 -- Lines of words, as they are written and as they are read.
 use Prim.Native.Nat.{ℕ, zero, suc, _+_, _/_, _%_, _<_}
-use mathlib.Core.Path.{_≡_, refl, sym, ap, _∙_}
+use mathlib.Core.Path.{_≡_, refl, ap}
 use mathlib.Core.List.{List, [], _∷_, _++_}
 use mathlib.Core.Bool.{Bool, true, false, cond, false≢true}
 use lib.Dec.{eqb, ltb}
 use borrow.Author.Tests.{ltb-true, eqb-true, lt-ltb, ne-eqb}
 use native.Mathlib.Omega.{arith}
 use lib.ListN.{length, length-append}
-use lib.Seq.{take-length, drop-length, take-append-seam, drop-append-seam}
+use lib.Seq.{take-length, take-append-seam, drop-append-seam}
 use Rattle.rules.specs.Bytes.{Bytes}
 use Rattle.text.specs.Text.{position, digit, digits, hex}
-use Rattle.device_text.specs.Words.{lineFeed, comment, lines, blank, firstBlank, skip, kept, trim, content, word, rest}
+use Rattle.device_text.specs.Words.{comment, lines, blank, firstBlank, skip, kept, trim, content, word, rest}
 
 -- bytes above '#': no blank, no end of a line, no comment
 unfoldable pub plain : Bytes → Bool
@@ -73,10 +73,6 @@ unfolding isWord joined skip
 skip-joined [] ws h = absurd (false≢true h)
 skip-joined (x ∷ w) [] h = rw (no-blank x (above x w h .0))
 skip-joined (x ∷ w) (v ∷ vs) h = rw (no-blank x (above x w h .0))
-
-pub rest-end : (w : Bytes) → plain w ≡ true → rest (joined w []) ≡ []
-unfolding rest joined skip
-rest-end w h = rw (first-end w h, drop-length w)
 
 pub rest-joined : (w v : Bytes) (vs : List Bytes) → plain w ≡ true → isWord v ≡ true → rest (joined w (v ∷ vs)) ≡ joined v vs
 unfolding rest joined skip

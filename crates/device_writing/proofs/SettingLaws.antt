@@ -1,6 +1,6 @@
 -- The lines that set a value read back as the values.
 use Prim.Native.Nat.{ℕ, suc, _<_}
-use mathlib.Core.Path.{_≡_, refl, sym, ap, _∙_}
+use mathlib.Core.Path.{_≡_, refl, ap, _∙_}
 use mathlib.Core.List.{List, [], _∷_, _++_, append-assoc}
 use mathlib.Core.Bool.{Bool, true, false, cond}
 use borrow.Author.Tests.{eq-eqb, ne-eqb, lt-ltb}
@@ -10,13 +10,13 @@ use Rattle.rules.specs.Bytes.{Bytes, same}
 use Rattle.rules.specs.Limits.{limits}
 use Rattle.text.specs.Text.{ascii, decimal, hex}
 use Rattle.text_pieces.specs.Pieces.{labelled}
-use Rattle.device_text.specs.Words.{noNumber, lines, word, rest, number, isBytes, bytes}
+use Rattle.device_text.specs.Words.{noNumber, lines, number, isBytes}
 use Rattle.device_description.specs.declared.Scenario.{Scenario}
-use Rattle.device_description.specs.Scenario.{Said, says, start, withVerdict, withVendor, withClass, withNumber, withEvent, verdictLine, vendorLine, classLine, eventLine, setting, line, linesFrom, _then_}
+use Rattle.device_description.specs.Scenario.{says, start, withVerdict, withVendor, withClass, withNumber, withEvent, verdictLine, vendorLine, classLine, eventLine, setting, line, linesFrom}
 use Rattle.device_description.specs.Scenario.{numberLine as readNumber}
 use Rattle.device_writing.specs.Device.{nameLine, numberLine, settingLines}
 use Rattle.device_writing.proofs.DigitLaws.{Small, number-again, decimal-word, hex-word, bytes-again, is-bytes-again}
-use Rattle.device_writing.proofs.LineLaws.{plain, isWord, areWords, joined, both, word-plain, word-joined, rest-end, rest-joined, joined-some, content-joined, lines-joined}
+use Rattle.device_writing.proofs.LineLaws.{plain, isWord, areWords, joined, word-plain, word-joined, rest-joined, joined-some, content-joined, lines-joined}
 
 -- a line that is understood, and the lines behind it
 pub step : (m k n : ℕ) (d e : Scenario) (w : Bytes) (ws : List Bytes) (t : Bytes) → areWords (w ∷ ws) ≡ true → line m k n d (joined w ws) ≡ says e → e .refused ≡ 0 →
@@ -101,7 +101,7 @@ module _ (m k n : ℕ) (d : Scenario) (r : d .refused ≡ 0) (t : Bytes) where
       rw (append-assoc (decimal x) (10 ∷ []) t)
       (step m k n d (withNumber x d) (ascii "number") (decimal x ∷ []) t (rw w) (two m k n d (ascii "number") (decimal x) refl w refl refl ∙ ap says (set-number n d x h)) r)
 
-in-turn : (a b c d e t : Bytes) → a ++ b ++ c ++ d ++ e ++ t ≡ a ++ (b ++ (c ++ (d ++ (e ++ t))))
+pub in-turn : (a b c d e t : Bytes) → a ++ b ++ c ++ d ++ e ++ t ≡ a ++ (b ++ (c ++ (d ++ (e ++ t))))
 in-turn a b c d e t = append-assoc (a ++ b ++ c ++ d) e t ∙ append-assoc (a ++ b ++ c) d (e ++ t) ∙ append-assoc (a ++ b) c (d ++ (e ++ t)) ∙ append-assoc a b (c ++ (d ++ (e ++ t)))
 
 pub settings-again : (m k : ℕ) (d : Scenario) (n : ℕ) (t : Bytes) → Small (d .vendor) → length (d .vendor) ≡ limits .class → Small (d .class) → length (d .class) ≡ limits .class → n < noNumber →
