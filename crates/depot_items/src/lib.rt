@@ -11,7 +11,7 @@ pub mod line;
 use cbor_reader::head_at;
 
 // The kind of no item: no kind of cbor's.
-const NO_ITEM: usize = 31;
+pub const NO_ITEM: usize = 31;
 
 // The kind of an item, its number, the place after its head, and the one after it; of an array or a map, those are one.
 pub struct Item {
