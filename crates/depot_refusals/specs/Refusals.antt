@@ -9,9 +9,14 @@ use Rattle.rules.specs.Answers.{refusalNumber}
 use Rattle.text.specs.Text.{Bytes, ascii, hex}
 use Rattle.text_names.specs.Words.{refusalWords}
 use Rattle.text_pieces.specs.Pieces.{between, spaced, labelled}
+use Rattle.depot_path.specs.Path.{pathText}
 
 unfoldable pub refusedLine : ℕ → ℕ → Bytes
 refusedLine n p = labelled (ascii "refused with ") n ++ labelled (ascii " at ") p ++ ascii ": " ++ refusalWords n ++ ascii "\n"
+
+-- the path to the place
+unfoldable pub pathLine : Bytes → ℕ → Bytes
+pathLine s p = ascii "  in " ++ pathText s p ++ ascii "\n"
 
 -- how many bytes are shown before a place, and after it
 abbrev pub shown : ℕ
@@ -30,4 +35,7 @@ aroundText s p =
 
 -- that an envelope is too long is no matter of a place, and from 80 on the place is 0
 unfoldable pub refusedText : ℕ → ℕ → Bytes → Bytes
-refusedText n p s = cond (ltb n (refusalNumber NotCbor)) (refusedLine n p) (cond (ltb n (refusalNumber NotVerified)) (refusedLine n p ++ aroundText s p) (refusedLine n p))
+refusedText n p s =
+    cond (ltb n (refusalNumber NotCbor)) (refusedLine n p)
+    (cond (ltb n (refusalNumber NotVerified)) (refusedLine n p ++ pathLine s p ++ aroundText s p)
+    (refusedLine n p))

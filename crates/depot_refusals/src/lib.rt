@@ -1,11 +1,12 @@
-// A refusal as text in lent room: its number, place and meaning, and the bytes around the place.
+// A refusal as text in lent room: its number, place and meaning, the path to the place, and the bytes around it.
 ghost use mathlib.Core.Path.{_≡_};
 ghost use Prim.Native.Nat.{_<_, _+_, _-_};
 ghost use lib.ListN.{length};
 ghost use Rattle.rules.specs.Lent.{was};
 ghost use Rattle.text.specs.Text.{Writes};
 ghost use Rattle.text_pieces.specs.Pieces.{between, spaced};
-ghost use Rattle.depot_refusals.specs.Refusals.{shown, refusedLine, beforeText, aroundText, refusedText};
+ghost use Rattle.depot_refusals.specs.Refusals.{shown, refusedLine, pathLine, beforeText, aroundText, refusedText};
+use depot_path::put_path;
 use rules::answers::Refusal;
 use text::put;
 use text::put_byte;
@@ -27,6 +28,15 @@ fn put_refused_line(room: &mut [u8], at: usize, number: usize, place: usize) -> 
     let c = put(room, b, b": ");
     let d = put_refusal(room, c, number);
     put_byte(room, d, b'\n')
+}
+
+// The path to a place of the bytes.
+fn put_path_line(room: &mut [u8], at: usize, s: &[u8], p: usize) -> usize
+    ensures { λ r. ⌜ Writes (pathLine (was s) p) at room r ⌝ }
+{
+    let a = put(room, at, b"  in ");
+    let b = put_path(room, a, s, p);
+    put_byte(room, b, b'\n')
 }
 
 fn back(p: usize) -> usize
@@ -84,7 +94,8 @@ pub fn put_refused(room: &mut [u8], at: usize, number: usize, place: usize, s: &
         return to;
     }
     if number < Refusal::NOT_VERIFIED {
-        return put_around(room, to, s, place);
+        let a = put_path_line(room, to, s, place);
+        return put_around(room, a, s, place);
     }
     to
 }

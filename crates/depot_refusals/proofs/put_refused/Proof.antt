@@ -18,10 +18,13 @@ to-line c = c .before .before .before
 returns-2 : tie.Need-returns-2
 unfolding refusedText
 returns-2 c =
-    let p2 = c .before .before in
-    let p1 = to-line (p2 .before .before .before) in
-    rw (le-ltb _ (refusalNumber NotCbor) (p2 .before .before .before .if1 .left), lt-ltb _ (refusalNumber NotVerified) (p2 .before .before .if2 .taken))
-    (wrote-then (p1 .put-refused-line .ensures) (p2 .put-around .ensures))
+    let p3 = c .before .before in
+    let p2 = p3 .before .before .before .before in
+    let at-if2 = p2 .before .before in
+    let at-if1 = at-if2 .before in
+    let p1 = to-line at-if1 in
+    rw (le-ltb _ (refusalNumber NotCbor) (at-if1 .if1 .left), lt-ltb _ (refusalNumber NotVerified) (at-if2 .if2 .taken))
+    (wrote-then (wrote-then (p1 .put-refused-line .ensures) (p2 .put-path-line .ensures)) (p3 .put-around .ensures))
 
 returns-3 : tie.Need-returns-3
 unfolding refusedText
@@ -32,4 +35,4 @@ returns-3 c =
 pub put-refused-spec : {M : Type 1} → statement M
 put-refused-spec =
     tie.close
-    (tie.spec (λ c κs. search needs) (λ c. search needs) returns (λ c κs. search needs) (λ c. search needs) returns-2 (λ c. search needs) returns-3)
+    (tie.spec (λ c κs. search needs) (λ c. search needs) returns (λ c κs. search needs) (λ c κs. search needs) (λ c. search needs) returns-2 (λ c. search needs) returns-3)
