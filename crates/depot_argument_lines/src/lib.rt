@@ -26,7 +26,7 @@ const KEYS: usize = Controller::PARAMETERS - 1;
 const INDENT: usize = 12;
 
 // How long the parameter at the start of the bytes is, 0 if none lies there.
-fn size_of(s: &[u8]) -> usize
+pub fn size_of(s: &[u8]) -> usize
     ensures { λ r. ⌜ (r ≡ parameterSize (was s)) × (r ≤ length (was s)) ⌝ }
 {
     if s.len() < ENTRY_BYTES {

@@ -14,7 +14,7 @@ use text::put_hex;
 use text_pieces::put_labelled;
 
 // How long the component at the start of the bytes is, 0 if none lies there.
-fn size_of(s: &[u8]) -> usize
+pub fn size_of(s: &[u8]) -> usize
     ensures { λ r. ⌜ (r ≡ componentSize (was s)) × (r ≤ length (was s)) ⌝ }
 {
     if s.len() < NAME_BYTES {
@@ -57,7 +57,7 @@ pub(crate) fn put_components(room: &mut [u8], at: usize, s: &[u8], count: usize)
 }
 
 // What follows the components, nothing if one is missing.
-pub(crate) fn after_components(s: &[u8], count: usize) -> &[u8]
+pub fn after_components(s: &[u8], count: usize) -> &[u8]
     ensures { λ r. ⌜ now r ≡ afterComponents count (was s) ⌝ }
 {
     let mut rest = s;

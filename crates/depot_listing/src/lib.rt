@@ -6,7 +6,7 @@ ghost use Rattle.rules.specs.ProgramFormat.{startSize};
 ghost use Rattle.text.specs.Text.{Writes};
 ghost use Rattle.depot_listing.specs.Listing.{groupText, countsText, startText, programText};
 
-mod components;
+pub mod components;
 
 use byte_buffer::four;
 use byte_buffer::two;

@@ -103,7 +103,7 @@ fn put_jump(room: &mut [u8], at: usize, total: usize, target: usize) -> usize
 }
 
 // How long the record at the start of the bytes is, 0 if none lies there.
-fn size_of(s: &[u8]) -> usize
+pub fn size_of(s: &[u8]) -> usize
     ensures { λ r. ⌜ (r ≡ recordSize (was s)) × (r ≤ length (was s)) ⌝ }
 {
     if s.len() < RECORD_BYTES {

@@ -27,7 +27,7 @@ pub(crate) fn named(s: &[u8], at: usize, n: usize, slots: &[u8], k: usize) -> bo
 }
 
 // The number of the slot with that identifier, or how many slots there are.
-pub(crate) fn slot_of(s: &[u8], at: usize, n: usize, slots: &[u8]) -> usize
+pub fn slot_of(s: &[u8], at: usize, n: usize, slots: &[u8]) -> usize
     requires { ⌜ (at + n ≤ length (now s)) × Short (now slots) ⌝ }
     ensures { λ r. ⌜ r ≡ slotOf (part (was s) at n) (was slots) ⌝ }
 {
