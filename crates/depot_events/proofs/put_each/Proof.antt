@@ -10,10 +10,10 @@ use Rattle.depot_events.proofs.put_each.Statement.{statement}
 use Rattle.depot_events.proofs.put_each.Tie as tie
 
 abbrev Inv-loop : tie.InvT-loop
-Inv-loop room₀ at trace n to₀ k₀ room to k = (k ≤ n) × Wrote (lines (eventText trace) k) at room₀ to room
+Inv-loop room₀ at trace notes n to₀ k₀ room to k = (k ≤ n) × Wrote (lines (eventText trace notes) k) at room₀ to room
 
 abbrev μ-loop : tie.MeasureT-loop
-μ-loop room₀ at trace n to₀ k₀ room to k = n - k
+μ-loop room₀ at trace notes n to₀ k₀ room to k = n - k
 
 loop-holds : tie.Need-loop-holds Inv-loop μ-loop
 loop-holds c = (search needs, lines-none _ _ _)
