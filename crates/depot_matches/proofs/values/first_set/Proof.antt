@@ -1,0 +1,13 @@
+use borrow.Author.Tests.{eq-eqb, ne-eqb}
+use Rattle.depot_matches.proofs.values.first_set.Statement.{statement}
+use Rattle.depot_matches.proofs.values.first_set.Tie as tie
+
+returns : tie.Need-returns
+returns c = rw (eq-eqb _ _ (c .if1 .taken))
+
+returns-2 : tie.Need-returns-2
+returns-2 c = rw (ne-eqb _ _ (c .if1 .left))
+
+pub first-set-spec : {M : Type 1} → statement M
+first-set-spec =
+    tie.close (tie.spec returns returns-2)

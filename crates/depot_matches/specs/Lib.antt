@@ -1,0 +1,4 @@
+pub mod Events
+pub mod Values
+pub mod Images
+pub mod Matches
