@@ -42,6 +42,6 @@ unfoldable pub slotsText : Bytes → Bytes
 slotsText s = lines (slotText s) (length s / slotBytes)
 
 -- a refusal, with the bytes that were run; or the events, the end and the slots
-unfoldable pub runText : RunAnswer → Bytes → Bytes → Bytes → Bytes
-runText a s trace slots =
-    cond (eqb (a .refusal) 0) (eventsText trace (a .events) ++ ranText a ++ slotsText slots) (refusedText (a .refusal) (a .place) s)
+unfoldable pub runText : RunAnswer → Bytes → Bytes → Bytes → Bytes → Bytes
+runText a s trace notes slots =
+    cond (eqb (a .refusal) 0) (eventsText trace notes (a .events) ++ ranText a ++ slotsText slots) (refusedText (a .refusal) (a .place) s)

@@ -112,12 +112,13 @@ pub fn put_run(
     answer: RunAnswer,
     s: &[u8],
     trace: &[u8],
+    notes: &[u8],
     slots: &[u8],
 ) -> usize
-    ensures { λ r. ⌜ Writes (runText answer (was s) (was trace) (was slots)) at room r ⌝ }
+    ensures { λ r. ⌜ Writes (runText answer (was s) (was trace) (was notes) (was slots)) at room r ⌝ }
 {
     if answer.refusal == 0 {
-        let a = put_events(room, at, trace, answer.events);
+        let a = put_events(room, at, trace, notes, answer.events);
         let b = put_ran(room, a, answer);
         return put_slots(room, b, slots);
     }
