@@ -2,9 +2,11 @@
 use Prim.Native.Nat.{ℕ, _+_, _≤_, _<_}
 use mathlib.Core.Path.{_≡_, refl, sym, ap, _∙_}
 use mathlib.Core.Logic.{_⊎_}
+use mathlib.Core.Bool.{Bool, true, false, cond, _||_}
+use lib.Dec.{eqb, ltb, leb}
 use lib.ListN.{length, take}
 use lib.Seq.{length-take-le}
-use borrow.Author.Tests.{lt-ltb, le-ltb, le-leb, lt-leb, eq-eqb, ne-eqb}
+use borrow.Author.Tests.{lt-ltb, le-ltb, le-leb, lt-leb, leb-true, eq-eqb, ne-eqb}
 use native.Mathlib.Omega.{arith}
 use Rattle.rules.specs.Bytes.{Bytes}
 use Rattle.rules.specs.Got.{Got, refused, got}
@@ -14,6 +16,7 @@ use Rattle.rules.proofs.CheckLaws.{head-bounds}
 use Rattle.rules.proofs.CborLaws.{after-string, after-other}
 use Rattle.cbor_reader.specs.declared.Read.{Read}
 use Rattle.cbor_reader.specs.Read.{readOf}
+use Rattle.depot_items.specs.declared.Item.{Item}
 use Rattle.depot_items.specs.Items.{nothing, held, seen, itemAt, itemOf}
 
 held-past : (e : ℕ) (h : Head) → e < after h → held e h ≡ nothing e
@@ -75,3 +78,44 @@ module _ (s : Bytes) (e at : ℕ) where
   pub item-unwanted : (kind : ℕ) → (itemAt s e at .kind ≡ kind → ⊥) → itemOf s e at kind ≡ nothing e
   unfolding itemOf
   item-unwanted kind q = rw (ne-eqb _ _ q)
+
+-- an item lies in its container
+lies-held : (e : ℕ) (h : Head) → (held e h .next ≤ held e h .after) × (held e h .after ≤ e)
+unfolding held
+lies-held e h = go (leb (after h) e) refl
+  where
+    behind : h .next ≤ after h
+    behind = kinds (eqb (h .kind) BYTES || eqb (h .kind) TEXT)
+      where
+        kinds : (t : Bool) → h .next ≤ cond t (h .next + h .num) (h .next)
+        kinds true = omega arith
+        kinds false = omega arith
+
+    go : (t : Bool) → leb (after h) e ≡ t →
+        (cond t (record { kind = h .kind; num = h .num; next = h .next; after = after h }) (nothing e) .next ≤
+        cond t (record { kind = h .kind; num = h .num; next = h .next; after = after h }) (nothing e) .after)
+        × (cond t (record { kind = h .kind; num = h .num; next = h .next; after = after h }) (nothing e) .after ≤ e)
+    go true q = (behind, leb-true (after h) e q)
+    go false q = (omega arith, omega arith)
+
+lies-seen : (e : ℕ) (g : Got Head) → (seen e g .next ≤ seen e g .after) × (seen e g .after ≤ e)
+unfolding seen
+lies-seen e (refused k p) = (omega arith, omega arith)
+lies-seen e (got h) = lies-held e h
+
+lies-at : (s : Bytes) (e at : ℕ) → (itemAt s e at .next ≤ itemAt s e at .after) × (itemAt s e at .after ≤ e)
+unfolding itemAt
+lies-at s e at = go (ltb (length s) e)
+  where
+    go : (t : Bool) → (cond t (nothing e) (seen e (head (take e s) e at)) .next ≤ cond t (nothing e) (seen e (head (take e s) e at)) .after)
+        × (cond t (nothing e) (seen e (head (take e s) e at)) .after ≤ e)
+    go true = (omega arith, omega arith)
+    go false = lies-seen e (head (take e s) e at)
+
+pub lies-of : (s : Bytes) (e at kind : ℕ) (i : Item) → i ≡ itemOf s e at kind → (i .next ≤ i .after) × (i .after ≤ e)
+unfolding itemOf
+lies-of s e at kind i q = rw q (go (eqb (itemAt s e at .kind) kind))
+  where
+    go : (t : Bool) → (cond t (itemAt s e at) (nothing e) .next ≤ cond t (itemAt s e at) (nothing e) .after) × (cond t (itemAt s e at) (nothing e) .after ≤ e)
+    go true = lies-at s e at
+    go false = (omega arith, omega arith)

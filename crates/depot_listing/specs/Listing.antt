@@ -8,8 +8,9 @@ use Rattle.rules.specs.declared.answers.Group.the-variants.{Boot}
 use Rattle.rules.specs.Bytes.{twoAt, fourAt}
 use Rattle.rules.specs.Answers.{groupNumber}
 use Rattle.rules.specs.ProgramFormat.{groupFrom, numberFrom, componentsFrom, recordsFrom, startSize, lengthFrom, nameSize}
-use Rattle.text.specs.Text.{Bytes, ascii, hex}
+use Rattle.text.specs.Text.{Bytes, ascii}
 use Rattle.text_pieces.specs.Pieces.{labelled, counted}
+use Rattle.depot_identifiers.specs.Identifier.{identifierText}
 use Rattle.depot_argument_lines.specs.Items.{sizeIn, itemsText}
 use Rattle.depot_record_lines.specs.Lines.{missingText, recordsText}
 
@@ -23,7 +24,7 @@ unfoldable pub componentSize : Bytes → ℕ
 componentSize s = sizeIn s nameSize (getD s lengthFrom 0)
 
 unfoldable pub componentText : ℕ → Bytes → Bytes
-componentText n s = labelled (ascii "component ") n ++ ascii "  " ++ hex (take (getD s lengthFrom 0) (drop nameSize s)) ++ ascii "\n"
+componentText n s = labelled (ascii "component ") n ++ ascii "  " ++ identifierText (take (getD s lengthFrom 0) (drop nameSize s)) ++ ascii "\n"
 
 unfoldable pub componentsText : ℕ → Bytes → Bytes
 componentsText count s = itemsText componentSize componentText missingText count 0 s

@@ -7,10 +7,10 @@ ghost use Rattle.rules.specs.ProgramFormat.{nameSize, lengthFrom};
 ghost use Rattle.text.specs.Text.{Writes};
 ghost use Rattle.depot_listing.specs.Listing.{componentSize, componentText, componentsText, afterComponents};
 use byte_buffer::wide;
+use depot_identifiers::put_identifier;
 use rules::program_format::NAME_BYTES;
 use rules::program_format::NAME_LENGTH;
 use text::put;
-use text::put_hex;
 use text_pieces::put_labelled;
 
 // How long the component at the start of the bytes is, 0 if none lies there.
@@ -34,7 +34,7 @@ fn put_component(room: &mut [u8], at: usize, n: usize, s: &[u8]) -> usize
     let a = put_labelled(room, at, b"component ", n);
     let b = put(room, a, b"  ");
     let end = NAME_BYTES + wide(s[NAME_LENGTH]);
-    let c = put_hex(room, b, &s[NAME_BYTES..end]);
+    let c = put_identifier(room, b, &s[NAME_BYTES..end]);
     put(room, c, b"\n")
 }
 

@@ -5,16 +5,17 @@ use mathlib.Core.List.{List, [], _++_}
 use lib.Dec.{eqb}
 use lib.ListN.{getD}
 use Rattle.rules.specs.Limits.{limits, sectionCount}
-use Rattle.text.specs.Text.{Bytes, ascii, hex, least}
+use Rattle.text.specs.Text.{Bytes, ascii, least}
 use Rattle.text_names.specs.Words.{sectionKey, sectionWords}
 use Rattle.text_pieces.specs.Pieces.{between, labelled, lines}
+use Rattle.depot_identifiers.specs.Identifier.{identifierText}
 use Rattle.depot_refusals.specs.Refusals.{refusedText}
 use Rattle.pitvorgas_answers.specs.declared.CheckAnswer.{CheckAnswer}
 use Rattle.pitvorgas_answers.specs.declared.NewerAnswer.{NewerAnswer}
 
 -- identifier k stands from ids at 2 k to before ids at 2 k + 1, and so for the sections
 unfoldable pub componentText : Bytes → List ℕ → ℕ → Bytes
-componentText s ids k = labelled (ascii "component ") k ++ ascii "  " ++ hex (between s (getD ids (2 * k) 0) (getD ids (2 * k + 1) 0)) ++ ascii "\n"
+componentText s ids k = labelled (ascii "component ") k ++ ascii "  " ++ identifierText (between s (getD ids (2 * k) 0) (getD ids (2 * k + 1) 0)) ++ ascii "\n"
 
 unfoldable pub componentsText : Bytes → List ℕ → ℕ → Bytes
 componentsText s ids n = lines (componentText s ids) (least n (limits .components))

@@ -5,6 +5,7 @@ ghost use Rattle.rules.specs.Limits.{limits, sectionCount};
 ghost use Rattle.text.specs.Text.{Writes};
 ghost use Rattle.depot_report.specs.Report.{componentText, componentsText, sectionText, sectionsText, spanText, manifestText};
 ghost use Rattle.depot_report.specs.Report.{headText, acceptedText, checkedText, whichText, newerText, translatedText};
+use depot_identifiers::put_identifier_at;
 use depot_refusals::put_refused;
 use pitvorgas_answers::CheckAnswer;
 use pitvorgas_answers::NewerAnswer;
@@ -19,7 +20,6 @@ use text::put_spaces;
 use text_names::put_section;
 use text_names::section_key;
 use text_pieces::put_labelled;
-use text_pieces::put_part;
 
 fn put_component(room: &mut [u8], at: usize, s: &[u8], ids: &Places, k: usize) -> usize
     requires { ⌜ k < limits .components ⌝ }
@@ -27,7 +27,7 @@ fn put_component(room: &mut [u8], at: usize, s: &[u8], ids: &Places, k: usize) -
 {
     let a = put_labelled(room, at, b"component ", k);
     let b = put_spaces(room, a, 2);
-    let c = put_part(room, b, s, ids[2 * k], ids[2 * k + 1]);
+    let c = put_identifier_at(room, b, s, ids[2 * k], ids[2 * k + 1]);
     put_byte(room, c, b'\n')
 }
 

@@ -5,18 +5,17 @@ use mathlib.Core.List.{List, [], _++_}
 use lib.Dec.{eqb}
 use lib.ListN.{getD}
 use Rattle.rules.specs.Bytes.{Bytes}
-use Rattle.rules.specs.Cbor.{BYTES}
 use Rattle.rules.specs.Limits.{limits, sectionCount}
 use Rattle.text.specs.Text.{ascii, newline, least}
-use Rattle.text_pieces.specs.Pieces.{labelled, coded, lines}
+use Rattle.text_pieces.specs.Pieces.{between, labelled, coded, lines}
 use Rattle.text_names.specs.Words.{sectionKey, sectionWords}
-use Rattle.depot_items.specs.Line.{stringText}
+use Rattle.depot_identifiers.specs.Identifier.{identifierText}
 use Rattle.depot_show.specs.Shown.{sequenceShown}
 
 -- component k, whose identifier stands from `from` to `to`
 unfoldable pub componentText : Bytes → ℕ → ℕ → ℕ → Bytes
 componentText s k from to =
-    labelled (ascii "component ") k ++ ascii "  " ++ stringText s BYTES from to ++ labelled (ascii "  at ") from ++ newline
+    labelled (ascii "component ") k ++ ascii "  " ++ identifierText (between s from to) ++ labelled (ascii "  at ") from ++ newline
 
 -- the first n
 unfoldable pub componentsText : Bytes → List ℕ → ℕ → Bytes

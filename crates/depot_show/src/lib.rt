@@ -4,8 +4,8 @@ ghost use Rattle.rules.specs.Lent.{was};
 ghost use Rattle.rules.specs.Limits.{limits};
 ghost use Rattle.text.specs.Text.{Writes};
 ghost use Rattle.depot_show.specs.Manifest.{componentText, componentsText, sectionText, sectionsText, partsText};
+use depot_identifiers::put_identifier_at;
 use depot_items::line::NEWLINE;
-use depot_items::line::put_string;
 use rules::controller::Controller;
 use rules::controller::Places;
 use rules::controller::SECTIONS;
@@ -26,7 +26,7 @@ fn put_component(room: &mut [u8], at: usize, s: &[u8], k: usize, from: usize, en
 {
     let a = put_labelled(room, at, b"component ", k);
     let b = put(room, a, b"  ");
-    let c = put_string(room, b, s, cbor::BYTES, from, end);
+    let c = put_identifier_at(room, b, s, from, end);
     let d = put_labelled(room, c, b"  at ", from);
     put_byte(room, d, NEWLINE)
 }

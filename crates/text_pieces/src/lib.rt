@@ -11,13 +11,13 @@ use text::put_byte;
 use text::put_decimal;
 use text::put_hex;
 
-struct Range {
-    from: usize,
-    to: usize,
+pub struct Range {
+    pub from: usize,
+    pub to: usize,
 }
 
 // The part's own places in the bytes.
-fn within(s: &[u8], from: usize, to: usize) -> Range
+pub fn within(s: &[u8], from: usize, to: usize) -> Range
     ensures { λ r. ⌜ (r .from ≤ r .to) × (r .to ≤ length (was s)) × (between (was s) (r .from) (r .to) ≡ between (was s) from to) ⌝ }
 {
     let end = s.len();

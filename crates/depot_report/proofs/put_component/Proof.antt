@@ -5,7 +5,7 @@ use Rattle.depot_report.proofs.put_component.Statement.{statement}
 use Rattle.depot_report.proofs.put_component.Tie as tie
 
 -- back to where the spaces were put, from before the part is put
-abbrev to-spaces : tie.After-put-part-arg → tie.After-put-spaces
+abbrev to-spaces : tie.After-put-identifier-at-arg → tie.After-put-spaces
 to-spaces c = c .before .before .before
 
 returns : tie.Need-returns
@@ -15,7 +15,7 @@ returns c =
     let p3 = p4 .before .before .before .before in
     let p2 = to-spaces (p3 .before .before .before) in
     let p1 = p2 .before .before .before .before in
-    wrote-then (wrote-then (wrote-then (p1 .put-labelled .ensures) (p2 .put-spaces .ensures)) (p3 .put-part .ensures)) (p4 .put-byte .ensures)
+    wrote-then (wrote-then (wrote-then (p1 .put-labelled .ensures) (p2 .put-spaces .ensures)) (p3 .put-identifier-at .ensures)) (p4 .put-byte .ensures)
 
 pub put-component-spec : {M : Type 1} → statement M
 put-component-spec =

@@ -12,7 +12,7 @@ returns c =
     let at-put-string = at-put-labelled2 .before .before .before .before .before in
     let at-put = at-put-string .before .before .before .before in
     let at-put-labelled = at-put .before .before .before .before .before in
-    wrote-then (wrote-then (wrote-then (wrote-then (at-put-labelled .put-labelled .ensures) (at-put .put .ensures)) (at-put-string .put-string .ensures))
+    wrote-then (wrote-then (wrote-then (wrote-then (at-put-labelled .put-labelled .ensures) (at-put .put .ensures)) (at-put-string .put-identifier-at .ensures))
     (at-put-labelled2 .put-labelled2 .ensures)) (at-put-byte .put-byte .ensures)
 
 pub put-component-spec : {M : Type 1} → statement M

@@ -13,13 +13,13 @@ returns : tie.Need-returns
 unfolding componentText
 returns c =
     let at-put2 = c .before .before in
-    let at-put-hex = at-put2 .before .before .before .before .before in
-    let at-wide = at-put-hex .before .before .before in
+    let at-put-identifier = at-put2 .before .before .before .before .before in
+    let at-wide = at-put-identifier .before .before .before in
     let at-put = at-wide .before .before .before .before in
     let at-put-labelled = at-put .before .before .before .before .before in
     let start = at-put-labelled .before .before .before .before .before in
     let e : nameSize + at-wide .wide .result - nameSize ≡ getD (start .args .s .now) lengthFrom 0 = omega (arith, at-wide .wide .ensures .0) in
-    rw (← e) (wrote-then (wrote-then (wrote-then (at-put-labelled .put-labelled .ensures) (at-put .put .ensures)) (at-put-hex .put-hex .ensures)) (at-put2 .put2 .ensures))
+    rw (← e) (wrote-then (wrote-then (wrote-then (at-put-labelled .put-labelled .ensures) (at-put .put .ensures)) (at-put-identifier .put-identifier .ensures)) (at-put2 .put2 .ensures))
 
 pub put-component-spec : {M : Type 1} → statement M
 put-component-spec =
