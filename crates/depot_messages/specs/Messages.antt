@@ -30,9 +30,13 @@ optionText word = around (ascii "depot: '") word (ascii "' stands where --then m
 unfoldable pub groupText : Bytes → Bytes
 groupText word = around (ascii "depot: the group is install or boot, not '") word (ascii "'\n")
 
+-- what stands before anything that is said of a file
+unfoldable pub namedText : Bytes → Bytes
+namedText name = around (ascii "depot: ") name (ascii ": ")
+
 -- a file with over n bytes
 unfoldable pub longText : Bytes → ℕ → Bytes
-longText name n = around (ascii "depot: ") name (ascii ": over ") ++ decimal n ++ ascii " bytes\n"
+longText name n = namedText name ++ labelled (ascii "over ") n ++ ascii " bytes\n"
 
 -- the commonest errors, by their numbers
 unfoldable pub errorWords : ℕ → Bytes
@@ -48,7 +52,7 @@ errorWords n =
     (labelled (ascii "error ") n))))))))
 
 unfoldable pub errorText : Bytes → ℕ → Bytes
-errorText name n = around (ascii "depot: ") name (ascii ": ") ++ errorWords n ++ ascii "\n"
+errorText name n = namedText name ++ errorWords n ++ ascii "\n"
 
 -- standard input has one reader
 unfoldable pub onceText : Bytes

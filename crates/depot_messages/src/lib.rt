@@ -2,7 +2,7 @@
 ghost use Rattle.rules.specs.Lent.{was};
 ghost use Rattle.text.specs.Text.{Writes};
 ghost use Rattle.depot_messages.specs.Messages.{around, unknownText, wordsText, countText, optionText, groupText};
-ghost use Rattle.depot_messages.specs.Messages.{longText, errorWords, errorText, onceText, nestedText, commandText, statusText};
+ghost use Rattle.depot_messages.specs.Messages.{namedText, longText, errorWords, errorText, onceText, nestedText, commandText, statusText};
 use escape::put_escaped;
 use text::put;
 use text::put_byte;
@@ -95,12 +95,19 @@ pub fn put_group(room: &mut [u8], at: usize, word: &[u8]) -> usize
     )
 }
 
+// What stands before anything that is said of a file.
+pub fn put_named(room: &mut [u8], at: usize, name: &[u8]) -> usize
+    ensures { λ r. ⌜ Writes (namedText (was name)) at room r ⌝ }
+{
+    put_around(room, at, b"depot: ", name, b": ")
+}
+
 // A file with over n bytes.
 pub fn put_long(room: &mut [u8], at: usize, name: &[u8], n: usize) -> usize
     ensures { λ r. ⌜ Writes (longText (was name) n) at room r ⌝ }
 {
-    let a = put_around(room, at, b"depot: ", name, b": over ");
-    let b = put_decimal(room, a, n);
+    let a = put_named(room, at, name);
+    let b = put_labelled(room, a, b"over ", n);
     put(room, b, b" bytes\n")
 }
 
@@ -138,7 +145,7 @@ fn put_error_words(room: &mut [u8], at: usize, n: usize) -> usize
 pub fn put_error(room: &mut [u8], at: usize, name: &[u8], n: usize) -> usize
     ensures { λ r. ⌜ Writes (errorText (was name) n) at room r ⌝ }
 {
-    let a = put_around(room, at, b"depot: ", name, b": ");
+    let a = put_named(room, at, name);
     let b = put_error_words(room, a, n);
     put_byte(room, b, b'\n')
 }

@@ -10,9 +10,7 @@ returns c =
     let p3 = c .before .before in
     let p2 = p3 .before .before .before .before in
     let p1 = p2 .before .before .before .before in
-    wrote-then (wrote-then (p1 .put-around .ensures) (p2 .put-error-words .ensures)) (p3 .put-byte .ensures)
+    wrote-then (wrote-then (p1 .put-named .ensures) (p2 .put-error-words .ensures)) (p3 .put-byte .ensures)
 
 pub put-error-spec : {M : Type 1} → statement M
-put-error-spec =
-    tie.close
-    (tie.spec (λ c. search needs) (λ c. search needs) (λ c κs. search needs) (λ c κs. search needs) (λ c κs. search needs) (λ c. search needs) returns)
+put-error-spec = tie.close (tie.spec (λ c κs. search needs) (λ c κs. search needs) (λ c κs. search needs) (λ c. search needs) returns)

@@ -9,11 +9,10 @@ unfolding longText
 returns c =
     let p3 = c .before .before in
     let p2 = p3 .before .before .before .before .before in
-    let p1 = p2 .before .before .before .before in
-    wrote-then (wrote-then (p1 .put-around .ensures) (p2 .put-decimal .ensures)) (p3 .put .ensures)
+    let p1 = p2 .before .before .before .before .before in
+    wrote-then (wrote-then (p1 .put-named .ensures) (p2 .put-labelled .ensures)) (p3 .put .ensures)
 
 pub put-long-spec : {M : Type 1} → statement M
 put-long-spec =
     tie.close
-    (tie.spec (λ c. search needs) (λ c. search needs) (λ c κs. search needs) (λ c κs. search needs) (λ c. search needs) (λ c κs. search needs)
-    (λ c. search needs) returns)
+    (tie.spec (λ c κs. search needs) (λ c. search needs) (λ c κs. search needs) (λ c. search needs) (λ c κs. search needs) (λ c. search needs) returns)
