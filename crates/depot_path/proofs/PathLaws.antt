@@ -1,6 +1,6 @@
 -- The path from a part on, one step of each.
 use Prim.Native.Nat.{ℕ, suc, _-_}
-use mathlib.Core.Path.{_≡_, refl}
+use mathlib.Core.Path.{_≡_}
 use mathlib.Core.Bool.{true, false}
 use mathlib.Core.List.{[], _++_}
 use borrow.Author.Tests.{eq-eqb, ne-eqb}

@@ -3,8 +3,6 @@ use Rattle.depot_parts.specs.Parts.{asPart}
 use borrow.Author.Needs.{needs}
 use Rattle.depot_parts.proofs.parts.in_sequence.Statement.{statement}
 use Rattle.depot_parts.proofs.parts.in_sequence.Tie as tie
-use Rattle.depot_parts.proofs.parts.as_part.Reads as as-part-reads
-use Rattle.rules_kinds.proofs.argument_of.Reads as argument-of-reads
 
 argument-of-requires : tie.Need-argument-of-requires
 argument-of-requires c κs = search needs
