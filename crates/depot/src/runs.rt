@@ -3,8 +3,11 @@ ghost use mathlib.Core.Path.{_≡_};
 ghost use lib.ListN.{length};
 ghost use Rattle.rules.specs.Limits.{limits};
 use byte_buffer::is;
+use depot_files::files::beside;
 use depot_files::files::is_standard;
 use depot_files::files::load;
+use depot_files::files::store;
+use depot_files::messages::say_fault;
 use depot_files::messages::say_group;
 use depot_files::messages::say_once;
 use depot_files::messages::say_option;
@@ -12,9 +15,11 @@ use depot_files::streams::Streams;
 use depot_files::streams::fitted;
 use depot_files::streams::page;
 use depot_files::streams::print;
+use depot_matches::note_matches;
 use depot_outcome::put_run;
 use depot_runs::Run;
 use depot_runs::run_as;
+use depot_subjects::subject_of;
 use depot_usage::Asked;
 use depot_usage::FAULT;
 use depot_usage::asked_group;
@@ -26,7 +31,10 @@ use device_description::ANSWERS_ROOM;
 use device_description::SLOTS_ROOM;
 use device_description::Scenario;
 use device_description::describe;
+use device_writing::put_device;
+use pitvorgas::pitvorgas_translate;
 use rules::controller::Controller;
+use text::put;
 
 fn trace_room() -> [u8; Controller::TRACE_BYTES]
     ensures { λ r. ⌜ limits .trace ≡ length r ⌝ }
@@ -34,7 +42,58 @@ fn trace_room() -> [u8; Controller::TRACE_BYTES]
     [0; Controller::TRACE_BYTES]
 }
 
-// Runs the bytes, and prints what the run did or why it was refused.
+// The notes of a run of an envelope, whose translation runs as it does.
+fn note_envelope(
+    envelope: &[u8],
+    boot: bool,
+    trace: &[u8],
+    events: usize,
+    slots: &[u8],
+    answers: &[u8],
+    notes: &mut [u8],
+) {
+    let mut room = io::large_buffer();
+    let answer = pitvorgas_translate(envelope, boot, &mut room);
+    let n = fitted(&room, answer.length);
+    note_matches(&room[..n], trace, events, slots, answers, notes);
+}
+
+// The notes of a run, of which the slots are those before it.
+fn note_run(
+    what: Run,
+    bytes: &[u8],
+    trace: &[u8],
+    events: usize,
+    slots: &[u8],
+    answers: &[u8],
+    notes: &mut [u8],
+) {
+    match what {
+        Run::Install => note_envelope(bytes, false, trace, events, slots, answers, notes),
+        Run::Boot => note_envelope(bytes, true, trace, events, slots, answers, notes),
+        Run::Program => note_matches(bytes, trace, events, slots, answers, notes),
+    }
+}
+
+// Writes the device and slots after a run as a description.
+fn store_device(
+    then: &[u8],
+    d: Scenario,
+    number: usize,
+    slots: &[u8],
+    status: usize,
+    streams: Streams,
+) -> usize {
+    let mut text = io::large_buffer();
+    let to = put_device(&mut text, 0, d, number, slots);
+    let n = fitted(&text, to);
+    if store(then, &text[..n], streams) {
+        return status;
+    }
+    FAULT
+}
+
+// Runs the bytes, prints what the run did or why it was refused, and writes what a run left where a file is named.
 fn run_bytes(
     bytes: &[u8],
     what: Run,
@@ -44,11 +103,26 @@ fn run_bytes(
     then: &[u8],
     streams: Streams,
 ) -> usize {
+    let mut old = [0u8; SLOTS_ROOM];
+    let copied = put(&mut old, 0, slots);
+    let n = fitted(&old, copied);
     let mut trace = trace_room();
     let answer = run_as(what, bytes, d, slots, answers, &mut trace);
+    let events = answer.events;
+    let mut notes = [0u8; Controller::COMMANDS];
+    note_run(what, bytes, &trace, events, &old[..n], answers, &mut notes);
+    let subject = subject_of(what, bytes);
     let mut text = page();
-    let to = put_run(&mut text, 0, answer, bytes, &trace, slots);
-    print(streams, &text, to, run_status(answer.refusal, answer.end))
+    let to = put_run(&mut text, 0, answer, subject, bytes, &trace, &notes, slots);
+    let status = run_status(answer.refusal, answer.end);
+    let told = print(beside(then, streams), &text, to, status);
+    if then.len() == 0 {
+        return told;
+    }
+    if answer.refusal != 0 {
+        return told;
+    }
+    store_device(then, d, answer.number, slots, told, streams)
 }
 
 // Reads the description, and runs on the device that it describes.
@@ -63,8 +137,9 @@ fn run_described(
     let mut slots = [0u8; SLOTS_ROOM];
     let mut answers = [0u8; ANSWERS_ROOM];
     let d = describe(description, &mut slots, &mut answers);
-    if d.refused != 0 {
-        return FAULT;
+    let refused = d.refused;
+    if refused != 0 {
+        return say_fault(streams.err, name, description, refused);
     }
     let n = fitted(&slots, d.slots);
     let m = fitted(&answers, d.answers);

@@ -48,7 +48,7 @@ nameOf p c =
     let s = afterComponents c (drop startSize p) in
     cond (ltb (length p) startSize) [] (cond (eqb (componentSize s) 0) [] (part s nameSize (getD s lengthFrom 0)))
 
--- the image of number k of the slots; nothing, if there is none or it is absent
+-- the image in the slot of number k; nothing, if there is none or it is absent
 unfoldable pub presentImage : Bytes → ℕ → Bytes
 presentImage slots k =
     cond (leb (length slots / slotBytes) k) [] (cond (slotAt slots k .present) (imageAt slots k) [])

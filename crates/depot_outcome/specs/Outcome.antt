@@ -1,16 +1,21 @@
 -- What a run did, as text.
 use Prim.Native.Nat.{ℕ, _+_, _*_, _/_}
 use mathlib.Core.Bool.{cond}
-use mathlib.Core.List.{_++_}
-use lib.Dec.{eqb}
+use mathlib.Core.List.{List, _++_}
+use lib.Dec.{eqb, ltb}
 use lib.ListN.{length, getD}
+use Rattle.rules.specs.Bytes.{indexOf}
 use Rattle.rules.specs.Limits.{limits}
-use Rattle.rules.specs.Slots.{slotBytes, idFrom, imageFrom, digestFrom, slotAt}
-use Rattle.text.specs.Text.{Bytes, ascii, hex, least}
+use Rattle.rules.specs.Slots.{slotBytes, imageFrom, digestFrom, slotAt}
+use Rattle.run_slot_search.specs.Search.{namesAt}
+use Rattle.text.specs.Text.{Bytes, ascii, padded, hex, least}
 use Rattle.text_names.specs.Words.{endWords}
 use Rattle.text_pieces.specs.Pieces.{between, labelled, counted, lines}
+use Rattle.depot_identifiers.specs.Identifier.{identifierText}
 use Rattle.depot_refusals.specs.Refusals.{refusedText}
 use Rattle.depot_events.specs.Events.{eventsText}
+use Rattle.depot_subjects.specs.declared.Subject.{Subject}
+use Rattle.depot_reasons.specs.Reasons.{reasonText}
 use Rattle.pitvorgas_answers.specs.declared.RunAnswer.{RunAnswer}
 
 unfoldable pub endText : ℕ → ℕ → Bytes
@@ -22,26 +27,40 @@ countsText events used = counted (ascii ", ") events (ascii " event") ++ counted
 unfoldable pub ranText : RunAnswer → Bytes
 ranText a = endText (a .end) (a .place) ++ countsText (a .events) (a .used) ++ labelled (ascii " used, number ") (a .number) ++ ascii "\n"
 
--- the identifier of the slot at p
-unfoldable pub nameText : Bytes → ℕ → Bytes
-nameText s p = ascii "  " ++ hex (between s (p + idFrom) (p + idFrom + least (getD s p 0) (limits .identifier)))
+-- the component whose slot it is, of n
+unfoldable pub ownerText : ℕ → ℕ → Bytes
+ownerText owner n = ascii "  component " ++ cond (ltb owner n) (padded 2 owner) (ascii " -")
 
 abbrev pub presentText : ℕ → Bytes
 presentText present = cond (eqb present 0) (ascii "  absent ") (ascii "  present")
 
--- the image in the slot of number k
+-- of the slot of number k: the image's size and the capacity; the image's digest and the identifier
 unfoldable pub imageText : Bytes → ℕ → Bytes
-imageText s k =
-    presentText (getD s (slotBytes * k + imageFrom) 0) ++ labelled (ascii "  size ") (slotAt s k .size) ++ ascii "  digest "
-    ++ hex (between s (slotBytes * k + (imageFrom + digestFrom)) (slotBytes * k + slotBytes)) ++ ascii "\n"
+imageText b k =
+    presentText (getD b (slotBytes * k + imageFrom) 0) ++ ascii "  size " ++ padded 10 (slotAt b k .size) ++ ascii "  capacity " ++ padded 10 (slotAt b k .capacity)
 
-unfoldable pub slotText : Bytes → ℕ → Bytes
-slotText s k = labelled (ascii "slot ") k ++ nameText s (slotBytes * k) ++ labelled (ascii "  capacity ") (slotAt s k .capacity) ++ imageText s k
+unfoldable pub namesText : Bytes → ℕ → Bytes
+namesText b k =
+    ascii "  digest " ++ hex (between b (slotBytes * k + (imageFrom + digestFrom)) (slotBytes * k + slotBytes)) ++ ascii "  "
+    ++ identifierText (slotAt b k .id) ++ ascii "\n"
 
-unfoldable pub slotsText : Bytes → Bytes
-slotsText s = lines (slotText s) (length s / slotBytes)
+unfoldable pub slotText : Bytes → ℕ → ℕ → ℕ → Bytes
+slotText b k owner n = ascii "slot " ++ padded 2 k ++ ownerText owner n ++ imageText b k ++ namesText b k
 
--- a refusal, with the bytes that were run; or the events, the end and the slots
-unfoldable pub runText : RunAnswer → Bytes → Bytes → Bytes → Bytes → Bytes
-runText a s trace notes slots =
-    cond (eqb (a .refusal) 0) (eventsText trace notes (a .events) ++ ranText a ++ slotsText slots) (refusedText (a .refusal) (a .place) s)
+-- the first of the n components of s that has the slot's identifier owns it
+unfoldable pub ownedText : Bytes → Bytes → List ℕ → ℕ → ℕ → Bytes
+ownedText b s ids n k = slotText b k (indexOf (slotAt b k .id) (namesAt s ids n)) n
+
+unfoldable pub slotsText : Bytes → Bytes → List ℕ → ℕ → Bytes
+slotsText b s ids n = lines (ownedText b s ids n) (length b / slotBytes)
+
+-- a refusal, with the bytes that were run, and what it is about
+unfoldable pub stoppedText : RunAnswer → Subject → Bytes → Bytes → Bytes
+stoppedText a x s slots = refusedText (a .refusal) (a .place) s ++ reasonText (a .refusal) x (a .number) s slots
+
+-- or the events, the end and the slots
+unfoldable pub runText : RunAnswer → Subject → Bytes → Bytes → Bytes → Bytes → Bytes
+runText a x s trace notes slots =
+    cond (eqb (a .refusal) 0)
+    (eventsText trace notes (a .events) ++ ranText a ++ slotsText slots s (x .ids) (least (x .components) (limits .components)))
+    (stoppedText a x s slots)

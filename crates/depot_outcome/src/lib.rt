@@ -1,17 +1,21 @@
 // What a run did, as text in lent room.
-ghost use Prim.Native.Nat.{_+_, _≤_};
-ghost use lib.ListN.{length};
+ghost use Prim.Native.Nat.{_≤_};
 ghost use Rattle.rules.specs.Lent.{was};
-ghost use Rattle.rules.specs.Slots.{slotBytes};
+ghost use Rattle.rules.specs.Limits.{limits};
 ghost use Rattle.run_slots.specs.Slot.{Holds};
 ghost use Rattle.text.specs.Text.{Writes};
-ghost use Rattle.depot_outcome.specs.Outcome.{endText, countsText, ranText, nameText, presentText, imageText, slotText, slotsText, runText};
-use byte_buffer::wide;
+ghost use Rattle.depot_outcome.specs.Outcome.{endText, countsText, ranText, ownerText, presentText, imageText, namesText, slotText};
+ghost use Rattle.depot_outcome.specs.Outcome.{ownedText, slotsText, stoppedText, runText};
 use depot_events::put_events;
+use depot_identifiers::put_identifier;
+use depot_reasons::put_reason;
 use depot_refusals::put_refused;
+use depot_slot_names::component_with;
+use depot_slot_names::slot_name;
+use depot_subjects::Subject;
 use pitvorgas_answers::RunAnswer;
 use rules::controller::Controller;
-use rules::slot_format::IDENTIFIER;
+use rules::controller::Places;
 use rules::slot_format::IMAGE;
 use rules::slot_format::SLOT_BYTES;
 use rules::slot_format::SLOT_DIGEST;
@@ -20,7 +24,7 @@ use run_slots::slot::size;
 use text::least;
 use text::put;
 use text::put_byte;
-use text::put_spaces;
+use text::put_padded;
 use text_pieces::put_counted;
 use text_pieces::put_labelled;
 use text_pieces::put_part;
@@ -51,13 +55,15 @@ fn put_ran(room: &mut [u8], at: usize, answer: RunAnswer) -> usize
     put_byte(room, c, b'\n')
 }
 
-fn put_name(room: &mut [u8], at: usize, slots: &[u8], p: usize) -> usize
-    requires { ⌜ p + slotBytes ≤ length (now slots) ⌝ }
-    ensures { λ r. ⌜ Writes (nameText (was slots) p) at room r ⌝ }
+// The component whose slot it is: `-` where none of the n has its identifier.
+fn put_owner(room: &mut [u8], at: usize, owner: usize, n: usize) -> usize
+    ensures { λ r. ⌜ Writes (ownerText owner n) at room r ⌝ }
 {
-    let n = least(wide(slots[p]), Controller::IDENTIFIER_BYTES);
-    let a = put_spaces(room, at, 2);
-    put_part(room, a, slots, p + IDENTIFIER, p + IDENTIFIER + n)
+    let a = put(room, at, b"  component ");
+    if owner < n {
+        return put_padded(room, a, owner, 2);
+    }
+    put(room, a, b" -")
 }
 
 fn put_present(room: &mut [u8], at: usize, present: u8) -> usize
@@ -73,54 +79,103 @@ fn put_image(room: &mut [u8], at: usize, slots: &[u8], k: usize) -> usize
     requires { ⌜ Holds (now slots) k ⌝ }
     ensures { λ r. ⌜ Writes (imageText (was slots) k) at room r ⌝ }
 {
+    let a = put_present(room, at, slots[SLOT_BYTES * k + IMAGE]);
+    let b = put(room, a, b"  size ");
+    let c = put_padded(room, b, size(slots, k), 10);
+    let d = put(room, c, b"  capacity ");
+    put_padded(room, d, capacity(slots, k), 10)
+}
+
+// The digest of its image, and its identifier.
+fn put_names(room: &mut [u8], at: usize, slots: &[u8], k: usize) -> usize
+    requires { ⌜ Holds (now slots) k ⌝ }
+    ensures { λ r. ⌜ Writes (namesText (was slots) k) at room r ⌝ }
+{
     let p = SLOT_BYTES * k;
-    let a = put_present(room, at, slots[p + IMAGE]);
-    let b = put_labelled(room, a, b"  size ", size(slots, k));
-    let c = put(room, b, b"  digest ");
-    let d = put_part(room, c, slots, p + SLOT_DIGEST, p + SLOT_BYTES);
+    let a = put(room, at, b"  digest ");
+    let b = put_part(room, a, slots, p + SLOT_DIGEST, p + SLOT_BYTES);
+    let c = put(room, b, b"  ");
+    let d = put_identifier(room, c, slot_name(slots, k));
     put_byte(room, d, b'\n')
 }
 
-fn put_slot(room: &mut [u8], at: usize, slots: &[u8], k: usize) -> usize
+fn put_slot(room: &mut [u8], at: usize, slots: &[u8], k: usize, owner: usize, n: usize) -> usize
     requires { ⌜ Holds (now slots) k ⌝ }
-    ensures { λ r. ⌜ Writes (slotText (was slots) k) at room r ⌝ }
+    ensures { λ r. ⌜ Writes (slotText (was slots) k owner n) at room r ⌝ }
 {
-    let a = put_labelled(room, at, b"slot ", k);
-    let b = put_name(room, a, slots, SLOT_BYTES * k);
-    let c = put_labelled(room, b, b"  capacity ", capacity(slots, k));
-    put_image(room, c, slots, k)
+    let a = put(room, at, b"slot ");
+    let b = put_padded(room, a, k, 2);
+    let c = put_owner(room, b, owner, n);
+    let d = put_image(room, c, slots, k);
+    put_names(room, d, slots, k)
 }
 
-// The slots, as many as are whole.
-fn put_slots(room: &mut [u8], at: usize, slots: &[u8]) -> usize
-    ensures { λ r. ⌜ Writes (slotsText (was slots)) at room r ⌝ }
+// The slot of number k, with the component that it belongs to.
+fn put_owned(
+    room: &mut [u8],
+    at: usize,
+    slots: &[u8],
+    k: usize,
+    s: &[u8],
+    ids: &Places,
+    n: usize,
+) -> usize
+    requires { ⌜ (Holds (now slots) k) × (n ≤ limits .components) ⌝ }
+    ensures { λ r. ⌜ Writes (ownedText (was slots) (was s) (was ids) n k) at room r ⌝ }
 {
-    let n = slots.len() / SLOT_BYTES;
+    let owner = component_with(slot_name(slots, k), s, ids, n);
+    put_slot(room, at, slots, k, owner, n)
+}
+
+// The slots, as many as are whole, by the components of s.
+fn put_slots(room: &mut [u8], at: usize, slots: &[u8], s: &[u8], ids: &Places, n: usize) -> usize
+    requires { ⌜ n ≤ limits .components ⌝ }
+    ensures { λ r. ⌜ Writes (slotsText (was slots) (was s) (was ids) n) at room r ⌝ }
+{
+    let end = slots.len() / SLOT_BYTES;
     let mut to = at;
     let mut k = 0;
-    while k < n {
-        to = put_slot(room, to, slots, k);
+    while k < end {
+        to = put_owned(room, to, slots, k, s, ids, n);
         k += 1;
     }
     to
 }
 
-// What a run of s answered: a refusal, or the events, the end and the slots.
+// A refusal, and what it is about.
+fn put_stopped(
+    room: &mut [u8],
+    at: usize,
+    answer: RunAnswer,
+    subject: Subject,
+    s: &[u8],
+    slots: &[u8],
+) -> usize
+    ensures { λ r. ⌜ Writes (stoppedText answer subject (was s) (was slots)) at room r ⌝ }
+{
+    let a = put_refused(room, at, answer.refusal, answer.place, s);
+    put_reason(room, a, answer.refusal, subject, answer.number, s, slots)
+}
+
+// What a run of s, which is about `subject`, answered: a refusal, or the events, the end and the slots.
 pub fn put_run(
     room: &mut [u8],
     at: usize,
     answer: RunAnswer,
+    subject: Subject,
     s: &[u8],
     trace: &[u8],
     notes: &[u8],
     slots: &[u8],
 ) -> usize
-    ensures { λ r. ⌜ Writes (runText answer (was s) (was trace) (was notes) (was slots)) at room r ⌝ }
+    ensures { λ r. ⌜ Writes (runText answer subject (was s) (was trace) (was notes) (was slots)) at room r ⌝ }
 {
     if answer.refusal == 0 {
+        let ids = subject.ids;
+        let n = least(subject.components, Controller::COMPONENTS);
         let a = put_events(room, at, trace, notes, answer.events);
         let b = put_ran(room, a, answer);
-        return put_slots(room, b, slots);
+        return put_slots(room, b, slots, s, &ids, n);
     }
-    put_refused(room, at, answer.refusal, answer.place, s)
+    put_stopped(room, at, answer, subject, s, slots)
 }

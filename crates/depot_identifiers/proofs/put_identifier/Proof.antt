@@ -14,7 +14,11 @@ returns c =
     let at-want = c .before in
     let at-put-hex = at-want .before .before .before in
     let start = at-put-hex .before .before .before .before in
-    rw (← at-want .want .ensures, ne-eqb _ _ (c .if1 .taken), append-nil (hex (start .args .s .now))) (at-put-hex .put-hex .ensures)
+    rw (
+      ← at-want .want .ensures,
+      ne-eqb _ _ (c .if1 .taken),
+      append-nil (hex (start .args .s .now)),
+    ) (at-put-hex .put-hex .ensures)
 
 returns-2 : tie.Need-returns-2
 unfolding identifierText readText
@@ -24,7 +28,12 @@ returns-2 c =
     let at-want = at-if1 .before in
     let at-put-hex = at-want .before .before .before in
     let start = at-put-hex .before .before .before .before in
-    rw (← at-want .want .ensures, eq-eqb _ _ (at-if1 .if1 .left), sym (at-are-strings .are-strings .ensures) ∙ not-true _ (c .if2 .taken), append-nil (hex (start .args .s .now))) (at-put-hex .put-hex .ensures)
+    rw (
+      ← at-want .want .ensures,
+      eq-eqb _ _ (at-if1 .if1 .left),
+      sym (at-are-strings .are-strings .ensures) ∙ not-true _ (c .if2 .taken),
+      append-nil (hex (start .args .s .now)),
+    ) (at-put-hex .put-hex .ensures)
 
 returns-3 : tie.Need-returns-3
 unfolding identifierText readText
@@ -36,7 +45,13 @@ returns-3 c =
     let at-want = at-if1 .before in
     let at-put-hex = at-want .before .before .before in
     let start = at-put-hex .before .before .before .before in
-    rw (← at-want .want .ensures, eq-eqb _ _ (at-if1 .if1 .left), sym (at-are-strings .are-strings .ensures) ∙ not-false _ (at-if2 .if2 .left), sym (at-one-prints .one-prints .ensures) ∙ not-true _ (c .if3 .taken), append-nil (hex (start .args .s .now))) (at-put-hex .put-hex .ensures)
+    rw (
+      ← at-want .want .ensures,
+      eq-eqb _ _ (at-if1 .if1 .left),
+      sym (at-are-strings .are-strings .ensures) ∙ not-false _ (at-if2 .if2 .left),
+      sym (at-one-prints .one-prints .ensures) ∙ not-true _ (c .if3 .taken),
+      append-nil (hex (start .args .s .now)),
+    ) (at-put-hex .put-hex .ensures)
 
 returns-4 : tie.Need-returns-4
 unfolding identifierText readText
@@ -51,7 +66,12 @@ returns-4 c =
     let at-if1 = at-are-strings .before in
     let at-want = at-if1 .before in
     let at-put-hex = at-want .before .before .before in
-    rw (← at-want .want .ensures, eq-eqb _ _ (at-if1 .if1 .left), sym (at-are-strings .are-strings .ensures) ∙ not-false _ (at-if2 .if2 .left), sym (at-one-prints .one-prints .ensures) ∙ not-false _ (at-if3 .if3 .left))
+    rw (
+      ← at-want .want .ensures,
+      eq-eqb _ _ (at-if1 .if1 .left),
+      sym (at-are-strings .are-strings .ensures) ∙ not-false _ (at-if2 .if2 .left),
+      sym (at-one-prints .one-prints .ensures) ∙ not-false _ (at-if3 .if3 .left),
+    )
     (wrote-then (at-put-hex .put-hex .ensures) (wrote-then (wrote-then (at-put .put .ensures) (at-put-parts .put-parts .ensures)) (at-put-byte .put-byte .ensures)))
 
 pub put-identifier-spec : {M : Type 1} → statement M

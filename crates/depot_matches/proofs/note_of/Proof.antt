@@ -1,5 +1,7 @@
-use mathlib.Core.Path.{sym, _∙_}
+use mathlib.Core.Path.{_≡_, sym, _∙_}
 use borrow.Author.Tests.{lt-ltb, le-ltb, not-true, not-false}
+use Rattle.rules.specs.Commands.{digestKey}
+use Rattle.depot_matches.specs.Values.{valueBefore}
 use Rattle.depot_matches.specs.Matches.{imageFrom, noteOf}
 use borrow.Author.Needs.{needs}
 use Rattle.depot_matches.proofs.note_of.Statement.{statement}
@@ -19,10 +21,14 @@ returns-2 c =
     let at-if1 = at-value-before .before in
     let at-is-of = at-if1 .before in
     let at-event-at = at-is-of .before in
+    let start = at-event-at .before .before .before .before .before in
+    let a = start .args in
+    let digest : at-value-before .value-before .result .now ≡ valueBefore (a .p .now) (a .trace .now) digestKey (at-event-at .event-at .result .component) (a .j) =
+    at-value-before .value-before .ensures in
     rw (
       ← at-event-at .event-at .ensures,
       sym (at-is-of .is-of .ensures) ∙ not-false _ (at-if1 .if1 .left),
-      ← at-value-before .value-before .ensures,
+      ← digest,
       ← at-origin .origin .ensures,
       lt-ltb _ _ (at-if2 .if2 .taken),
       ← at-lent-image .lent-image .ensures,
@@ -39,10 +45,14 @@ returns-3 c =
     let at-if1 = at-value-before .before in
     let at-is-of = at-if1 .before in
     let at-event-at = at-is-of .before in
+    let start = at-event-at .before .before .before .before .before in
+    let a = start .args in
+    let digest : at-value-before .value-before .result .now ≡ valueBefore (a .p .now) (a .trace .now) digestKey (at-event-at .event-at .result .component) (a .j) =
+    at-value-before .value-before .ensures in
     rw (
       ← at-event-at .event-at .ensures,
       sym (at-is-of .is-of .ensures) ∙ not-false _ (at-if1 .if1 .left),
-      ← at-value-before .value-before .ensures,
+      ← digest,
       ← at-origin .origin .ensures,
       le-ltb _ _ (at-if2 .if2 .left),
       ← at-answer-image .answer-image .ensures,

@@ -4,20 +4,19 @@ use Rattle.depot_outcome.specs.Outcome.{imageText}
 use Rattle.depot_outcome.proofs.put_image.Statement.{statement}
 use Rattle.depot_outcome.proofs.put_image.Tie as tie
 
--- back to where it was put whether there is an image, from before its size is put
-abbrev to-present : tie.After-put-labelled-arg → tie.After-put-present
-to-present c = c .before .before .before
-
 returns : tie.Need-returns
 unfolding imageText
 returns c =
-    let p5 = c .before .before in
-    let p4 = p5 .before .before .before .before in
-    let p3 = p4 .before .before .before .before in
-    let p2 = p3 .before .before .before .before .before in
-    let p1 = to-present (p2 .before .before .before) in
-    rw (← p2 .before .size .ensures) (wrote-then (wrote-then (wrote-then (wrote-then (p1 .put-present .ensures) (p2 .put-labelled .ensures)) (p3 .put .ensures))
-    (p4 .put-part .ensures)) (p5 .put-byte .ensures))
+    let at-put-padded2 = c .before .before in
+    let at-capacity = at-put-padded2 .before in
+    let at-put2 = at-capacity .before .before .before .before in
+    let at-put-padded = at-put2 .before .before .before .before .before in
+    let at-size = at-put-padded .before in
+    let at-put = at-size .before .before .before .before in
+    let at-put-present = at-put .before .before .before .before .before in
+    rw (← at-size .size .ensures, ← at-capacity .capacity .ensures) (wrote-then (wrote-then (wrote-then (wrote-then (at-put-present .put-present .ensures) (at-put .put .ensures))
+    (at-put-padded .put-padded .ensures))
+    (at-put2 .put2 .ensures)) (at-put-padded2 .put-padded2 .ensures))
 
 pub put-image-spec : {M : Type 1} → statement M
 put-image-spec =
@@ -30,10 +29,9 @@ put-image-spec =
     (λ c. search needs)
     (λ c κs. search needs)
     (λ c κs. search needs)
-    (λ c. search needs)
     (λ c κs. search needs)
     (λ c. search needs)
-    (λ c. search needs)
+    (λ c κs. search needs)
     (λ c κs. search needs)
     (λ c κs. search needs)
     (λ c. search needs)

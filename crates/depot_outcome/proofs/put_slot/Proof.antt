@@ -4,18 +4,16 @@ use Rattle.depot_outcome.specs.Outcome.{slotText}
 use Rattle.depot_outcome.proofs.put_slot.Statement.{statement}
 use Rattle.depot_outcome.proofs.put_slot.Tie as tie
 
--- back to where the name was put, from before the capacity is put
-abbrev to-name : tie.After-put-labelled-arg3 → tie.After-put-name
-to-name c = c .before .before .before
-
 returns : tie.Need-returns
 unfolding slotText
 returns c =
-    let p4 = c .before .before in
-    let p3 = p4 .before .before .before .before in
-    let p2 = to-name (p3 .before .before .before) in
-    let p1 = p2 .before .before .before .before in
-    rw (← p3 .before .capacity .ensures) (wrote-then (wrote-then (wrote-then (p1 .put-labelled .ensures) (p2 .put-name .ensures)) (p3 .put-labelled2 .ensures)) (p4 .put-image .ensures))
+    let at-put-names = c .before .before in
+    let at-put-image = at-put-names .before .before .before .before in
+    let at-put-owner = at-put-image .before .before .before .before in
+    let at-put-padded = at-put-owner .before .before .before .before in
+    let at-put = at-put-padded .before .before .before .before in
+    wrote-then (wrote-then (wrote-then (wrote-then (at-put .put .ensures) (at-put-padded .put-padded .ensures)) (at-put-owner .put-owner .ensures)) (at-put-image .put-image .ensures))
+    (at-put-names .put-names .ensures)
 
 pub put-slot-spec : {M : Type 1} → statement M
 put-slot-spec =
@@ -23,9 +21,7 @@ put-slot-spec =
     (tie.spec
     (λ c. search needs)
     (λ c κs. search needs)
-    (λ c. search needs)
     (λ c κs. search needs)
-    (λ c. search needs)
     (λ c κs. search needs)
     (λ c κs. search needs)
     (λ c κs. search needs)

@@ -1,30 +1,31 @@
-use borrow.Author.Needs.{needs}
 use Prim.Native.Nat.{_-_, _≤_}
 use native.Mathlib.Omega.{arith}
+use borrow.Author.Needs.{needs}
 use Rattle.text.specs.Text.{Wrote}
 use Rattle.text.proofs.TextLaws.{wrote-length}
 use Rattle.text_pieces.specs.Pieces.{lines}
 use Rattle.text_pieces.proofs.PieceLaws.{lines-none, lines-next, lines-all}
-use Rattle.depot_outcome.specs.Outcome.{slotText, slotsText}
+use Rattle.depot_outcome.specs.Outcome.{ownedText, slotsText}
 use Rattle.depot_outcome.proofs.put_slots.Statement.{statement}
 use Rattle.depot_outcome.proofs.put_slots.Tie as tie
 
 abbrev Inv-loop : tie.InvT-loop
-Inv-loop room₀ at slots n to₀ k₀ room to k = (k ≤ n) × Wrote (lines (slotText slots) k) at room₀ to room
+Inv-loop room₀ at slots s ids n end to₀ k₀ room to k = (k ≤ end) × Wrote (lines (ownedText slots s ids n) k) at room₀ to room
 
 abbrev μ-loop : tie.MeasureT-loop
-μ-loop room₀ at slots n to₀ k₀ room to k = n - k
+μ-loop room₀ at slots s ids n end to₀ k₀ room to k = end - k
 
 loop-holds : tie.Need-loop-holds Inv-loop μ-loop
 loop-holds c = (search needs, lines-none _ _ _)
 
-put-slot-requires : tie.Need-put-slot-requires Inv-loop μ-loop
-put-slot-requires c κs = omega (arith, c .before .loop-test .taken)
+put-owned-requires : tie.Need-put-owned-requires Inv-loop μ-loop
+put-owned-requires c κs = (omega (arith, c .before .loop-test .taken), search needs)
 
 loop-again : tie.Need-loop-again Inv-loop μ-loop
 loop-again c =
-    let p1 = c .before .before in
-    (search needs, lines-next _ _ (p1 .before .before .before .loop .inv .1) (p1 .put-slot .ensures))
+    let at-put-owned = c .before .before in
+    let at-loop = at-put-owned .before .before .before in
+    (search needs, lines-next _ _ (at-loop .loop .inv .1) (at-put-owned .put-owned .ensures))
 
 same-length : tie.Need-same-length Inv-loop μ-loop
 same-length c = wrote-length (c .before .loop .inv .1)
@@ -36,4 +37,13 @@ returns c = lines-all _ _ _ (search needs) (search needs) (c .before .loop .inv 
 pub put-slots-spec : {M : Type 1} → statement M
 put-slots-spec =
     tie.close
-    (tie.spec Inv-loop μ-loop loop-holds put-slot-requires (λ c. search needs) (λ c. search needs) loop-again same-length returns)
+    (tie.spec
+    Inv-loop
+    μ-loop
+    loop-holds
+    put-owned-requires
+    (λ c. search needs)
+    (λ c. search needs)
+    loop-again
+    same-length
+    returns)

@@ -12,7 +12,8 @@ returns c =
     let at-capacity = at-put-labelled2 .before in
     let at-put-labelled = at-capacity .before .before .before .before .before in
     let at-size = at-put-labelled .before in
-    rw (← at-size .size .ensures, ← at-capacity .capacity .ensures) (wrote-then (wrote-then (at-put-labelled .put-labelled .ensures) (at-put-labelled2 .put-labelled2 .ensures)) (at-put-byte .put-byte .ensures))
+    rw (← at-size .size .ensures, ← at-capacity .capacity .ensures) (wrote-then (wrote-then (at-put-labelled .put-labelled .ensures) (at-put-labelled2 .put-labelled2 .ensures))
+    (at-put-byte .put-byte .ensures))
 
 pub put-sizes-spec : {M : Type 1} → statement M
 put-sizes-spec =

@@ -14,7 +14,8 @@ returns c =
     let at-put-labelled2 = at-put .before .before .before .before .before in
     let at-put-labelled = at-put-labelled2 .before .before .before .before .before in
     let at-twin = at-put-labelled .before in
-    rw (← at-twin .twin .ensures, ← at-slot-name .slot-name .ensures) (wrote-then (wrote-then (wrote-then (wrote-then (at-put-labelled .put-labelled .ensures) (at-put-labelled2 .put-labelled2 .ensures)) (at-put .put .ensures))
+    rw (← at-twin .twin .ensures, ← at-slot-name .slot-name .ensures) (wrote-then (wrote-then (wrote-then (wrote-then (at-put-labelled .put-labelled .ensures)
+    (at-put-labelled2 .put-labelled2 .ensures)) (at-put .put .ensures))
     (at-put-identifier .put-identifier .ensures)) (at-put-byte .put-byte .ensures))
 
 pub put-twice-spec : {M : Type 1} → statement M
