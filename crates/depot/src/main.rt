@@ -2,7 +2,6 @@
 mod batch;
 mod command;
 mod inspect;
-mod runs;
 mod translation;
 
 use byte_buffer::is;

@@ -1,4 +1,4 @@
-// Runs on a described device.
+// Runs of files on described devices: what is read, told and written. What is read and written no contract can say.
 ghost use mathlib.Core.Path.{_≡_};
 ghost use lib.ListN.{length};
 ghost use Rattle.rules.specs.Limits.{limits};
@@ -33,6 +33,7 @@ use device_description::Scenario;
 use device_description::describe;
 use device_writing::put_device;
 use pitvorgas::pitvorgas_translate;
+use pitvorgas_answers::RunAnswer;
 use rules::controller::Controller;
 use text::put;
 
@@ -75,54 +76,72 @@ fn note_run(
     }
 }
 
-// Writes the device and slots after a run as a description.
+// Runs the bytes on the slots and answers at the starts of their rooms, and notes why image matches failed.
+fn run_noted(
+    what: Run,
+    bytes: &[u8],
+    d: Scenario,
+    slots: &mut [u8],
+    answers: &[u8],
+    trace: &mut [u8],
+    notes: &mut [u8],
+) -> RunAnswer {
+    let mut old = [0u8; SLOTS_ROOM];
+    put(&mut old, 0, slots);
+    let n = fitted(&old, d.slots);
+    let k = fitted(slots, d.slots);
+    let m = fitted(answers, d.answers);
+    let answer = run_as(what, bytes, d, &mut slots[..k], &answers[..m], trace);
+    note_run(
+        what,
+        bytes,
+        trace,
+        answer.events,
+        &old[..n],
+        &answers[..m],
+        notes,
+    );
+    answer
+}
+
+// Prints what a run did or why it was refused, and gives its status.
+fn tell_run(
+    what: Run,
+    bytes: &[u8],
+    answer: RunAnswer,
+    slots: &[u8],
+    trace: &[u8],
+    notes: &[u8],
+    streams: Streams,
+) -> usize {
+    let subject = subject_of(what, bytes);
+    let mut text = page();
+    let to = put_run(&mut text, 0, answer, subject, bytes, trace, notes, slots);
+    print(streams, &text, to, run_status(answer.refusal, answer.end))
+}
+
+// Writes the device and slots after a run that was not refused as a description, where a file is named.
 fn store_device(
     then: &[u8],
     d: Scenario,
-    number: usize,
+    answer: RunAnswer,
     slots: &[u8],
     status: usize,
     streams: Streams,
 ) -> usize {
+    if then.len() == 0 {
+        return status;
+    }
+    if answer.refusal != 0 {
+        return status;
+    }
     let mut text = io::large_buffer();
-    let to = put_device(&mut text, 0, d, number, slots);
+    let to = put_device(&mut text, 0, d, answer.number, slots);
     let n = fitted(&text, to);
     if store(then, &text[..n], streams) {
         return status;
     }
     FAULT
-}
-
-// Runs the bytes, prints what the run did or why it was refused, and writes what a run left where a file is named.
-fn run_bytes(
-    bytes: &[u8],
-    what: Run,
-    d: Scenario,
-    slots: &mut [u8],
-    answers: &[u8],
-    then: &[u8],
-    streams: Streams,
-) -> usize {
-    let mut old = [0u8; SLOTS_ROOM];
-    let copied = put(&mut old, 0, slots);
-    let n = fitted(&old, copied);
-    let mut trace = trace_room();
-    let answer = run_as(what, bytes, d, slots, answers, &mut trace);
-    let events = answer.events;
-    let mut notes = [0u8; Controller::COMMANDS];
-    note_run(what, bytes, &trace, events, &old[..n], answers, &mut notes);
-    let subject = subject_of(what, bytes);
-    let mut text = page();
-    let to = put_run(&mut text, 0, answer, subject, bytes, &trace, &notes, slots);
-    let status = run_status(answer.refusal, answer.end);
-    let told = print(beside(then, streams), &text, to, status);
-    if then.len() == 0 {
-        return told;
-    }
-    if answer.refusal != 0 {
-        return told;
-    }
-    store_device(then, d, answer.number, slots, told, streams)
 }
 
 // Reads the description, and runs on the device that it describes.
@@ -141,17 +160,20 @@ fn run_described(
     if refused != 0 {
         return say_fault(streams.err, name, description, refused);
     }
-    let n = fitted(&slots, d.slots);
-    let m = fitted(&answers, d.answers);
-    run_bytes(
-        bytes,
+    let mut trace = trace_room();
+    let mut notes = [0u8; Controller::COMMANDS];
+    let answer = run_noted(what, bytes, d, &mut slots, &answers, &mut trace, &mut notes);
+    let k = fitted(&slots, d.slots);
+    let status = tell_run(
         what,
-        d,
-        &mut slots[..n],
-        &answers[..m],
-        then,
-        streams,
-    )
+        bytes,
+        answer,
+        &slots[..k],
+        &trace,
+        &notes,
+        beside(then, streams),
+    );
+    store_device(then, d, answer, &slots[..k], status, streams)
 }
 
 // The files of two names: what is run, and the description.
@@ -190,7 +212,7 @@ fn run_words(what: Run, words: &[u8], streams: Streams) -> usize {
     run_files(what, file, device, word_at(words, 3), streams)
 }
 
-pub(crate) fn run_file(words: &[u8], streams: Streams) -> usize {
+pub fn run_file(words: &[u8], streams: Streams) -> usize {
     let group = word_at(words, 1);
     let rest = later_words(later_words(words));
     match asked_group(group) {
@@ -200,6 +222,6 @@ pub(crate) fn run_file(words: &[u8], streams: Streams) -> usize {
     }
 }
 
-pub(crate) fn run_program_file(words: &[u8], streams: Streams) -> usize {
+pub fn run_program_file(words: &[u8], streams: Streams) -> usize {
     run_words(Run::Program, later_words(words), streams)
 }
