@@ -36,7 +36,12 @@ returns-4 c =
     let p3 = p4 .before in
     let p2 = p3 .before in
     let p1 = p2 .before in
-    rw (ne-eqb _ 2 (p1 .if1 .left), ne-eqb _ 13 (p2 .if2 .left), ne-eqb _ 17 (p3 .if3 .left), eq-eqb _ 20 (p4 .if4 .taken)) (p5 .put4 .ensures)
+    rw (
+      ne-eqb _ 2 (p1 .if1 .left),
+      ne-eqb _ 13 (p2 .if2 .left),
+      ne-eqb _ 17 (p3 .if3 .left),
+      eq-eqb _ 20 (p4 .if4 .taken),
+    ) (p5 .put4 .ensures)
 
 returns-5 : tie.Need-returns-5
 unfolding errorWords
@@ -47,7 +52,13 @@ returns-5 c =
     let p3 = p4 .before in
     let p2 = p3 .before in
     let p1 = p2 .before in
-    rw (ne-eqb _ 2 (p1 .if1 .left), ne-eqb _ 13 (p2 .if2 .left), ne-eqb _ 17 (p3 .if3 .left), ne-eqb _ 20 (p4 .if4 .left), eq-eqb _ 21 (p5 .if5 .taken)) (p6 .put5 .ensures)
+    rw (
+      ne-eqb _ 2 (p1 .if1 .left),
+      ne-eqb _ 13 (p2 .if2 .left),
+      ne-eqb _ 17 (p3 .if3 .left),
+      ne-eqb _ 20 (p4 .if4 .left),
+      eq-eqb _ 21 (p5 .if5 .taken),
+    ) (p6 .put5 .ensures)
 
 returns-6 : tie.Need-returns-6
 unfolding errorWords
@@ -59,7 +70,14 @@ returns-6 c =
     let p3 = p4 .before in
     let p2 = p3 .before in
     let p1 = p2 .before in
-    rw (ne-eqb _ 2 (p1 .if1 .left), ne-eqb _ 13 (p2 .if2 .left), ne-eqb _ 17 (p3 .if3 .left), ne-eqb _ 20 (p4 .if4 .left), ne-eqb _ 21 (p5 .if5 .left), eq-eqb _ 22 (p6 .if6 .taken)) (p7 .put6 .ensures)
+    rw (
+      ne-eqb _ 2 (p1 .if1 .left),
+      ne-eqb _ 13 (p2 .if2 .left),
+      ne-eqb _ 17 (p3 .if3 .left),
+      ne-eqb _ 20 (p4 .if4 .left),
+      ne-eqb _ 21 (p5 .if5 .left),
+      eq-eqb _ 22 (p6 .if6 .taken),
+    ) (p7 .put6 .ensures)
 
 returns-7 : tie.Need-returns-7
 unfolding errorWords
@@ -72,7 +90,15 @@ returns-7 c =
     let p3 = p4 .before in
     let p2 = p3 .before in
     let p1 = p2 .before in
-    rw (ne-eqb _ 2 (p1 .if1 .left), ne-eqb _ 13 (p2 .if2 .left), ne-eqb _ 17 (p3 .if3 .left), ne-eqb _ 20 (p4 .if4 .left), ne-eqb _ 21 (p5 .if5 .left), ne-eqb _ 22 (p6 .if6 .left), eq-eqb _ 28 (p7 .if7 .taken)) (p8 .put7 .ensures)
+    rw (
+      ne-eqb _ 2 (p1 .if1 .left),
+      ne-eqb _ 13 (p2 .if2 .left),
+      ne-eqb _ 17 (p3 .if3 .left),
+      ne-eqb _ 20 (p4 .if4 .left),
+      ne-eqb _ 21 (p5 .if5 .left),
+      ne-eqb _ 22 (p6 .if6 .left),
+      eq-eqb _ 28 (p7 .if7 .taken),
+    ) (p8 .put7 .ensures)
 
 returns-8 : tie.Need-returns-8
 unfolding errorWords
@@ -86,7 +112,16 @@ returns-8 c =
     let p3 = p4 .before in
     let p2 = p3 .before in
     let p1 = p2 .before in
-    rw (ne-eqb _ 2 (p1 .if1 .left), ne-eqb _ 13 (p2 .if2 .left), ne-eqb _ 17 (p3 .if3 .left), ne-eqb _ 20 (p4 .if4 .left), ne-eqb _ 21 (p5 .if5 .left), ne-eqb _ 22 (p6 .if6 .left), ne-eqb _ 28 (p7 .if7 .left), eq-eqb _ 36 (p8 .if8 .taken)) (p9 .put8 .ensures)
+    rw (
+      ne-eqb _ 2 (p1 .if1 .left),
+      ne-eqb _ 13 (p2 .if2 .left),
+      ne-eqb _ 17 (p3 .if3 .left),
+      ne-eqb _ 20 (p4 .if4 .left),
+      ne-eqb _ 21 (p5 .if5 .left),
+      ne-eqb _ 22 (p6 .if6 .left),
+      ne-eqb _ 28 (p7 .if7 .left),
+      eq-eqb _ 36 (p8 .if8 .taken),
+    ) (p9 .put8 .ensures)
 
 returns-9 : tie.Need-returns-9
 unfolding errorWords
@@ -100,7 +135,16 @@ returns-9 c =
     let p3 = p4 .before in
     let p2 = p3 .before in
     let p1 = p2 .before in
-    rw (ne-eqb _ 2 (p1 .if1 .left), ne-eqb _ 13 (p2 .if2 .left), ne-eqb _ 17 (p3 .if3 .left), ne-eqb _ 20 (p4 .if4 .left), ne-eqb _ 21 (p5 .if5 .left), ne-eqb _ 22 (p6 .if6 .left), ne-eqb _ 28 (p7 .if7 .left), ne-eqb _ 36 (p8 .if8 .left)) (p9 .put-labelled .ensures)
+    rw (
+      ne-eqb _ 2 (p1 .if1 .left),
+      ne-eqb _ 13 (p2 .if2 .left),
+      ne-eqb _ 17 (p3 .if3 .left),
+      ne-eqb _ 20 (p4 .if4 .left),
+      ne-eqb _ 21 (p5 .if5 .left),
+      ne-eqb _ 22 (p6 .if6 .left),
+      ne-eqb _ 28 (p7 .if7 .left),
+      ne-eqb _ 36 (p8 .if8 .left),
+    ) (p9 .put-labelled .ensures)
 
 pub put-error-words-spec : {M : Type 1} → statement M
 put-error-words-spec =
