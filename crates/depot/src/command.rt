@@ -1,15 +1,15 @@
 // One command, by its words.
-use crate::inspect::check_file;
-use crate::inspect::list_file;
-use crate::inspect::newer_file;
-use crate::inspect::show_file;
-use crate::translation::translate_file;
 use depot_files::messages::say_count;
 use depot_files::messages::say_nested;
 use depot_files::messages::say_unknown;
 use depot_files::messages::say_usage;
 use depot_files::streams::Streams;
 use depot_files::streams::print;
+use depot_inspect_files::check_file;
+use depot_inspect_files::list_file;
+use depot_inspect_files::newer_file;
+use depot_inspect_files::show_file;
+use depot_inspect_files::translation::translate_file;
 use depot_messages::help::put_help;
 use depot_messages::help::put_version;
 use depot_run_files::run_file;

@@ -1,8 +1,6 @@
 // The depot tool: checks, shows, compares and translates files of envelopes, lists programs, and runs both on described devices.
 mod batch;
 mod command;
-mod inspect;
-mod translation;
 
 use byte_buffer::is;
 use depot_files::messages::say_status;

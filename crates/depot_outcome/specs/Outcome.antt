@@ -14,7 +14,7 @@ use Rattle.text_pieces.specs.Pieces.{between, labelled, counted, lines}
 use Rattle.depot_identifiers.specs.Identifier.{identifierText}
 use Rattle.depot_refusals.specs.Refusals.{refusedText}
 use Rattle.depot_events.specs.Events.{eventsText}
-use Rattle.depot_subjects.specs.declared.Subject.{Subject}
+use Rattle.depot_run_types.specs.declared.Subject.{Subject}
 use Rattle.depot_reasons.specs.Reasons.{reasonText}
 use Rattle.pitvorgas_answers.specs.declared.RunAnswer.{RunAnswer}
 

@@ -12,7 +12,7 @@ use Rattle.rules.specs.Slots.{slotBytes, slotOf}
 use Rattle.text.specs.Text.{Bytes, ascii, least}
 use Rattle.text_pieces.specs.Pieces.{labelled}
 use Rattle.depot_identifiers.specs.Identifier.{identifierText}
-use Rattle.depot_subjects.specs.declared.Subject.{Subject}
+use Rattle.depot_run_types.specs.declared.Subject.{Subject}
 use Rattle.depot_reasons.specs.First.{first}
 use Rattle.depot_reasons.specs.BadSlots.{badSlotsText}
 

@@ -10,8 +10,8 @@ ghost use Rattle.depot_reasons.specs.First.{first};
 mod slots;
 
 use depot_identifiers::put_identifier_at;
+use depot_run_types::Subject;
 use depot_slot_names::slot_with;
-use depot_subjects::Subject;
 use rules::answers::Refusal;
 use rules::controller::Controller;
 use rules::controller::Places;

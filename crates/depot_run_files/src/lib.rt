@@ -17,7 +17,7 @@ use depot_files::streams::page;
 use depot_files::streams::print;
 use depot_matches::note_matches;
 use depot_outcome::put_run;
-use depot_runs::Run;
+use depot_run_types::Run;
 use depot_runs::run_as;
 use depot_subjects::subject_of;
 use depot_usage::Asked;

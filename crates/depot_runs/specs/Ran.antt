@@ -6,8 +6,8 @@ use Rattle.rules.specs.Run.{Input, Ran, runEnvelope}
 use Rattle.rules.specs.ProgramRun.{runProgram}
 use Rattle.pitvorgas_answers.specs.declared.Device.{Device}
 use Rattle.device_description.specs.declared.Scenario.{Scenario}
-use Rattle.depot_runs.specs.declared.Run as The
-use Rattle.depot_runs.specs.declared.Run.the-variants as Run
+use Rattle.depot_run_types.specs.declared.Run as The
+use Rattle.depot_run_types.specs.declared.Run.the-variants as Run
 
 -- the device of a description
 abbrev pub deviceOf : Scenario → Device

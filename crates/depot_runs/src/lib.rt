@@ -3,18 +3,12 @@ ghost use mathlib.Core.Path.{_≡_};
 ghost use Rattle.rules.specs.Lent.{was};
 ghost use Rattle.pitvorgas.specs.Answers.{given, Answers};
 ghost use Rattle.depot_runs.specs.Ran.{deviceOf, ranAs};
+use depot_run_types::Run;
 use device_description::Scenario;
 use pitvorgas::pitvorgas_run;
 use pitvorgas::pitvorgas_run_program;
 use pitvorgas_answers::Device;
 use pitvorgas_answers::RunAnswer;
-
-// What is run. A program has its group in itself.
-pub enum Run {
-    Install,
-    Boot,
-    Program,
-}
 
 fn device_of(d: Scenario) -> Device
     ensures { λ r. ⌜ r ≡ deviceOf d ⌝ }

@@ -11,9 +11,9 @@ use Rattle.pitvorgas_answers.specs.declared.CheckAnswer.{CheckAnswer}
 use Rattle.pitvorgas.specs.Answers.{checkedOf}
 use Rattle.program_test.specs.declared.test.Tested.{Tested}
 use Rattle.program_test.specs.Test.{noProgram, testedOf}
-use Rattle.depot_runs.specs.declared.Run as The
-use Rattle.depot_runs.specs.declared.Run.the-variants as Run
-use Rattle.depot_subjects.specs.declared.Subject.{Subject}
+use Rattle.depot_run_types.specs.declared.Run as The
+use Rattle.depot_run_types.specs.declared.Run.the-variants as Run
+use Rattle.depot_run_types.specs.declared.Subject.{Subject}
 
 abbrev pub isBoot : Group → Bool
 isBoot Install = false

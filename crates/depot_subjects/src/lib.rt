@@ -5,19 +5,11 @@ ghost use Rattle.rules.specs.Check.{check};
 ghost use Rattle.rules.specs.ProgramTest.{programIn};
 ghost use Rattle.pitvorgas.specs.Answers.{checkedOf};
 ghost use Rattle.depot_subjects.specs.Subject.{isBoot, ofChecked, ofProgram, subjectOf};
-use depot_runs::Run;
+use depot_run_types::Run;
+use depot_run_types::Subject;
 use pitvorgas::pitvorgas_check;
 use program_test::test::test_program;
 use rules::answers::Group;
-use rules::controller::Places;
-
-// The group, the number, and the places of the components' identifiers.
-pub struct Subject {
-    pub boot: bool,
-    pub number: usize,
-    pub components: usize,
-    pub ids: Places,
-}
 
 fn of_envelope(boot: bool, envelope: &[u8]) -> Subject
     ensures { λ r. ⌜ r ≡ ofChecked boot (checkedOf (check (was envelope))) ⌝ }

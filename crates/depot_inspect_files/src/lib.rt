@@ -1,4 +1,7 @@
-// What is told of files: check, show, newer, list.
+// What is told of files: check, show, newer, list; and translation. What is read and written no contract can say.
+
+pub mod translation;
+
 use depot_files::files::is_standard;
 use depot_files::files::load;
 use depot_files::messages::say_once;
@@ -15,7 +18,7 @@ use depot_usage::FAULT;
 use depot_usage::refusal_status;
 use pitvorgas::pitvorgas_check;
 
-pub(crate) fn check_file(name: &[u8], streams: Streams) -> usize {
+pub fn check_file(name: &[u8], streams: Streams) -> usize {
     let mut file = io::large_buffer();
     let loaded = load(name, &mut file, streams.err);
     if !loaded.ok {
@@ -28,7 +31,7 @@ pub(crate) fn check_file(name: &[u8], streams: Streams) -> usize {
     print(streams, &text, to, refusal_status(answer.refusal))
 }
 
-pub(crate) fn show_file(name: &[u8], streams: Streams) -> usize {
+pub fn show_file(name: &[u8], streams: Streams) -> usize {
     let mut file = io::large_buffer();
     let loaded = load(name, &mut file, streams.err);
     if !loaded.ok {
@@ -41,7 +44,7 @@ pub(crate) fn show_file(name: &[u8], streams: Streams) -> usize {
     print(streams, &text, to, refusal_status(answer.refusal))
 }
 
-pub(crate) fn newer_file(name: &[u8], other: &[u8], streams: Streams) -> usize {
+pub fn newer_file(name: &[u8], other: &[u8], streams: Streams) -> usize {
     if is_standard(name) {
         if is_standard(other) {
             return say_once(streams.err);
@@ -64,7 +67,7 @@ pub(crate) fn newer_file(name: &[u8], other: &[u8], streams: Streams) -> usize {
     print(streams, &text, to, newest_status(&first[..n], &second[..m]))
 }
 
-pub(crate) fn list_file(name: &[u8], streams: Streams) -> usize {
+pub fn list_file(name: &[u8], streams: Streams) -> usize {
     let mut file = io::large_buffer();
     let loaded = load(name, &mut file, streams.err);
     if !loaded.ok {

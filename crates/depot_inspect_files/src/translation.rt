@@ -50,7 +50,7 @@ fn translate_load(words: &[u8], boot: bool, streams: Streams) -> usize {
     translate_bytes(&file[..n], boot, word_at(words, OUT), streams)
 }
 
-pub(crate) fn translate_file(words: &[u8], streams: Streams) -> usize {
+pub fn translate_file(words: &[u8], streams: Streams) -> usize {
     let group = word_at(words, GROUP);
     match asked_group(group) {
         Asked::Install => translate_load(words, false, streams),
