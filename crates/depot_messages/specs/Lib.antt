@@ -1,3 +1,2 @@
-pub mod Escaped
 pub mod Messages
 pub mod Help

@@ -5,7 +5,7 @@ use mathlib.Core.List.{_++_}
 use lib.Dec.{eqb}
 use Rattle.text.specs.Text.{Bytes, ascii, decimal}
 use Rattle.text_pieces.specs.Pieces.{labelled}
-use Rattle.depot_messages.specs.Escaped.{escaped}
+use Rattle.text_escaped.specs.Escaped.{escaped}
 
 -- a name between two texts
 unfoldable pub around : Bytes → Bytes → Bytes → Bytes

@@ -3,13 +3,12 @@ ghost use Rattle.rules.specs.Lent.{was};
 ghost use Rattle.text.specs.Text.{Writes};
 ghost use Rattle.depot_messages.specs.Messages.{around, unknownText, wordsText, countText, optionText, groupText};
 ghost use Rattle.depot_messages.specs.Messages.{namedText, longText, errorWords, errorText, onceText, nestedText, commandText, statusText};
-use escape::put_escaped;
 use text::put;
 use text::put_byte;
 use text::put_decimal;
+use text_escaped::put_escaped;
 use text_pieces::put_labelled;
 
-mod escape;
 pub mod help;
 
 // The errors that have words, as Linux numbers them.

@@ -4,10 +4,10 @@ use borrow.Author.Needs.{needs}
 use lib.ListN.{length, take}
 use Rattle.text.specs.Text.{Wrote}
 use Rattle.text.proofs.TextLaws.{wrote-length, each-next, each-all}
-use Rattle.depot_messages.specs.Escaped.{escaped}
-use Rattle.depot_messages.proofs.EscapeLaws.{escaped-append, escaped-one, escaped-none}
-use Rattle.depot_messages.proofs.escape.put_escaped.Statement.{statement}
-use Rattle.depot_messages.proofs.escape.put_escaped.Tie as tie
+use Rattle.text_escaped.specs.Escaped.{escaped}
+use Rattle.text_escaped.proofs.EscapeLaws.{escaped-append, escaped-one, escaped-none}
+use Rattle.text_escaped.proofs.put_escaped.Statement.{statement}
+use Rattle.text_escaped.proofs.put_escaped.Tie as tie
 
 abbrev Inv-loop : tie.InvT-loop
 Inv-loop room₀ at s to₀ i₀ room to i = (i ≤ length s) × Wrote (escaped (take i s)) at room₀ to room

@@ -1,8 +1,8 @@
 use borrow.Author.Needs.{needs}
 use Rattle.text.proofs.TextLaws.{wrote-then}
-use Rattle.depot_messages.specs.Escaped.{escape}
-use Rattle.depot_messages.proofs.escape.put_escape.Statement.{statement}
-use Rattle.depot_messages.proofs.escape.put_escape.Tie as tie
+use Rattle.text_escaped.specs.Escaped.{escape}
+use Rattle.text_escaped.proofs.put_escape.Statement.{statement}
+use Rattle.text_escaped.proofs.put_escape.Tie as tie
 
 returns : tie.Need-returns
 unfolding escape

@@ -1,8 +1,8 @@
 use borrow.Author.Needs.{needs}
 use borrow.Author.Tests.{eq-eqb, le-ltb, lt-ltb, ne-eqb}
-use Rattle.depot_messages.specs.Escaped.{escapedByte}
-use Rattle.depot_messages.proofs.escape.put_escaped_byte.Statement.{statement}
-use Rattle.depot_messages.proofs.escape.put_escaped_byte.Tie as tie
+use Rattle.text_escaped.specs.Escaped.{escapedByte}
+use Rattle.text_escaped.proofs.put_escaped_byte.Statement.{statement}
+use Rattle.text_escaped.proofs.put_escaped_byte.Tie as tie
 
 returns : tie.Need-returns
 unfolding escapedByte

@@ -4,7 +4,7 @@ use mathlib.Core.Path.{_≡_, refl, sym}
 use mathlib.Core.List.{[], _∷_, _++_, append-assoc, append-nil}
 use Rattle.text.specs.Text.{Bytes, Wrote}
 use Rattle.text.proofs.TextLaws.{wrote-none}
-use Rattle.depot_messages.specs.Escaped.{escapedByte, escaped}
+use Rattle.text_escaped.specs.Escaped.{escapedByte, escaped}
 
 pub escaped-append : (a b : Bytes) → escaped (a ++ b) ≡ escaped a ++ escaped b
 unfolding escaped
