@@ -1,7 +1,7 @@
-// A name as it is shown: control bytes and the backslash are escaped.
+// A name as it is shown, in lent room: control bytes and the backslash are escaped.
 ghost use Rattle.rules.specs.Lent.{was};
 ghost use Rattle.text.specs.Text.{Writes};
-ghost use Rattle.depot_messages.specs.Escaped.{escape, escapedByte, escaped};
+ghost use Rattle.text_escaped.specs.Escaped.{escape, escapedByte, escaped};
 use text::put;
 use text::put_byte;
 use text::put_hex;
