@@ -1,7 +1,7 @@
 use borrow.Author.Needs.{needs}
-use Rattle.depot_outcome.specs.Outcome.{ownedText}
-use Rattle.depot_outcome.proofs.put_owned.Statement.{statement}
-use Rattle.depot_outcome.proofs.put_owned.Tie as tie
+use Rattle.depot_slot_lines.specs.SlotLines.{ownedText}
+use Rattle.depot_slot_lines.proofs.put_owned.Statement.{statement}
+use Rattle.depot_slot_lines.proofs.put_owned.Tie as tie
 
 returns : tie.Need-returns
 unfolding ownedText

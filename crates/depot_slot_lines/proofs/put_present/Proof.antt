@@ -1,7 +1,7 @@
 use borrow.Author.Needs.{needs}
 use borrow.Author.Tests.{eq-eqb, ne-eqb}
-use Rattle.depot_outcome.proofs.put_present.Statement.{statement}
-use Rattle.depot_outcome.proofs.put_present.Tie as tie
+use Rattle.depot_slot_lines.proofs.put_present.Statement.{statement}
+use Rattle.depot_slot_lines.proofs.put_present.Tie as tie
 
 returns : tie.Need-returns
 returns c = rw (eq-eqb _ 0 (c .before .before .before .before .before .if1 .taken)) (c .before .before .put .ensures)

@@ -1,9 +1,9 @@
 use borrow.Author.Tests.{lt-ltb, le-ltb}
 use borrow.Author.Needs.{needs}
 use Rattle.text.proofs.TextLaws.{wrote-then}
-use Rattle.depot_outcome.specs.Outcome.{ownerText}
-use Rattle.depot_outcome.proofs.put_owner.Statement.{statement}
-use Rattle.depot_outcome.proofs.put_owner.Tie as tie
+use Rattle.depot_slot_lines.specs.SlotLines.{ownerText}
+use Rattle.depot_slot_lines.proofs.put_owner.Statement.{statement}
+use Rattle.depot_slot_lines.proofs.put_owner.Tie as tie
 
 returns : tie.Need-returns
 unfolding ownerText

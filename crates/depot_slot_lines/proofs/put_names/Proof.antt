@@ -1,8 +1,8 @@
 use borrow.Author.Needs.{needs}
 use Rattle.text.proofs.TextLaws.{wrote-then}
-use Rattle.depot_outcome.specs.Outcome.{namesText}
-use Rattle.depot_outcome.proofs.put_names.Statement.{statement}
-use Rattle.depot_outcome.proofs.put_names.Tie as tie
+use Rattle.depot_slot_lines.specs.SlotLines.{namesText}
+use Rattle.depot_slot_lines.proofs.put_names.Statement.{statement}
+use Rattle.depot_slot_lines.proofs.put_names.Tie as tie
 
 returns : tie.Need-returns
 unfolding namesText

@@ -5,9 +5,9 @@ use Rattle.text.specs.Text.{Wrote}
 use Rattle.text.proofs.TextLaws.{wrote-length}
 use Rattle.text_pieces.specs.Pieces.{lines}
 use Rattle.text_pieces.proofs.PieceLaws.{lines-none, lines-next, lines-all}
-use Rattle.depot_outcome.specs.Outcome.{ownedText, slotsText}
-use Rattle.depot_outcome.proofs.put_slots.Statement.{statement}
-use Rattle.depot_outcome.proofs.put_slots.Tie as tie
+use Rattle.depot_slot_lines.specs.SlotLines.{ownedText, slotsText}
+use Rattle.depot_slot_lines.proofs.put_slots.Statement.{statement}
+use Rattle.depot_slot_lines.proofs.put_slots.Tie as tie
 
 abbrev Inv-loop : tie.InvT-loop
 Inv-loop room₀ at slots s ids n end to₀ k₀ room to k = (k ≤ end) × Wrote (lines (ownedText slots s ids n) k) at room₀ to room
