@@ -27,7 +27,8 @@ use Rattle.run_admission.specs.Answer.{inputOf, slotsAfter, traceAfter}
 use Rattle.pitvorgas_answers.specs.Inputs.{controllerOf, groupOf}
 use Rattle.pitvorgas.specs.Answers.{checkedOf, newerOf, translatedOf, roomAfter, ranOf}
 use Rattle.conformance_cases.specs.Fields.{groupFrom, verdictFrom, traceFrom, fillFrom, runHead, isSet, stringEnd, deviceOf}
-use Rattle.conformance_lines.specs.Lines.{checkedText, newerText, headText}
+use Rattle.conformance_check_lines.specs.CheckLines.{checkedText}
+use Rattle.conformance_lines.specs.Lines.{newerText, headText}
 use Rattle.conformance_lent.specs.Lent.{roomFill, translationLine, ranLine}
 
 unfoldable pub malformedText : Bytes

@@ -1,8 +1,8 @@
 use Rattle.text.proofs.TextLaws.{wrote-then}
-use Rattle.conformance_lines.specs.Lines.{acceptedText}
+use Rattle.conformance_check_lines.specs.CheckLines.{acceptedText}
 use borrow.Author.Needs.{needs}
-use Rattle.conformance_lines.proofs.put_accepted.Statement.{statement}
-use Rattle.conformance_lines.proofs.put_accepted.Tie as tie
+use Rattle.conformance_check_lines.proofs.put_accepted.Statement.{statement}
+use Rattle.conformance_check_lines.proofs.put_accepted.Tie as tie
 
 returns : tie.Need-returns
 unfolding acceptedText

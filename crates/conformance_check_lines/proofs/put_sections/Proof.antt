@@ -1,7 +1,7 @@
-use Rattle.conformance_lines.specs.Lines.{sectionsText}
+use Rattle.conformance_check_lines.specs.CheckLines.{sectionsText}
 use borrow.Author.Needs.{needs}
-use Rattle.conformance_lines.proofs.put_sections.Statement.{statement}
-use Rattle.conformance_lines.proofs.put_sections.Tie as tie
+use Rattle.conformance_check_lines.proofs.put_sections.Statement.{statement}
+use Rattle.conformance_check_lines.proofs.put_sections.Tie as tie
 
 returns : tie.Need-returns
 unfolding sectionsText

@@ -1,8 +1,8 @@
 use borrow.Author.Tests.{eq-eqb, ne-eqb}
-use Rattle.conformance_lines.specs.Lines.{checkedText}
+use Rattle.conformance_check_lines.specs.CheckLines.{checkedText}
 use borrow.Author.Needs.{needs}
-use Rattle.conformance_lines.proofs.put_checked.Statement.{statement}
-use Rattle.conformance_lines.proofs.put_checked.Tie as tie
+use Rattle.conformance_check_lines.proofs.put_checked.Statement.{statement}
+use Rattle.conformance_check_lines.proofs.put_checked.Tie as tie
 
 -- back to where the answer is no refusal, from before it is put
 abbrev to-accepted : tie.After-put-accepted-arg → tie.Then1

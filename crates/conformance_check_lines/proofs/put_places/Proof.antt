@@ -6,9 +6,9 @@ use Rattle.text.specs.Text.{Wrote}
 use Rattle.text_pieces.specs.Pieces.{lines}
 use Rattle.text.proofs.TextLaws.{wrote-length}
 use Rattle.text_pieces.proofs.PieceLaws.{lines-none, lines-next, lines-all}
-use Rattle.conformance_lines.specs.Lines.{placeText, placesText}
-use Rattle.conformance_lines.proofs.put_places.Statement.{statement}
-use Rattle.conformance_lines.proofs.put_places.Tie as tie
+use Rattle.conformance_check_lines.specs.CheckLines.{placeText, placesText}
+use Rattle.conformance_check_lines.proofs.put_places.Statement.{statement}
+use Rattle.conformance_check_lines.proofs.put_places.Tie as tie
 
 abbrev Inv-loop : tie.InvT-loop
 Inv-loop room₀ at ids components end to₀ k₀ room to k = (k ≤ end) × Wrote (lines (placeText ids) k) at room₀ to room

@@ -1,8 +1,8 @@
 use borrow.Author.Tests.{eq-eqb, ne-eqb}
-use Rattle.conformance_lines.specs.Lines.{placeText}
+use Rattle.conformance_check_lines.specs.CheckLines.{placeText}
 use borrow.Author.Needs.{needs}
-use Rattle.conformance_lines.proofs.put_place.Statement.{statement}
-use Rattle.conformance_lines.proofs.put_place.Tie as tie
+use Rattle.conformance_check_lines.proofs.put_place.Statement.{statement}
+use Rattle.conformance_check_lines.proofs.put_place.Tie as tie
 
 returns : tie.Need-returns
 unfolding placeText
