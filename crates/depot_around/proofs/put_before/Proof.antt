@@ -1,8 +1,8 @@
 use borrow.Author.Needs.{needs}
 use Rattle.text.proofs.TextLaws.{wrote-then}
-use Rattle.depot_refusals.specs.Refusals.{beforeText}
-use Rattle.depot_refusals.proofs.put_before.Statement.{statement}
-use Rattle.depot_refusals.proofs.put_before.Tie as tie
+use Rattle.depot_around.specs.Around.{beforeText}
+use Rattle.depot_around.proofs.put_before.Statement.{statement}
+use Rattle.depot_around.proofs.put_before.Tie as tie
 
 returns : tie.Need-returns
 unfolding beforeText

@@ -1,10 +1,10 @@
 use borrow.Author.Needs.{needs}
 use Rattle.text_pieces.proofs.PieceLaws.{between-end}
-use Rattle.depot_refusals.specs.Refusals.{shown}
+use Rattle.depot_around.specs.Around.{shown}
 use native.Mathlib.Omega.{arith}
 use Prim.Native.Nat.{_+_}
-use Rattle.depot_refusals.proofs.put_after.Statement.{statement}
-use Rattle.depot_refusals.proofs.put_after.Tie as tie
+use Rattle.depot_around.proofs.put_after.Statement.{statement}
+use Rattle.depot_around.proofs.put_after.Tie as tie
 
 returns : tie.Need-returns
 returns c =

@@ -1,9 +1,9 @@
 use borrow.Author.Needs.{needs}
 use Rattle.text.proofs.TextLaws.{wrote-then}
-use Rattle.depot_refusals.specs.Refusals.{aroundText}
+use Rattle.depot_around.specs.Around.{aroundText}
 use borrow.Author.Tests.{lt-ltb, le-ltb}
-use Rattle.depot_refusals.proofs.put_around.Statement.{statement}
-use Rattle.depot_refusals.proofs.put_around.Tie as tie
+use Rattle.depot_around.proofs.put_around.Statement.{statement}
+use Rattle.depot_around.proofs.put_around.Tie as tie
 
 returns : tie.Need-returns
 unfolding aroundText
