@@ -5,8 +5,8 @@ ghost use Rattle.rules.specs.Lent.{was};
 ghost use Rattle.text.specs.Text.{Writes};
 ghost use Rattle.conformance_format.specs.Format.{format, piece, refusedText, bytesText};
 use text::put_byte;
-use text::put_decimal;
-use text::put_hex;
+use text_numbers::put_decimal;
+use text_numbers::put_hex;
 
 const PERCENT: u8 = 37;
 

@@ -24,7 +24,7 @@ use run_slots::slot::capacity;
 use run_slots::slot::size;
 use text::least;
 use text::put_byte;
-use text::put_hex;
+use text_numbers::put_hex;
 
 fn put_separator(room: &mut [u8], at: usize, k: usize) -> usize
     ensures { λ r. ⌜ Writes (Lines·separator k) at room r ⌝ }

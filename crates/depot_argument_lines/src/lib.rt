@@ -16,8 +16,8 @@ use rules::program_format::ENTRY_LENGTH;
 use rules::tables::Argument;
 use rules_kinds::argument_of;
 use text::put;
-use text::put_hex;
 use text::put_spaces;
+use text_numbers::put_hex;
 
 // The keys that a program has: all but coerce.
 const KEYS: usize = Controller::PARAMETERS - 1;

@@ -24,10 +24,10 @@ use rules::event_format::RESULT;
 use text::least;
 use text::put;
 use text::put_byte;
-use text::put_padded;
 use text::put_spaces;
 use text_names::put_command_wide;
 use text_names::put_result;
+use text_numbers::put_padded;
 
 // The note of an event, none if there is no byte for it.
 fn note_at(notes: &[u8], k: usize) -> u8

@@ -7,8 +7,8 @@ ghost use Rattle.depot_identifiers.specs.Identifier.{allPrint, prints, s
 use depot_items::want;
 use text::put;
 use text::put_byte;
-use text::put_hex;
 use text::put_quoted;
+use text_numbers::put_hex;
 use text_pieces::within;
 
 // Whether all bytes are printed as they are.

@@ -5,8 +5,8 @@ ghost use Rattle.depot_messages.specs.Messages.{around, unknownText, wor
 ghost use Rattle.depot_messages.specs.Messages.{namedText, longText, errorWords, errorText, onceText, nestedText, commandText, statusText};
 use text::put;
 use text::put_byte;
-use text::put_decimal;
 use text_escaped::put_escaped;
+use text_numbers::put_decimal;
 use text_pieces::put_labelled;
 
 pub mod help;

@@ -23,9 +23,9 @@ use rules::program_format::RECORD_BYTES;
 use rules::program_format::TARGET;
 use rules_kinds::condition_of;
 use text::put;
-use text::put_padded;
 use text::put_spaces;
 use text_names::put_command;
+use text_numbers::put_padded;
 use text_pieces::put_code;
 use text_pieces::put_labelled;
 

@@ -16,7 +16,7 @@ use run_slots::slot::capacity;
 use run_slots::slot::size;
 use text::put;
 use text::put_byte;
-use text::put_padded;
+use text_numbers::put_padded;
 use text_pieces::put_part;
 
 // The component whose slot it is: `-` where none of the n has its identifier.

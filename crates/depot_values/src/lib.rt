@@ -10,9 +10,9 @@ use rules::tables::Known;
 use rules::tables::Parameter;
 use rules_lookup::look_up_parameter;
 use rules_tables::tables;
-use text::put_decimal;
-use text::put_hex;
 use text::put_quoted;
+use text_numbers::put_decimal;
+use text_numbers::put_hex;
 
 // A number of as many bytes as a size or a source.
 fn put_number(room: &mut [u8], at: usize, s: &[u8]) -> usize

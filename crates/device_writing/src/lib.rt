@@ -7,7 +7,7 @@ use crate::slots::put_slots;
 use device_description::Scenario;
 use text::put;
 use text::put_byte;
-use text::put_hex;
+use text_numbers::put_hex;
 use text_pieces::put_labelled;
 
 mod slots;

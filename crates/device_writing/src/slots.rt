@@ -18,7 +18,7 @@ use rules::slot_format::SLOT_SIZE;
 use text::least;
 use text::put;
 use text::put_byte;
-use text::put_decimal;
+use text_numbers::put_decimal;
 use text_pieces::put_labelled;
 use text_pieces::put_part;
 

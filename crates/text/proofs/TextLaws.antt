@@ -1,16 +1,16 @@
 -- What is written one after the other, and where a number first stands.
-use Prim.Native.Nat.{ℕ, zero, suc, _+_, _-_, _/_, _%_, _≤_, _<_}
+use Prim.Native.Nat.{ℕ, zero, suc, _+_, _-_, _≤_, _<_}
 use mathlib.Core.Path.{_≡_, refl, sym, ap, _∙_}
 use mathlib.Core.List.{[], _∷_, _++_}
-use mathlib.Core.Bool.{Bool, true, false, cond}
-use lib.Dec.{leb, ltb}
-use borrow.Author.Tests.{leb-true, leb-false, lt-ltb, le-ltb, eq-eqb, ne-eqb}
+use mathlib.Core.Bool.{Bool, true, false}
+use lib.Dec.{leb}
+use borrow.Author.Tests.{leb-true, leb-false, eq-eqb, ne-eqb}
 use native.Mathlib.Omega.{arith}
 use native.Mathlib.Numerals.{add-one}
 use lib.ListN.{length, take, drop, getD, length-append, replicate, drop-of-length-le}
 use lib.Seq.{sets, set-out, length-sets, take-suc, take-all, drop-cons}
 use Rattle.rules.proofs.BytesLaws.{put-append}
-use Rattle.text.specs.Text.{Bytes, Wrote, least, position, digit, digits, hex}
+use Rattle.text.specs.Text.{Bytes, Wrote, least, position}
 
 pub sets-past : (r : Bytes) (i : ℕ) (a : Bytes) → length r ≤ i → sets r i a ≡ r
 sets-past r i [] h = refl
@@ -80,40 +80,6 @@ wrote-again x n f g = rw (add-one n, ← more x n) (wrote-then f g)
     more : (x n : ℕ) → replicate n x ++ (x ∷ []) ≡ x ∷ replicate n x
     more x zero = refl
     more x (suc n) = ap (λ (l : Bytes). x ∷ l) (more x n)
-
-pub hex-append : (a b : Bytes) → hex (a ++ b) ≡ hex a ++ hex b
-unfolding hex
-hex-append [] b = refl
-hex-append (x ∷ a) b = rw (hex-append a b)
-
-pub hex-none : (at : ℕ) (room : Bytes) → Wrote (hex []) at room at room
-unfolding hex
-hex-none at room = wrote-none at room
-
-pub digits-none : (k n : ℕ) → k ≡ 0 → digits k n ≡ []
-unfolding digits
-digits-none k n e = rw e
-
-pub digits-one : (k n : ℕ) → (k ≡ 0 → ⊥) → n < 10 → digits k n ≡ digit n ∷ []
-unfolding digits
-digits-one zero n h l = absurd (h refl)
-digits-one (suc k) n h l = rw (lt-ltb n 10 l)
-
-pub digits-more : (k n : ℕ) → (k ≡ 0 → ⊥) → 10 ≤ n → digits k n ≡ digits (k - 1) (n / 10) ++ (digit (n % 10) ∷ [])
-unfolding digits
-digits-more zero n h l = absurd (h refl)
-digits-more (suc k) n h l =
-    let e : suc k - 1 ≡ k = omega arith in
-    rw (le-ltb n 10 l, e)
-
-pub few-digits : (k n : ℕ) → length (digits k n) ≤ k
-unfolding digits
-few-digits zero n = omega arith
-few-digits (suc k) n = go (ltb n 10) (few-digits k (n / 10))
-  where
-    go : (t : Bool) → length (digits k (n / 10)) ≤ k → length (cond t (digit n ∷ []) (digits k (n / 10) ++ (digit (n % 10) ∷ []))) ≤ suc k
-    go true h = omega arith
-    go false h = rw (length-append (digits k (n / 10)) (digit (n % 10) ∷ [])) (omega arith)
 
 module _ (s : Bytes) (i n : ℕ) where
   pub position-here : i < length s → getD s i 0 ≡ n → position n s ≡ i + position n (drop i s) → i ≡ position n s

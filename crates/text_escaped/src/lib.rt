@@ -4,7 +4,7 @@ ghost use Rattle.text.specs.Text.{Writes};
 ghost use Rattle.text_escaped.specs.Escaped.{escape, escapedByte, escaped};
 use text::put;
 use text::put_byte;
-use text::put_hex;
+use text_numbers::put_hex;
 
 const SPACE: u8 = 32;
 

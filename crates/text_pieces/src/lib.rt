@@ -8,8 +8,8 @@ ghost use Rattle.text.specs.Text.{Writes, hex};
 ghost use Rattle.text_pieces.specs.Pieces.{between, spaced, labelled, counted, coded};
 use text::put;
 use text::put_byte;
-use text::put_decimal;
-use text::put_hex;
+use text_numbers::put_decimal;
+use text_numbers::put_hex;
 
 pub struct Range {
     pub from: usize,

@@ -1,17 +1,17 @@
 use Prim.Native.Nat.{ℕ, _<_, _-_, _/_, _%_}
 use mathlib.Core.List.{[], _∷_}
 use lib.ListN.{length-append}
 use Rattle.text.specs.Text.{digit, digits}
 use native.Mathlib.Omega.{arith}
 use borrow.Author.Needs.{needs}
-use Rattle.text.proofs.TextLaws.{digits-none, digits-one, digits-more, few-digits}
+use Rattle.text_numbers.proofs.NumberLaws.{digits-none, digits-one, digits-more, few-digits}
 use borrow.Fn.Kinds.{In}
 use borrow.Fn.PlainCycle.{Measures, is, falls, and}
-use Rattle.text.proofs.count_digits.Reads as count-digits
-use Rattle.text.proofs.count_digits.Kinds as count-digits-kinds
-use Rattle.text.proofs.+count_digits.Lts-count_digits as count-digits-lts
-use Rattle.text.proofs.+count_digits.{statement}
-use Rattle.text.proofs.+count_digits.Tie.{close}
+use Rattle.text_numbers.proofs.count_digits.Reads as count-digits
+use Rattle.text_numbers.proofs.count_digits.Kinds as count-digits-kinds
+use Rattle.text_numbers.proofs.+count_digits.Lts-count_digits as count-digits-lts
+use Rattle.text_numbers.proofs.+count_digits.{statement}
+use Rattle.text_numbers.proofs.+count_digits.Tie.{close}
 
 abbrev μ-count-digits : Measures 0 count-digits-kinds.ps ℕ
 μ-count-digits κs a = a .1 .0

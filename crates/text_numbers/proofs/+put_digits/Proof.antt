@@ -1,15 +1,16 @@
 use Prim.Native.Nat.{ℕ, _<_}
 use borrow.Author.Needs.{needs}
-use Rattle.text.proofs.TextLaws.{wrote-none, wrote-then, digits-none, digits-one, digits-more}
+use Rattle.text.proofs.TextLaws.{wrote-none, wrote-then}
+use Rattle.text_numbers.proofs.NumberLaws.{digits-none, digits-one, digits-more}
 use borrow.Fn.Kinds.{In}
 use borrow.Fn.PlainCycle.{Measures, is, falls, and}
-use Rattle.text.proofs.put_digits.Reads as put-digits
-use Rattle.text.proofs.put_digits.Kinds as put-digits-kinds
-use Rattle.text.proofs.+put_digits.Lts-put_digits as put-digits-lts
-use Rattle.text.proofs.digit.Reads as digit-reads
+use Rattle.text_numbers.proofs.put_digits.Reads as put-digits
+use Rattle.text_numbers.proofs.put_digits.Kinds as put-digits-kinds
+use Rattle.text_numbers.proofs.+put_digits.Lts-put_digits as put-digits-lts
+use Rattle.text_numbers.proofs.digit.Reads as digit-reads
 use Rattle.text.proofs.put_byte.Reads as put-byte-reads
-use Rattle.text.proofs.+put_digits.{statement}
-use Rattle.text.proofs.+put_digits.Tie.{close}
+use Rattle.text_numbers.proofs.+put_digits.{statement}
+use Rattle.text_numbers.proofs.+put_digits.Tie.{close}
 
 abbrev μ-put-digits : Measures 1 put-digits-kinds.ps ℕ
 μ-put-digits κs a = a .1 .1 .1 .0

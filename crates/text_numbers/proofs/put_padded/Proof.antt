@@ -3,10 +3,10 @@ use mathlib.Core.Path.{_≡_}
 use native.Mathlib.Omega.{arith}
 use borrow.Author.Needs.{needs}
 use lib.ListN.{length}
 use Rattle.text.specs.Text.{decimal}
 use Rattle.text.proofs.TextLaws.{wrote-then}
-use Rattle.text.proofs.put_padded.Statement.{statement}
-use Rattle.text.proofs.put_padded.Tie as tie
+use Rattle.text_numbers.proofs.put_padded.Statement.{statement}
+use Rattle.text_numbers.proofs.put_padded.Tie as tie
 
 returns : tie.Need-returns
 returns c =

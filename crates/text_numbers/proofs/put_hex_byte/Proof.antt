@@ -1,8 +1,8 @@
 use borrow.Author.Needs.{needs}
 use Rattle.text.specs.Text.{hex}
 use Rattle.text.proofs.TextLaws.{wrote-then}
-use Rattle.text.proofs.put_hex_byte.Statement.{statement}
-use Rattle.text.proofs.put_hex_byte.Tie as tie
+use Rattle.text_numbers.proofs.put_hex_byte.Statement.{statement}
+use Rattle.text_numbers.proofs.put_hex_byte.Tie as tie
 
 returns : tie.Need-returns
 unfolding hex

@@ -2,10 +2,11 @@
 use Prim.Native.Nat.{_-_, _≤_}
 use borrow.Author.Needs.{needs}
 use lib.ListN.{length, take}
 use Rattle.text.specs.Text.{Wrote, hex}
-use Rattle.text.proofs.TextLaws.{hex-append, hex-none, wrote-length, each-next, each-all}
-use Rattle.text.proofs.put_hex.Statement.{statement}
-use Rattle.text.proofs.put_hex.Tie as tie
+use Rattle.text.proofs.TextLaws.{wrote-length, each-next, each-all}
+use Rattle.text_numbers.proofs.NumberLaws.{hex-append, hex-none}
+use Rattle.text_numbers.proofs.put_hex.Statement.{statement}
+use Rattle.text_numbers.proofs.put_hex.Tie as tie
 
 abbrev Inv-loop : tie.InvT-loop
 Inv-loop room₀ at s to₀ i₀ room to i = (i ≤ length s) × Wrote (hex (take i s)) at room₀ to room
