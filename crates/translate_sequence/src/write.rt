@@ -1,12 +1,7 @@
 // The records of sequences and commands, written to lent room.
 ghost use mathlib.Core.Path.{_≡_};
-ghost use Prim.Native.Nat.{_+_, _≤_};
-ghost use Rattle.rules.specs.Limits.{limits};
-ghost use mathlib.Core.Bool.{_&&_, cond};
-ghost use Rattle.manifest_accessors.specs.Arguments.{isTrue};
 ghost use Rattle.translate_sequence.specs.Write.{SequenceJob, CommandJob, SequenceWrites, CommandWrites};
 use manifest_accessors::arguments::COERCE_FALSE;
-use manifest_accessors::arguments::COERCE_TRUE;
 use manifest_accessors::heads::open;
 use rules_kinds::holds_alternatives;
 use rules_kinds::holds_sequence;
@@ -17,26 +12,8 @@ use translate_record::record::put_command;
 use translate_record::record::put_jump;
 use translate_size::sizes::size_command;
 use translate_size::sizes::size_sequence;
-
-// The target of a failed condition: `beyond` in a sequence that a run sequence holds, where coerce is true.
-fn caught(coercible: bool, coerce: usize, beyond: usize, target: usize) -> usize
-    ensures { λ r. ⌜ r ≡ cond (coercible && isTrue coerce) beyond target ⌝ }
-{
-    if coercible {
-        if coerce == COERCE_TRUE {
-            return beyond;
-        }
-    }
-    target
-}
-
-// The record after a sequence of that many, the first of which has number n: there a failure under the sequence's coerce goes on.
-fn record_after(n: usize, records: usize) -> usize
-    requires { ⌜ n + records ≤ limits .records ⌝ }
-    ensures { λ r. ⌜ r ≡ n + records ⌝ }
-{
-    n + records
-}
+use translate_targets::caught;
+use translate_targets::record_after;
 
 // The state at `at` with the index and coerce of `state`: the records from there follow those of `now`.
 fn enter(state: WriteState, at: usize, now: WriteState) -> WriteState

@@ -25,9 +25,9 @@ use Rattle.translate_sequence.proofs.write.+write_command+write_sequenc
 use Rattle.manifest_accessors.proofs.heads.open.Reads as open-reads
 use Rattle.translate_record.proofs.record.put_command.Reads as put-command-reads
 use Rattle.translate_record.proofs.record.put_jump.Reads as put-jump-reads
-use Rattle.translate_sequence.proofs.write.caught.Reads as caught-reads
+use Rattle.translate_targets.proofs.caught.Reads as caught-reads
 use Rattle.translate_sequence.proofs.write.enter.Reads as enter-reads
-use Rattle.translate_sequence.proofs.write.record_after.Reads as record-after-reads
+use Rattle.translate_targets.proofs.record_after.Reads as record-after-reads
 use Rattle.rules_kinds.proofs.holds_alternatives.Reads as holds-alternatives-reads
 use Rattle.rules_kinds.proofs.holds_sequence.Reads as holds-sequence-reads
 use Rattle.rules_kinds.proofs.kind_of.Reads as kind-of-reads

@@ -1,6 +1,6 @@
 use borrow.Author.Tests.{eq-eqb, ne-eqb}
-use Rattle.translate_sequence.proofs.write.caught.Statement.{statement}
-use Rattle.translate_sequence.proofs.write.caught.Tie as tie
+use Rattle.translate_targets.proofs.caught.Statement.{statement}
+use Rattle.translate_targets.proofs.caught.Tie as tie
 
 returns : tie.Need-returns
 returns c = rw (c .before .if1 .taken, eq-eqb _ _ (c .if2 .taken))
