@@ -23,7 +23,7 @@ use Rattle.run_slot_search.specs.Search.{namesAt}
 use Rattle.run_slot_search.proofs.SearchLaws.{name-at, names-count}
 use Rattle.program_parameters.proofs.PartLaws.{rest-at, same-3}
 use Rattle.program_parameters.specs.Entries.{nextIn}
-use Rattle.program_record.specs.Record.{mark₁, mark₂}
+use Rattle.program_heads.specs.Heads.{mark₁, mark₂}
 use Rattle.program_names.specs.Names.{nameEnd, placesFrom, NamesAre}
 
 pub marked-at : (p : Bytes) (at c : ℕ) → at + 3 ≤ length p →

@@ -27,7 +27,7 @@ use Rattle.component_ids.specs.Identifiers.{repeated}
 use Rattle.program_records.specs.declared.Records.{Records}
 use Rattle.program_test.specs.declared.test.Tested.{Tested}
 use Rattle.program_parameters.specs.Entries.{nextIn}
-use Rattle.program_record.specs.Record.{mark₁, mark₂}
+use Rattle.program_heads.specs.Heads.{mark₁, mark₂}
 use Rattle.program_records.specs.Records.{recordsAre}
 use Rattle.program_names.specs.Names.{NamesAre}
 use Rattle.program_test.specs.Test.{startFits, noProgram, TestedAs}

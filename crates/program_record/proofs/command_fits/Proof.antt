@@ -2,7 +2,8 @@ use native.Mathlib.Omega.{arith}
 use borrow.Author.Needs.{needs}
 use denote.Ref.{now}
 use Rattle.rules.specs.ProgramFormat.{targetFrom}
-use Rattle.program_record.proofs.RecordLaws.{two-is, not-allowed, no-component, not-fitting, decided}
+use Rattle.program_heads.proofs.HeadLaws.{two-is}
+use Rattle.program_record.proofs.RecordLaws.{not-allowed, no-component, not-fitting, decided}
 use Rattle.program_record.proofs.command_fits.Statement.{statement}
 use Rattle.program_record.proofs.command_fits.Tie as tie
 

@@ -2,9 +2,9 @@ use native.Mathlib.Omega.{arith}
 use borrow.Author.Needs.{needs}
 use denote.Ref.{now}
 use Rattle.rules.specs.ProgramFormat.{argumentFrom}
-use Rattle.program_record.proofs.RecordLaws.{two-is, end-short, end-mark, end-mark-2, end-long, end-is}
-use Rattle.program_record.proofs.record_end.Statement.{statement}
-use Rattle.program_record.proofs.record_end.Tie as tie
+use Rattle.program_heads.proofs.HeadLaws.{two-is, end-short, end-mark, end-mark-2, end-long, end-is}
+use Rattle.program_heads.proofs.record_end.Statement.{statement}
+use Rattle.program_heads.proofs.record_end.Tie as tie
 
 -- back to the entry, from where its first mark was found
 abbrev to-entry : tie.After-shared-slice-known3 → tie.Start

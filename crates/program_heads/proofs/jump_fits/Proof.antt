@@ -2,9 +2,9 @@ use native.Mathlib.Omega.{arith}
 use borrow.Author.Needs.{needs}
 use denote.Ref.{now}
 use Rattle.rules.specs.ProgramFormat.{placeFrom, targetFrom}
-use Rattle.program_record.proofs.RecordLaws.{two-is, jump-code, jump-component, jump-place, jump-size, jump-back, jump-on}
-use Rattle.program_record.proofs.jump_fits.Statement.{statement}
-use Rattle.program_record.proofs.jump_fits.Tie as tie
+use Rattle.program_heads.proofs.HeadLaws.{two-is, jump-code, jump-component, jump-place, jump-size, jump-back, jump-on}
+use Rattle.program_heads.proofs.jump_fits.Statement.{statement}
+use Rattle.program_heads.proofs.jump_fits.Tie as tie
 
 -- back to the entry, from where its code was read
 abbrev to-entry : tie.After-wide → tie.Start
