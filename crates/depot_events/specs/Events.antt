@@ -7,7 +7,8 @@ use lib.ListN.{length, getD}
 use Rattle.rules.specs.Bytes.{twoAt}
 use Rattle.rules.specs.Step.{eventBytes, eventCode, eventComponent, eventPlace, eventResult}
 use Rattle.text.specs.Text.{Bytes, ascii, padded, least}
-use Rattle.text_names.specs.Words.{wide, commandWords, resultWords}
+use Rattle.text_rows.specs.Rows.{wide}
+use Rattle.text_names.specs.Words.{commandWords, resultWords}
 use Rattle.text_pieces.specs.Pieces.{lines}
 use Rattle.depot_events.specs.Notes.{slotAbsent, otherDigest, otherSize}
 

@@ -10,7 +10,8 @@ use Rattle.rules.specs.ProgramFormat.{JUMP, NONE, codeFrom, componentFrom, plac
 use Rattle.rules.specs.ProgramFormat.{recordSize as ProgramFormat·recordSize}
 use Rattle.text.specs.Text.{Bytes, ascii, padded}
 use Rattle.text_pieces.specs.Pieces.{labelled, coded}
-use Rattle.text_names.specs.Words.{wide, commandWords}
+use Rattle.text_rows.specs.Rows.{wide}
+use Rattle.text_names.specs.Words.{commandWords}
 use Rattle.depot_argument_lines.specs.Items.{sizeIn, itemsText}
 use Rattle.depot_argument_lines.specs.Arguments.{argumentText}
 

@@ -6,7 +6,7 @@ ghost use Rattle.rules.specs.Lent.{was};
 ghost use Rattle.rules.specs.ProgramFormat.{argumentFrom};
 ghost use Rattle.rules.specs.ProgramFormat.{recordSize as ProgramFormat·recordSize};
 ghost use Rattle.text.specs.Text.{Writes};
-ghost use Rattle.text_names.specs.Words.{wide as Words·wide};
+ghost use Rattle.text_rows.specs.Rows.{wide as Rows·wide};
 ghost use Rattle.rules.specs.Bytes.{twoAt};
 ghost use Rattle.depot_record_lines.specs.Lines.{column, nameText, lineText, targetText, failureText, jumpText};
 ghost use Rattle.depot_record_lines.specs.Lines.{recordSize, commandText, recordText, recordsText};
@@ -53,7 +53,7 @@ fn gap(from: usize, to: usize) -> usize
 }
 
 fn put_label(room: &mut [u8], at: usize, code: usize) -> usize
-    ensures { λ r. ⌜ Writes (Words·wide column (nameText code)) at room r ⌝ }
+    ensures { λ r. ⌜ Writes (Rows·wide column (nameText code)) at room r ⌝ }
 {
     let a = put_name(room, at, code);
     put_spaces(room, a, gap(at, a))

@@ -2,9 +2,7 @@
 use Prim.Native.Nat.{ℕ, _+_, _-_}
 use mathlib.Core.Bool.{cond}
 use mathlib.Core.List.{List, [], _∷_, _++_, map}
-use Prim.Native.String.{String}
 use lib.Dec.{eqb}
-use lib.ListN.{length, replicate}
 use Rattle.rules.specs.declared.answers.Refusal.the-variants as R
 use Rattle.rules.specs.declared.answers.Failure.the-variants as F
 use Rattle.rules.specs.declared.answers.End.the-variants as E
@@ -13,17 +11,7 @@ use Rattle.rules.specs.Commands.{params, COMMON, PAYLOAD_FETCH, INSTALL, VALIDA
 use Rattle.rules.specs.Commands.{commands as Commands·commands}
 use Rattle.rules.specs.ProgramFormat.{JUMP}
 use Rattle.text.specs.Text.{Bytes, ascii}
-use Rattle.text_names.specs.Rows.{Row, _means_, wordOf}
-
--- a word, and spaces up to a width
-unfoldable pub wide : ℕ → Bytes → Bytes
-wide width w = w ++ replicate (width - length w) 32
-
--- the words of numbers, each in its place
-abbrev pub named : List ℕ → List String → List Row
-named [] ws = []
-named (n ∷ ns) [] = []
-named (n ∷ ns) (w ∷ ws) = n means w ∷ named ns ws
+use Rattle.text_rows.specs.Rows.{Row, _means_, named, wordOf}
 
 -- the command table in its order, and the jump of a program
 unfoldable pub commands : List Row

@@ -1,4 +1,4 @@
-use Rattle.text_names.specs.Words.{wide}
+use Rattle.text_rows.specs.Rows.{wide}
 use Rattle.depot_record_lines.specs.Lines.{column}
 use Rattle.depot_record_lines.proofs.LineLaws.{wrote-wide}
 use borrow.Author.Needs.{needs}

@@ -1,6 +1,6 @@
 use borrow.Author.Needs.{needs}
 use Rattle.text_names.specs.Words.{commandWords}
-use Rattle.text_names.proofs.RowLaws.{wide-none}
+use Rattle.text_rows.proofs.RowLaws.{wide-none}
 use Rattle.text_names.proofs.put_command.Statement.{statement}
 use Rattle.text_names.proofs.put_command.Tie as tie
 

@@ -1,8 +1,8 @@
 use mathlib.Core.Path.{refl}
 use borrow.Author.Needs.{needs}
-use Rattle.text_names.specs.Rows.{numbers, words, plain, barless}
+use Rattle.text_rows.specs.Rows.{numbers, words, plain, barless}
 use Rattle.text_names.specs.Words.{commands, commandWords}
-use Rattle.text_names.proofs.RowLaws.{wrote-wide-word}
+use Rattle.text_rows.proofs.RowLaws.{wrote-wide-word}
 use Rattle.text_names.proofs.put_command_wide.Statement.{statement}
 use Rattle.text_names.proofs.put_command_wide.Tie as tie
 

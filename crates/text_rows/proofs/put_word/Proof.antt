@@ -1,7 +1,7 @@
 use borrow.Author.Needs.{needs}
-use Rattle.text_names.proofs.RowLaws.{word-part}
-use Rattle.text_names.proofs.put_word.Statement.{statement}
-use Rattle.text_names.proofs.put_word.Tie as tie
+use Rattle.text_rows.proofs.RowLaws.{word-part}
+use Rattle.text_rows.proofs.put_word.Statement.{statement}
+use Rattle.text_rows.proofs.put_word.Tie as tie
 
 returns : tie.Need-returns
 returns c =

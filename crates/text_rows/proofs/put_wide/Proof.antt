@@ -5,9 +5,9 @@ use native.Mathlib.Omega.{arith}
 use borrow.Author.Needs.{needs}
 use lib.ListN.{length}
 use Rattle.text.proofs.TextLaws.{wrote-then}
-use Rattle.text_names.specs.Words.{wide}
-use Rattle.text_names.proofs.put_wide.Statement.{statement}
-use Rattle.text_names.proofs.put_wide.Tie as tie
+use Rattle.text_rows.specs.Rows.{wide}
+use Rattle.text_rows.proofs.put_wide.Statement.{statement}
+use Rattle.text_rows.proofs.put_wide.Tie as tie
 
 returns : tie.Need-returns
 unfolding wide

@@ -1,9 +1,10 @@
 -- A table of words by number, and its two lists as the code has them: the numbers, and the words with a bar after each.
-use Prim.Native.Nat.{ℕ, zero, suc}
+use Prim.Native.Nat.{ℕ, zero, suc, _-_}
 use Prim.Native.String.{String}
 use mathlib.Core.Bool.{Bool, true, false, cond}
 use mathlib.Core.List.{List, [], _∷_, _++_}
 use lib.Dec.{eqb}
+use lib.ListN.{length, replicate}
 use Rattle.text.specs.Text.{Bytes, ascii}
 
 pub record Row : Type 0 where
@@ -13,6 +14,12 @@ pub record Row : Type 0 where
 infixl 70 _means_
 abbrev pub _means_ : ℕ → String → Row
 n means w = record { number = n; word = ascii w }
+
+-- the words of numbers, each in its place
+abbrev pub named : List ℕ → List String → List Row
+named [] ws = []
+named (n ∷ ns) [] = []
+named (n ∷ ns) (w ∷ ws) = n means w ∷ named ns ws
 
 -- the word of a number
 unfoldable pub wordOf : ℕ → List Row → Bytes
@@ -45,3 +52,7 @@ barless (b ∷ s) = cond (eqb b 124) false (barless s)
 unfoldable pub plain : List Row → Bool
 plain [] = true
 plain (r ∷ rs) = cond (barless (r .word)) (plain rs) false
+
+-- a word, and spaces up to a width
+unfoldable pub wide : ℕ → Bytes → Bytes
+wide width w = w ++ replicate (width - length w) 32

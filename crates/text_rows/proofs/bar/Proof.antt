@@ -3,10 +3,10 @@ use mathlib.Core.Path.{_≡_, refl}
 use mathlib.Core.List.{_++_}
 use borrow.Author.Needs.{needs}
 use lib.ListN.{length, take, drop}
-use Rattle.text_names.specs.Rows.{before}
-use Rattle.text_names.proofs.RowLaws.{before-here, before-next, before-none}
-use Rattle.text_names.proofs.bar.Statement.{statement}
-use Rattle.text_names.proofs.bar.Tie as tie
+use Rattle.text_rows.specs.Rows.{before}
+use Rattle.text_rows.proofs.RowLaws.{before-here, before-next, before-none}
+use Rattle.text_rows.proofs.bar.Statement.{statement}
+use Rattle.text_rows.proofs.bar.Tie as tie
 
 abbrev Inv-loop : tie.InvT-loop
 Inv-loop s i₀ i = (i ≤ length s) × (before s ≡ take i s ++ before (drop i s))

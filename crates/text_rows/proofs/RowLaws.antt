@@ -11,8 +11,8 @@ use native.Mathlib.Numerals.{add-one}
 use borrow.Author.Tests.{eq-eqb, ne-eqb}
 use Rattle.rules.proofs.BytesLaws.{part-rest}
 use Rattle.text.specs.Text.{Bytes, Wrote, position}
-use Rattle.text_names.specs.Words.{wide}
-use Rattle.text_names.specs.Rows.{Row, wordOf, numbers, words, before, after, barless, plain}
+use Rattle.text_rows.specs.Rows.{wide}
+use Rattle.text_rows.specs.Rows.{Row, wordOf, numbers, words, before, after, barless, plain}
 
 module _ (s : Bytes) (i : ℕ) where
   pub before-here : i < length s → getD s i 0 ≡ 124 → before s ≡ take i s ++ before (drop i s) → take i s ≡ before s

@@ -3,10 +3,10 @@ use mathlib.Core.Path.{_≡_, refl, _∙_}
 use mathlib.Core.Logic.{⊎-elim}
 use borrow.Author.Needs.{needs}
 use lib.ListN.{length, drop}
-use Rattle.text_names.specs.Rows.{after}
-use Rattle.text_names.proofs.RowLaws.{after-bar, after-next, after-none, after-zero}
-use Rattle.text_names.proofs.skip.Statement.{statement}
-use Rattle.text_names.proofs.skip.Tie as tie
+use Rattle.text_rows.specs.Rows.{after}
+use Rattle.text_rows.proofs.RowLaws.{after-bar, after-next, after-none, after-zero}
+use Rattle.text_rows.proofs.skip.Statement.{statement}
+use Rattle.text_rows.proofs.skip.Tie as tie
 
 abbrev Inv-loop : tie.InvT-loop
 Inv-loop s k left₀ i₀ left i = (i ≤ length s) × (after left (drop i s) ≡ after k s)
