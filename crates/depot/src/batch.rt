@@ -1,13 +1,12 @@
 // A batch: a command on each line of a file. Messages go to standard output too, and each command's status stands below it.
 use crate::command::run_command;
 use depot_files::files::load;
-use depot_files::messages::say_status;
 use depot_files::streams::Streams;
 use depot_files::streams::fitted;
-use depot_files::streams::write;
-use depot_messages::put_command;
-use depot_usage::DONE;
-use depot_usage::FAULT;
+use depot_files::streams::tell;
+use depot_messages::Message;
+use depot_status::DONE;
+use depot_status::FAULT;
 use depot_words::put_words;
 use device_text::line::line_at;
 use device_text::line::next_line;
@@ -19,24 +18,17 @@ fn greater(a: usize, b: usize) -> usize {
     a
 }
 
-fn say_command(fd: i32, line: &[u8]) {
-    let mut text = io::large_buffer();
-    let to = put_command(&mut text, 0, line);
-    write(fd, &text, to);
-}
-
 // One line; an empty one is passed over.
 fn run_line(line: &[u8], streams: Streams) -> usize {
     if line.len() == 0 {
         return DONE;
     }
-    say_command(streams.out, line);
+    tell(streams, Message::Command, line, 0, DONE);
     let mut words = io::large_buffer();
     let n = put_words(&mut words, 0, line);
     let m = fitted(&words, n);
     let status = run_command(&words[..m], streams);
-    say_status(streams.out, status);
-    status
+    tell(streams, Message::Status, b"", status, status)
 }
 
 // All lines, and the greatest status among them.

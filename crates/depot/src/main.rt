@@ -1,11 +1,16 @@
 // The depot tool: checks, shows, compares and translates files of envelopes, lists programs, and runs both on described devices.
 mod batch;
 mod command;
+mod inspection;
+mod runs;
+mod translation;
 
 use byte_buffer::is;
-use depot_files::messages::say_status;
+use depot_files::files::beside;
 use depot_files::streams::Streams;
 use depot_files::streams::fitted;
+use depot_files::streams::tell;
+use depot_messages::Message;
 use depot_usage::Job;
 use depot_usage::fits;
 use depot_usage::job_of;
@@ -57,7 +62,7 @@ fn run_words(words: &[u8], streams: Streams) -> usize {
 fn run_told(words: &[u8], streams: Streams) {
     if is(word_at(words, 0), b"--status") {
         let status = run_words(later_words(words), streams);
-        say_status(streams.err, status);
+        tell(beside(b"-", streams), Message::Status, b"", status, status);
         return;
     }
     run_words(words, streams);

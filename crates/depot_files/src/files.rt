@@ -1,11 +1,17 @@
 // Files that the command line names; `-` is standard input, or standard output.
-ghost use Rattle.rules.specs.Lent.{left};
+ghost use mathlib.Core.Path.{_≡_};
+ghost use Rattle.rules.specs.Lent.{was, left};
+ghost use Rattle.rules.specs.Bytes.{same};
 ghost use Rattle.io.specs.Counts.{Counts};
+ghost use Rattle.text.specs.Text.{ascii};
+ghost use Rattle.depot_status.specs.Status.{Told};
+ghost use Rattle.depot_files.specs.Files.{reportStreams};
 use crate::streams::Streams;
-use crate::streams::say_error;
-use crate::streams::write;
+use crate::streams::fault;
+use crate::streams::fault_of;
+use crate::streams::print;
 use byte_buffer::is;
-use depot_messages::put_long;
+use depot_messages::Message;
 use libc::STDIN_FILENO;
 
 // Whether a file was read, and how many bytes it has.
@@ -15,14 +21,10 @@ pub struct Loaded {
 }
 
 // Whether a name stands for standard input or output.
-pub fn is_standard(name: &[u8]) -> bool {
+pub fn is_standard(name: &[u8]) -> bool
+    ensures { λ r. ⌜ r ≡ same (was name) (ascii "-") ⌝ }
+{
     is(name, b"-")
-}
-
-fn say_long(err: i32, name: &[u8], limit: usize) {
-    let mut text = io::large_buffer();
-    let to = put_long(&mut text, 0, name, limit);
-    write(err, &text, to);
 }
 
 // The bytes of an open file, if it ends within the buffer.
@@ -34,11 +36,11 @@ fn read_whole(fd: i32, name: &[u8], buf: &mut [u8], err: i32) -> Loaded
     let mut next = [0u8; 1];
     let more = libc::read(fd, &mut next);
     if more < 0 {
-        say_error(err, name);
+        fault_of(err, name);
         return Loaded { ok: false, n };
     }
     if more > 0 {
-        say_long(err, name, buf.len());
+        fault(err, Message::Long, name, buf.len());
         return Loaded { ok: false, n };
     }
     Loaded { ok: true, n }
@@ -53,7 +55,7 @@ pub fn load(name: &[u8], buf: &mut [u8], err: i32) -> Loaded
     }
     let fd = os::open_read(name);
     if fd < 0 {
-        say_error(err, name);
+        fault_of(err, name);
         return Loaded { ok: false, n: 0 };
     }
     let loaded = read_whole(fd, name, buf, err);
@@ -62,40 +64,40 @@ pub fn load(name: &[u8], buf: &mut [u8], err: i32) -> Loaded
 }
 
 // Writes a new file, or none: a file that is there already is left as it is.
-fn store_new(name: &[u8], bytes: &[u8], err: i32) -> bool {
+fn store_new(name: &[u8], bytes: &[u8], err: i32, status: usize) -> usize
+    ensures { λ r. ⌜ Told status r ⌝ }
+{
     let fd = os::create(name);
     if fd < 0 {
-        say_error(err, name);
-        return false;
+        return fault_of(err, name);
     }
-    let written = io::write_all(fd, bytes);
-    if !written {
-        say_error(err, name);
-        os::unlink(name);
+    if io::write_all(fd, bytes) {
+        libc::close(fd);
+        return status;
     }
+    let faulty = fault_of(err, name);
+    os::unlink(name);
     libc::close(fd);
-    written
+    faulty
 }
 
-// The same, or standard output.
-pub fn store(name: &[u8], bytes: &[u8], streams: Streams) -> bool {
-    if !is_standard(name) {
-        return store_new(name, bytes, streams.err);
+// The same, or standard output; the status is that of the command so far.
+pub fn store(name: &[u8], bytes: &[u8], streams: Streams, status: usize) -> usize
+    ensures { λ r. ⌜ Told status r ⌝ }
+{
+    if is_standard(name) {
+        return print(streams, bytes, bytes.len(), status);
     }
-    let written = io::write_all(streams.out, bytes);
-    if !written {
-        say_error(streams.err, b"standard output");
-    }
-    written
+    store_new(name, bytes, streams.err, status)
 }
 
 // Where the report goes beside a file that is written: not to standard output where the file does.
-pub fn beside(name: &[u8], streams: Streams) -> Streams {
+pub fn beside(name: &[u8], streams: Streams) -> Streams
+    ensures { λ r. ⌜ r ≡ reportStreams (was name) streams ⌝ }
+{
+    let err = streams.err;
     if is_standard(name) {
-        return Streams {
-            out: streams.err,
-            err: streams.err,
-        };
+        return Streams { out: err, err };
     }
     streams
 }

@@ -1,4 +1,3 @@
 // Files and streams for the depot tool, and messages about them. What is read and written no contract can say.
 pub mod files;
-pub mod messages;
 pub mod streams;

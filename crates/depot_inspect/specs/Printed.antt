@@ -14,12 +14,18 @@ use Rattle.pitvorgas_answers.specs.declared.NewerAnswer.{NewerAnswer}
 use Rattle.pitvorgas.specs.Answers.{checkedOf, newerOf}
 use Rattle.text.specs.Text.{Bytes}
 use Rattle.depot_refusals.specs.Refusals.{refusedText}
-use Rattle.depot_report.specs.Report.{newerText}
+use Rattle.depot_report.specs.Report.{checkedText, newerText}
 use Rattle.depot_show.specs.Manifest.{partsText}
 use Rattle.depot_listing.specs.Listing.{programText}
-use Rattle.depot_usage.specs.Usage.{DONE, REFUSED}
+use Rattle.depot_status.specs.Status.{DONE, REFUSED, refusalStatus}
+use Rattle.depot_inspect.specs.declared.View.{View}
+use Rattle.depot_inspect.specs.declared.View.the-variants.{Check, Show, List}
 
--- the manifest of an envelope, or its refusal
+-- whether an envelope is accepted
+abbrev pub checkText : Bytes → Bytes
+checkText s = checkedText (checkedOf (check s)) s
+
+-- its manifest, or its refusal
 unfoldable pub shownOf : CheckAnswer → Bytes → Bytes
 shownOf a s =
     cond (eqb (a .refusal) 0) (partsText s (a .number) (a .components) (a .ids) (a .sections)) (refusedText (a .refusal) (a .place) s)
@@ -47,3 +53,17 @@ newestStatus s t = cond (eqb (newerOf (newer s t) .to) 0) REFUSED DONE
 
 unfoldable pub listedStatus : Bytes → ℕ
 listedStatus s = cond (accepted (programIn s)) DONE REFUSED
+
+abbrev pub checkStatus : Bytes → ℕ
+checkStatus s = refusalStatus (checkedOf (check s) .refusal)
+
+-- what is told of one file
+unfoldable pub viewText : View → Bytes → Bytes
+viewText Check s = checkText s
+viewText Show s = shownText s
+viewText List s = listedText s
+
+unfoldable pub viewStatus : View → Bytes → ℕ
+viewStatus Check s = checkStatus s
+viewStatus Show s = checkStatus s
+viewStatus List s = listedStatus s

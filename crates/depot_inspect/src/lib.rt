@@ -2,20 +2,37 @@
 ghost use mathlib.Core.Path.{_≡_};
 ghost use Rattle.rules.specs.Lent.{was};
 ghost use Rattle.text.specs.Text.{Writes};
-ghost use Rattle.depot_inspect.specs.Printed.{shownText, newestText, listedText, newestStatus, listedStatus};
+ghost use Rattle.depot_inspect.specs.Printed.{checkText, shownText, newestText, listedText, viewText};
+ghost use Rattle.depot_inspect.specs.Printed.{newestStatus, listedStatus, checkStatus, viewStatus};
 use depot_listing::put_program;
 use depot_refusals::put_refused;
+use depot_report::put_checked;
 use depot_report::put_newer;
 use depot_show::put_parts;
-use depot_usage::DONE;
-use depot_usage::REFUSED;
+use depot_status::DONE;
+use depot_status::REFUSED;
+use depot_status::refusal_status;
 use pitvorgas::pitvorgas_check;
 use pitvorgas::pitvorgas_newer;
 use pitvorgas::pitvorgas_test_program;
 use rules::answers::Refusal;
 
-// The manifest of an envelope, or its refusal, at the start of the room: the place after it.
-pub fn put_shown(room: &mut [u8], envelope: &[u8]) -> usize
+// What can be told of one file.
+pub enum View {
+    Check,
+    Show,
+    List,
+}
+
+// Whether an envelope is accepted, at the start of the room: the place after it.
+fn put_check(room: &mut [u8], envelope: &[u8]) -> usize
+    ensures { λ r. ⌜ Writes (checkText (was envelope)) 0 room r ⌝ }
+{
+    put_checked(room, 0, pitvorgas_check(envelope), envelope)
+}
+
+// Its manifest, or its refusal.
+fn put_shown(room: &mut [u8], envelope: &[u8]) -> usize
     ensures { λ r. ⌜ Writes (shownText (was envelope)) 0 room r ⌝ }
 {
     let answer = pitvorgas_check(envelope);
@@ -61,7 +78,7 @@ pub fn newest_status(first: &[u8], second: &[u8]) -> usize
 }
 
 // The records of a program; below its refusal, if it is refused.
-pub fn put_listed(room: &mut [u8], program: &[u8]) -> usize
+fn put_listed(room: &mut [u8], program: &[u8]) -> usize
     ensures { λ r. ⌜ Writes (listedText (was program)) 0 room r ⌝ }
 {
     if pitvorgas_test_program(program) {
@@ -71,11 +88,38 @@ pub fn put_listed(room: &mut [u8], program: &[u8]) -> usize
     put_program(room, to, program)
 }
 
-pub fn listed_status(program: &[u8]) -> usize
+fn listed_status(program: &[u8]) -> usize
     ensures { λ r. ⌜ r ≡ listedStatus (was program) ⌝ }
 {
     if pitvorgas_test_program(program) {
         return DONE;
     }
     REFUSED
+}
+
+fn check_status(envelope: &[u8]) -> usize
+    ensures { λ r. ⌜ r ≡ checkStatus (was envelope) ⌝ }
+{
+    let answer = pitvorgas_check(envelope);
+    refusal_status(answer.refusal)
+}
+
+pub fn put_view(room: &mut [u8], view: View, s: &[u8]) -> usize
+    ensures { λ r. ⌜ Writes (viewText view (was s)) 0 room r ⌝ }
+{
+    match view {
+        View::Check => put_check(room, s),
+        View::Show => put_shown(room, s),
+        View::List => put_listed(room, s),
+    }
+}
+
+pub fn view_status(view: View, s: &[u8]) -> usize
+    ensures { λ r. ⌜ r ≡ viewStatus view (was s) ⌝ }
+{
+    match view {
+        View::Check => check_status(s),
+        View::Show => check_status(s),
+        View::List => listed_status(s),
+    }
 }

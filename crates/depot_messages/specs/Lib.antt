@@ -1,2 +1,3 @@
-pub mod Messages
+pub mod Errors
 pub mod Help
+pub mod Messages

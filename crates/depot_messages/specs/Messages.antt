@@ -6,6 +6,10 @@ use lib.Dec.{eqb}
 use Rattle.text.specs.Text.{Bytes, ascii, decimal}
 use Rattle.text_pieces.specs.Pieces.{labelled}
 use Rattle.text_escaped.specs.Escaped.{escaped}
+use Rattle.depot_messages.specs.declared.Message.{Message}
+use Rattle.depot_messages.specs.declared.Message.the-variants as M
+use Rattle.depot_messages.specs.Errors.{errorWords}
+use Rattle.depot_messages.specs.Help.{helpText, versionText}
 
 -- a name between two texts
 unfoldable pub around : Bytes → Bytes → Bytes → Bytes
@@ -38,19 +42,7 @@ namedText name = around (ascii "depot: ") name (ascii ": ")
 unfoldable pub longText : Bytes → ℕ → Bytes
 longText name n = namedText name ++ labelled (ascii "over ") n ++ ascii " bytes\n"
 
--- the commonest errors, by their numbers
-unfoldable pub errorWords : ℕ → Bytes
-errorWords n =
-    cond (eqb n 2) (ascii "no such file or folder")
-    (cond (eqb n 13) (ascii "permission denied")
-    (cond (eqb n 17) (ascii "there already")
-    (cond (eqb n 20) (ascii "a part of the name is no folder")
-    (cond (eqb n 21) (ascii "is a folder")
-    (cond (eqb n 22) (ascii "no name of a file")
-    (cond (eqb n 28) (ascii "no space left")
-    (cond (eqb n 36) (ascii "the name is too long")
-    (labelled (ascii "error ") n))))))))
-
+-- error n of a file
 unfoldable pub errorText : Bytes → ℕ → Bytes
 errorText name n = namedText name ++ errorWords n ++ ascii "\n"
 
@@ -67,3 +59,18 @@ commandText line = around (ascii "$ depot ") line (ascii "\n")
 
 unfoldable pub statusText : ℕ → Bytes
 statusText n = labelled (ascii "status ") n ++ ascii "\n"
+
+-- a message about a word, a line or a file's name, and a number
+unfoldable pub messageText : Message → Bytes → ℕ → Bytes
+messageText M.Help word n = helpText
+messageText M.Version word n = versionText
+messageText M.Unknown word n = unknownText word
+messageText M.Count word n = countText word n
+messageText M.Option word n = optionText word
+messageText M.Group word n = groupText word
+messageText M.Once word n = onceText
+messageText M.Nested word n = nestedText
+messageText M.Long word n = longText word n
+messageText M.Error word n = errorText word n
+messageText M.Command word n = commandText word
+messageText M.Status word n = statusText n

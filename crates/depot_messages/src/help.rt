@@ -3,13 +3,13 @@ ghost use Rattle.text.specs.Text.{Writes};
 ghost use Rattle.depot_messages.specs.Help.{versionText, helpText};
 use text::put;
 
-pub fn put_version(room: &mut [u8], at: usize) -> usize
+pub(crate) fn put_version(room: &mut [u8], at: usize) -> usize
     ensures { λ r. ⌜ Writes versionText at room r ⌝ }
 {
     put(room, at, b"depot 0.6.0\n")
 }
 
-pub fn put_help(room: &mut [u8], at: usize) -> usize
+pub(crate) fn put_help(room: &mut [u8], at: usize) -> usize
     ensures { λ r. ⌜ Writes helpText at room r ⌝ }
 {
     put(

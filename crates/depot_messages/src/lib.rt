@@ -2,31 +2,34 @@
 ghost use Rattle.rules.specs.Lent.{was};
 ghost use Rattle.text.specs.Text.{Writes};
 ghost use Rattle.depot_messages.specs.Messages.{around, unknownText, wordsText, countText, optionText, groupText};
-ghost use Rattle.depot_messages.specs.Messages.{namedText, longText, errorWords, errorText, onceText, nestedText, commandText, statusText};
+ghost use Rattle.depot_messages.specs.Messages.{namedText, longText, errorText, commandText, statusText, onceText, nestedText, messageText};
+use crate::errors::put_error_words;
+use crate::help::put_help;
+use crate::help::put_version;
 use text::put;
 use text::put_byte;
 use text_escaped::put_escaped;
 use text_numbers::put_decimal;
 use text_pieces::put_labelled;
 
-pub mod help;
+mod errors;
+mod help;
 
-// The errors that have words, as Linux numbers them.
-const NO_ENTRY: usize = 2;
-
-const NO_ACCESS: usize = 13;
-
-const EXISTS: usize = 17;
-
-const NOT_A_FOLDER: usize = 20;
-
-const IS_A_FOLDER: usize = 21;
-
-const INVALID: usize = 22;
-
-const NO_SPACE: usize = 28;
-
-const NAME_TOO_LONG: usize = 36;
+// `Error`, `Long` are of a file; a batch has `Command` and `Status`.
+pub enum Message {
+    Help,
+    Version,
+    Unknown,
+    Count,
+    Option,
+    Group,
+    Once,
+    Nested,
+    Long,
+    Error,
+    Command,
+    Status,
+}
 
 // A name between two texts.
 fn put_around(room: &mut [u8], at: usize, before: &[u8], name: &[u8], after: &[u8]) -> usize
@@ -38,7 +41,7 @@ fn put_around(room: &mut [u8], at: usize, before: &[u8], name: &[u8], after: &[u
 }
 
 // The first word names no job.
-pub fn put_unknown(room: &mut [u8], at: usize, word: &[u8]) -> usize
+fn put_unknown(room: &mut [u8], at: usize, word: &[u8]) -> usize
     ensures { λ r. ⌜ Writes (unknownText (was word)) at room r ⌝ }
 {
     put_around(
@@ -61,7 +64,7 @@ fn put_words(room: &mut [u8], at: usize, n: usize) -> usize
 }
 
 // A job does not take n words behind the first.
-pub fn put_count(room: &mut [u8], at: usize, word: &[u8], n: usize) -> usize
+fn put_count(room: &mut [u8], at: usize, word: &[u8], n: usize) -> usize
     ensures { λ r. ⌜ Writes (countText (was word) n) at room r ⌝ }
 {
     let a = put_around(room, at, b"depot: '", word, b"' does not take ");
@@ -70,7 +73,7 @@ pub fn put_count(room: &mut [u8], at: usize, word: &[u8], n: usize) -> usize
 }
 
 // The word where `--then` is understood.
-pub fn put_option(room: &mut [u8], at: usize, word: &[u8]) -> usize
+fn put_option(room: &mut [u8], at: usize, word: &[u8]) -> usize
     ensures { λ r. ⌜ Writes (optionText (was word)) at room r ⌝ }
 {
     put_around(
@@ -82,7 +85,7 @@ pub fn put_option(room: &mut [u8], at: usize, word: &[u8]) -> usize
     )
 }
 
-pub fn put_group(room: &mut [u8], at: usize, word: &[u8]) -> usize
+fn put_group(room: &mut [u8], at: usize, word: &[u8]) -> usize
     ensures { λ r. ⌜ Writes (groupText (was word)) at room r ⌝ }
 {
     put_around(
@@ -102,7 +105,7 @@ pub fn put_named(room: &mut [u8], at: usize, name: &[u8]) -> usize
 }
 
 // A file with over n bytes.
-pub fn put_long(room: &mut [u8], at: usize, name: &[u8], n: usize) -> usize
+fn put_long(room: &mut [u8], at: usize, name: &[u8], n: usize) -> usize
     ensures { λ r. ⌜ Writes (longText (was name) n) at room r ⌝ }
 {
     let a = put_named(room, at, name);
@@ -110,38 +113,8 @@ pub fn put_long(room: &mut [u8], at: usize, name: &[u8], n: usize) -> usize
     put(room, b, b" bytes\n")
 }
 
-fn put_error_words(room: &mut [u8], at: usize, n: usize) -> usize
-    ensures { λ r. ⌜ Writes (errorWords n) at room r ⌝ }
-{
-    if n == NO_ENTRY {
-        return put(room, at, b"no such file or folder");
-    }
-    if n == NO_ACCESS {
-        return put(room, at, b"permission denied");
-    }
-    if n == EXISTS {
-        return put(room, at, b"there already");
-    }
-    if n == NOT_A_FOLDER {
-        return put(room, at, b"a part of the name is no folder");
-    }
-    if n == IS_A_FOLDER {
-        return put(room, at, b"is a folder");
-    }
-    if n == INVALID {
-        return put(room, at, b"no name of a file");
-    }
-    if n == NO_SPACE {
-        return put(room, at, b"no space left");
-    }
-    if n == NAME_TOO_LONG {
-        return put(room, at, b"the name is too long");
-    }
-    put_labelled(room, at, b"error ", n)
-}
-
 // Error n of a file.
-pub fn put_error(room: &mut [u8], at: usize, name: &[u8], n: usize) -> usize
+fn put_error(room: &mut [u8], at: usize, name: &[u8], n: usize) -> usize
     ensures { λ r. ⌜ Writes (errorText (was name) n) at room r ⌝ }
 {
     let a = put_named(room, at, name);
@@ -150,28 +123,48 @@ pub fn put_error(room: &mut [u8], at: usize, name: &[u8], n: usize) -> usize
 }
 
 // Standard input has one reader.
-pub fn put_once(room: &mut [u8], at: usize) -> usize
+fn put_once(room: &mut [u8], at: usize) -> usize
     ensures { λ r. ⌜ Writes onceText at room r ⌝ }
 {
     put(room, at, b"depot: standard input can be read only once\n")
 }
 
-pub fn put_nested(room: &mut [u8], at: usize) -> usize
+fn put_nested(room: &mut [u8], at: usize) -> usize
     ensures { λ r. ⌜ Writes nestedText at room r ⌝ }
 {
     put(room, at, b"depot: a batch runs no batch\n")
 }
 
 // A command of a batch, and how it ended.
-pub fn put_command(room: &mut [u8], at: usize, line: &[u8]) -> usize
+fn put_command(room: &mut [u8], at: usize, line: &[u8]) -> usize
     ensures { λ r. ⌜ Writes (commandText (was line)) at room r ⌝ }
 {
     put_around(room, at, b"$ depot ", line, b"\n")
 }
 
-pub fn put_status(room: &mut [u8], at: usize, n: usize) -> usize
+fn put_status(room: &mut [u8], at: usize, n: usize) -> usize
     ensures { λ r. ⌜ Writes (statusText n) at room r ⌝ }
 {
     let to = put_labelled(room, at, b"status ", n);
     put_byte(room, to, b'\n')
+}
+
+// A message about a word, a line or a file's name, and a number.
+pub fn put_message(room: &mut [u8], at: usize, message: Message, word: &[u8], n: usize) -> usize
+    ensures { λ r. ⌜ Writes (messageText message (was word) n) at room r ⌝ }
+{
+    match message {
+        Message::Help => put_help(room, at),
+        Message::Version => put_version(room, at),
+        Message::Unknown => put_unknown(room, at, word),
+        Message::Count => put_count(room, at, word, n),
+        Message::Option => put_option(room, at, word),
+        Message::Group => put_group(room, at, word),
+        Message::Once => put_once(room, at),
+        Message::Nested => put_nested(room, at),
+        Message::Long => put_long(room, at, word, n),
+        Message::Error => put_error(room, at, word, n),
+        Message::Command => put_command(room, at, word),
+        Message::Status => put_status(room, at, n),
+    }
 }

@@ -3,8 +3,6 @@ use Prim.Native.Nat.{ℕ}
 use mathlib.Core.Bool.{Bool, true, cond}
 use lib.Dec.{eqb}
 use Rattle.rules.specs.Bytes.{Bytes, same}
-use Rattle.rules.specs.declared.answers.End.the-variants as E
-use Rattle.rules.specs.Answers.{endNumber}
 use Rattle.text.specs.Text.{ascii}
 use Rattle.depot_usage.specs.declared.Job.{Job}
 use Rattle.depot_usage.specs.declared.Job.the-variants as J
@@ -66,18 +64,3 @@ fits job count = cond (eqb count (wordsOf job)) true (eqb count (mostOf job))
 -- the group that a word names
 unfoldable pub askedOf : Bytes → Asked
 askedOf word = cond (same word (ascii "install")) A.Install (cond (same word (ascii "boot")) A.Boot A.Unknown)
-
--- the status of a command: 0 done, 1 refused or a run that did not end well, 2 usage or file
-abbrev pub DONE : ℕ
-DONE = 0
-
-abbrev pub REFUSED : ℕ
-REFUSED = 1
-
-unfoldable pub refusalStatus : ℕ → ℕ
-refusalStatus refusal = cond (eqb refusal 0) DONE REFUSED
-
--- a run ends well that finished or started
-unfoldable pub runStatus : ℕ → ℕ → ℕ
-runStatus refusal end =
-    cond (eqb end (endNumber E.Finished)) (refusalStatus refusal) (cond (eqb end (endNumber E.Started)) (refusalStatus refusal) REFUSED)

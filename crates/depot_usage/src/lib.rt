@@ -1,17 +1,9 @@
 // The command line of the depot tool: which job its words ask for.
 ghost use mathlib.Core.Path.{_≡_};
 ghost use Rattle.rules.specs.Lent.{was};
-ghost use Rattle.depot_usage.specs.Usage.{toldOf, jobOf, wordsOf, mostOf, askedOf, refusalStatus, runStatus};
+ghost use Rattle.depot_usage.specs.Usage.{toldOf, jobOf, wordsOf, mostOf, askedOf};
 ghost use Rattle.depot_usage.specs.Usage.{fits as Usage·fits};
 use byte_buffer::is;
-use rules::answers::End;
-
-// The status of a command: done; refused, or a run that did not end well; a fault of usage, or of a file.
-pub const DONE: usize = 0;
-
-pub const REFUSED: usize = 1;
-
-pub const FAULT: usize = 2;
 
 pub enum Job {
     Check,
@@ -143,26 +135,4 @@ pub fn asked_group(word: &[u8]) -> Asked
         return Asked::Boot;
     }
     Asked::Unknown
-}
-
-pub fn refusal_status(refusal: usize) -> usize
-    ensures { λ r. ⌜ r ≡ refusalStatus refusal ⌝ }
-{
-    if refusal == 0 {
-        return DONE;
-    }
-    REFUSED
-}
-
-// A run ends well that finished or started.
-pub fn run_status(refusal: usize, end: usize) -> usize
-    ensures { λ r. ⌜ r ≡ runStatus refusal end ⌝ }
-{
-    if end == End::FINISHED {
-        return refusal_status(refusal);
-    }
-    if end == End::STARTED {
-        return refusal_status(refusal);
-    }
-    REFUSED
 }

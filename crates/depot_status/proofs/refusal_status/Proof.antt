@@ -1,7 +1,7 @@
 use borrow.Author.Tests.{eq-eqb, ne-eqb}
-use Rattle.depot_usage.specs.Usage.{refusalStatus}
-use Rattle.depot_usage.proofs.refusal_status.Statement.{statement}
-use Rattle.depot_usage.proofs.refusal_status.Tie as tie
+use Rattle.depot_status.specs.Status.{refusalStatus}
+use Rattle.depot_status.proofs.refusal_status.Statement.{statement}
+use Rattle.depot_status.proofs.refusal_status.Tie as tie
 
 returns : tie.Need-returns
 unfolding refusalStatus

@@ -1,4 +1,4 @@
-// Runs of files on described devices: what is read, told and written. What is read and written no contract can say.
+// Runs of files on described devices.
 ghost use mathlib.Core.Path.{_≡_};
 ghost use lib.ListN.{length};
 ghost use Rattle.rules.specs.Limits.{limits};
@@ -7,23 +7,22 @@ use depot_files::files::beside;
 use depot_files::files::is_standard;
 use depot_files::files::load;
 use depot_files::files::store;
-use depot_files::messages::say_fault;
-use depot_files::messages::say_group;
-use depot_files::messages::say_once;
-use depot_files::messages::say_option;
 use depot_files::streams::Streams;
+use depot_files::streams::fault;
+use depot_files::streams::fault_in;
 use depot_files::streams::fitted;
 use depot_files::streams::page;
 use depot_files::streams::print;
 use depot_matches::note_matches;
+use depot_messages::Message;
 use depot_outcome::put_run;
 use depot_run_types::Run;
 use depot_runs::run_as;
+use depot_status::FAULT;
+use depot_status::run_status;
 use depot_subjects::subject_of;
 use depot_usage::Asked;
-use depot_usage::FAULT;
 use depot_usage::asked_group;
-use depot_usage::run_status;
 use depot_words::later_words;
 use depot_words::word_at;
 use depot_words::word_count;
@@ -138,10 +137,7 @@ fn store_device(
     let mut text = io::large_buffer();
     let to = put_device(&mut text, 0, d, answer.number, slots);
     let n = fitted(&text, to);
-    if store(then, &text[..n], streams) {
-        return status;
-    }
-    FAULT
+    store(then, &text[..n], streams, status)
 }
 
 // Reads the description, and runs on the device that it describes.
@@ -158,7 +154,7 @@ fn run_described(
     let d = describe(description, &mut slots, &mut answers);
     let refused = d.refused;
     if refused != 0 {
-        return say_fault(streams.err, name, description, refused);
+        return fault_in(streams.err, name, description, refused);
     }
     let mut trace = trace_room();
     let mut notes = [0u8; Controller::COMMANDS];
@@ -178,10 +174,8 @@ fn run_described(
 
 // The files of two names: what is run, and the description.
 fn run_files(what: Run, file: &[u8], device: &[u8], then: &[u8], streams: Streams) -> usize {
-    if is_standard(file) {
-        if is_standard(device) {
-            return say_once(streams.err);
-        }
+    if is_standard(file) && is_standard(device) {
+        return fault(streams.err, Message::Once, b"", 0);
     }
     let mut bytes = io::large_buffer();
     let one = load(file, &mut bytes, streams.err);
@@ -207,21 +201,21 @@ fn run_words(what: Run, words: &[u8], streams: Streams) -> usize {
     }
     let option = word_at(words, 2);
     if !is(option, b"--then") {
-        return say_option(streams.err, option);
+        return fault(streams.err, Message::Option, option, 0);
     }
     run_files(what, file, device, word_at(words, 3), streams)
 }
 
-pub fn run_file(words: &[u8], streams: Streams) -> usize {
+pub(crate) fn run_file(words: &[u8], streams: Streams) -> usize {
     let group = word_at(words, 1);
     let rest = later_words(later_words(words));
     match asked_group(group) {
         Asked::Install => run_words(Run::Install, rest, streams),
         Asked::Boot => run_words(Run::Boot, rest, streams),
-        Asked::Unknown => say_group(streams.err, group),
+        Asked::Unknown => fault(streams.err, Message::Group, group, 0),
     }
 }
 
-pub fn run_program_file(words: &[u8], streams: Streams) -> usize {
+pub(crate) fn run_program_file(words: &[u8], streams: Streams) -> usize {
     run_words(Run::Program, later_words(words), streams)
 }

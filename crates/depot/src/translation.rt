@@ -2,17 +2,18 @@
 use depot_files::files::beside;
 use depot_files::files::load;
 use depot_files::files::store;
-use depot_files::messages::say_group;
 use depot_files::streams::Streams;
+use depot_files::streams::fault;
 use depot_files::streams::fitted;
 use depot_files::streams::page;
 use depot_files::streams::print;
+use depot_messages::Message;
 use depot_refusals::put_refused;
 use depot_report::put_translated;
+use depot_status::DONE;
+use depot_status::FAULT;
+use depot_status::REFUSED;
 use depot_usage::Asked;
-use depot_usage::DONE;
-use depot_usage::FAULT;
-use depot_usage::REFUSED;
 use depot_usage::asked_group;
 use depot_words::word_at;
 use pitvorgas::pitvorgas_translate;
@@ -33,8 +34,9 @@ fn translate_bytes(envelope: &[u8], boot: bool, out: &[u8], streams: Streams) ->
         return print(beside(out, streams), &text, to, REFUSED);
     }
     let n = fitted(&room, answer.length);
-    if !store(out, &room[..n], streams) {
-        return FAULT;
+    let status = store(out, &room[..n], streams, DONE);
+    if status != DONE {
+        return status;
     }
     let to = put_translated(&mut text, 0, n);
     print(beside(out, streams), &text, to, DONE)
@@ -50,11 +52,11 @@ fn translate_load(words: &[u8], boot: bool, streams: Streams) -> usize {
     translate_bytes(&file[..n], boot, word_at(words, OUT), streams)
 }
 
-pub fn translate_file(words: &[u8], streams: Streams) -> usize {
+pub(crate) fn translate_file(words: &[u8], streams: Streams) -> usize {
     let group = word_at(words, GROUP);
     match asked_group(group) {
         Asked::Install => translate_load(words, false, streams),
         Asked::Boot => translate_load(words, true, streams),
-        Asked::Unknown => say_group(streams.err, group),
+        Asked::Unknown => fault(streams.err, Message::Group, group, 0),
     }
 }

@@ -1,8 +1,8 @@
 use borrow.Author.Needs.{needs}
 use borrow.Author.Tests.{eq-eqb, ne-eqb}
-use Rattle.depot_usage.specs.Usage.{runStatus}
-use Rattle.depot_usage.proofs.run_status.Statement.{statement}
-use Rattle.depot_usage.proofs.run_status.Tie as tie
+use Rattle.depot_status.specs.Status.{runStatus}
+use Rattle.depot_status.proofs.run_status.Statement.{statement}
+use Rattle.depot_status.proofs.run_status.Tie as tie
 
 returns : tie.Need-returns
 unfolding runStatus
