@@ -16,19 +16,39 @@ use depot_usage::job_of;
 use depot_words::word_at;
 use depot_words::word_count;
 
+// The file of word 1.
+fn view(view: View, words: &[u8], streams: Streams) -> usize {
+    view_file(view, word_at(words, 1), streams)
+}
+
+fn newer(words: &[u8], streams: Streams) -> usize {
+    newer_file(word_at(words, 1), word_at(words, 2), streams)
+}
+
+// What is told of the tool itself.
+fn tell_of(message: Message, streams: Streams) -> usize {
+    tell(streams, message, b"", 0, DONE)
+}
+
+// What is wrong with the first word, which n follow.
+fn refuse(message: Message, words: &[u8], n: usize, streams: Streams) -> usize {
+    fault(streams.err, message, word_at(words, 0), n)
+}
+
+// Any job but a batch, which the words fit.
 fn run_job(job: Job, words: &[u8], streams: Streams) -> usize {
     match job {
-        Job::Check => view_file(View::Check, word_at(words, 1), streams),
-        Job::Show => view_file(View::Show, word_at(words, 1), streams),
-        Job::Newer => newer_file(word_at(words, 1), word_at(words, 2), streams),
+        Job::Check => view(View::Check, words, streams),
+        Job::Show => view(View::Show, words, streams),
+        Job::Newer => newer(words, streams),
         Job::Translate => translate_file(words, streams),
-        Job::List => view_file(View::List, word_at(words, 1), streams),
+        Job::List => view(View::List, words, streams),
         Job::Run => run_file(words, streams),
         Job::RunProgram => run_program_file(words, streams),
-        Job::Batch => fault(streams.err, Message::Nested, b"", 0),
-        Job::Help => tell(streams, Message::Help, b"", 0, DONE),
-        Job::Version => tell(streams, Message::Version, b"", 0, DONE),
-        Job::Unknown => fault(streams.err, Message::Unknown, word_at(words, 0), 0),
+        Job::Batch => refuse(Message::Nested, words, 0, streams),
+        Job::Help => tell_of(Message::Help, streams),
+        Job::Version => tell_of(Message::Version, streams),
+        Job::Unknown => refuse(Message::Unknown, words, 0, streams),
     }
 }
 
@@ -38,13 +58,12 @@ pub(crate) fn run_command(words: &[u8], streams: Streams) -> usize {
     if count == 0 {
         return fault(streams.err, Message::Help, b"", 0);
     }
-    let word = word_at(words, 0);
-    let job = job_of(word);
+    let job = job_of(word_at(words, 0));
     if fits(job, count) {
         return run_job(job, words, streams);
     }
     match job {
-        Job::Unknown => fault(streams.err, Message::Unknown, word, 0),
-        _ => fault(streams.err, Message::Count, word, count - 1),
+        Job::Unknown => refuse(Message::Unknown, words, 0, streams),
+        _ => refuse(Message::Count, words, count - 1, streams),
     }
 }

@@ -1,4 +1,7 @@
 // The depot tool: checks, shows, compares and translates files of envelopes, lists programs, and runs both on described devices.
+ghost use Rattle.rules.specs.Lent.{left};
+ghost use Rattle.io.specs.Counts.{Counts};
+
 mod batch;
 mod command;
 mod inspection;
@@ -22,14 +25,20 @@ use libc::STDOUT_FILENO;
 use text::put;
 use text::put_byte;
 
-// One more word; of one that is too long for a path, as much as makes it so.
+// Word i, at the start of the buffer; of one that is too long for a path, as much as makes it so.
+fn read_arg(i: usize, word: &mut [u8]) -> usize
+    ensures { λ r. ⌜ Counts r (left word) ⌝ }
+{
+    let n = os::arg(i, word);
+    if os::errno() == libc::ENAMETOOLONG {
+        return fitted(word, word.len());
+    }
+    n
+}
+
 fn put_arg(words: &mut [u8], at: usize, i: usize) -> usize {
     let mut word = io::buffer();
-    let n = os::arg(i, &mut word);
-    if os::errno() == libc::ENAMETOOLONG {
-        let to = put(words, at, &word);
-        return put_byte(words, to, 0);
-    }
+    let n = read_arg(i, &mut word);
     let to = put(words, at, &word[..n]);
     put_byte(words, to, 0)
 }

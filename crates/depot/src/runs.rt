@@ -2,9 +2,9 @@
 ghost use mathlib.Core.Path.{_≡_};
 ghost use lib.ListN.{length};
 ghost use Rattle.rules.specs.Limits.{limits};
+use crate::inspection::read_twice;
 use byte_buffer::is;
 use depot_files::files::beside;
-use depot_files::files::is_standard;
 use depot_files::files::load;
 use depot_files::files::store;
 use depot_files::streams::Streams;
@@ -75,7 +75,7 @@ fn note_run(
     }
 }
 
-// Runs the bytes on the slots and answers at the starts of their rooms, and notes why image matches failed.
+// Runs the bytes on a device, and notes why image matches failed.
 fn run_noted(
     what: Run,
     bytes: &[u8],
@@ -87,19 +87,9 @@ fn run_noted(
 ) -> RunAnswer {
     let mut old = [0u8; SLOTS_ROOM];
     put(&mut old, 0, slots);
-    let n = fitted(&old, d.slots);
-    let k = fitted(slots, d.slots);
-    let m = fitted(answers, d.answers);
-    let answer = run_as(what, bytes, d, &mut slots[..k], &answers[..m], trace);
-    note_run(
-        what,
-        bytes,
-        trace,
-        answer.events,
-        &old[..n],
-        &answers[..m],
-        notes,
-    );
+    let n = fitted(&old, slots.len());
+    let answer = run_as(what, bytes, d, slots, answers, trace);
+    note_run(what, bytes, trace, answer.events, &old[..n], answers, notes);
     answer
 }
 
@@ -140,10 +130,35 @@ fn store_device(
     store(then, &text[..n], streams, status)
 }
 
+// Runs the bytes on a device, tells what happened, and writes what is left.
+fn run_device(
+    what: Run,
+    bytes: &[u8],
+    d: Scenario,
+    slots: &mut [u8],
+    answers: &[u8],
+    then: &[u8],
+    streams: Streams,
+) -> usize {
+    let mut trace = trace_room();
+    let mut notes = [0u8; Controller::COMMANDS];
+    let answer = run_noted(what, bytes, d, slots, answers, &mut trace, &mut notes);
+    let status = tell_run(
+        what,
+        bytes,
+        answer,
+        slots,
+        &trace,
+        &notes,
+        beside(then, streams),
+    );
+    store_device(then, d, answer, slots, status, streams)
+}
+
 // Reads the description, and runs on the device that it describes.
 fn run_described(
-    bytes: &[u8],
     what: Run,
+    bytes: &[u8],
     description: &[u8],
     name: &[u8],
     then: &[u8],
@@ -156,40 +171,41 @@ fn run_described(
     if refused != 0 {
         return fault_in(streams.err, name, description, refused);
     }
-    let mut trace = trace_room();
-    let mut notes = [0u8; Controller::COMMANDS];
-    let answer = run_noted(what, bytes, d, &mut slots, &answers, &mut trace, &mut notes);
     let k = fitted(&slots, d.slots);
-    let status = tell_run(
+    let m = fitted(&answers, d.answers);
+    run_device(
         what,
         bytes,
-        answer,
-        &slots[..k],
-        &trace,
-        &notes,
-        beside(then, streams),
-    );
-    store_device(then, d, answer, &slots[..k], status, streams)
+        d,
+        &mut slots[..k],
+        &answers[..m],
+        then,
+        streams,
+    )
+}
+
+fn run_bytes(what: Run, bytes: &[u8], device: &[u8], then: &[u8], streams: Streams) -> usize {
+    let mut description = io::large_buffer();
+    let loaded = load(device, &mut description, streams.err);
+    if !loaded.ok {
+        return FAULT;
+    }
+    let n = loaded.n;
+    run_described(what, bytes, &description[..n], device, then, streams)
 }
 
 // The files of two names: what is run, and the description.
 fn run_files(what: Run, file: &[u8], device: &[u8], then: &[u8], streams: Streams) -> usize {
-    if is_standard(file) && is_standard(device) {
+    if read_twice(file, device) {
         return fault(streams.err, Message::Once, b"", 0);
     }
     let mut bytes = io::large_buffer();
-    let one = load(file, &mut bytes, streams.err);
-    if !one.ok {
+    let loaded = load(file, &mut bytes, streams.err);
+    if !loaded.ok {
         return FAULT;
     }
-    let mut description = io::large_buffer();
-    let two = load(device, &mut description, streams.err);
-    if !two.ok {
-        return FAULT;
-    }
-    let n = one.n;
-    let m = two.n;
-    run_described(&bytes[..n], what, &description[..m], device, then, streams)
+    let n = loaded.n;
+    run_bytes(what, &bytes[..n], device, then, streams)
 }
 
 // The words behind the job and its group: a file, a description and, if there are more, `--then` and a file.

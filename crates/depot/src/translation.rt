@@ -24,22 +24,35 @@ const FILE: usize = 2;
 
 const OUT: usize = 3;
 
+fn tell_refused(envelope: &[u8], refusal: usize, place: usize, streams: Streams) -> usize {
+    let mut text = page();
+    let to = put_refused(&mut text, 0, refusal, place, envelope);
+    print(streams, &text, to, REFUSED)
+}
+
+fn tell_translated(length: usize, streams: Streams) -> usize {
+    let mut text = io::buffer();
+    let to = put_translated(&mut text, 0, length);
+    print(streams, &text, to, DONE)
+}
+
+fn store_program(program: &[u8], out: &[u8], streams: Streams) -> usize {
+    let status = store(out, program, streams, DONE);
+    if status != DONE {
+        return status;
+    }
+    tell_translated(program.len(), beside(out, streams))
+}
+
 // The program of an envelope goes to the file; a refusal is told, and no file is made.
 fn translate_bytes(envelope: &[u8], boot: bool, out: &[u8], streams: Streams) -> usize {
     let mut room = io::large_buffer();
     let answer = pitvorgas_translate(envelope, boot, &mut room);
-    let mut text = page();
     if answer.refusal != 0 {
-        let to = put_refused(&mut text, 0, answer.refusal, answer.place, envelope);
-        return print(beside(out, streams), &text, to, REFUSED);
+        return tell_refused(envelope, answer.refusal, answer.place, beside(out, streams));
     }
     let n = fitted(&room, answer.length);
-    let status = store(out, &room[..n], streams, DONE);
-    if status != DONE {
-        return status;
-    }
-    let to = put_translated(&mut text, 0, n);
-    print(beside(out, streams), &text, to, DONE)
+    store_program(&room[..n], out, streams)
 }
 
 fn translate_load(words: &[u8], boot: bool, streams: Streams) -> usize {
