@@ -10,8 +10,6 @@ use cbor_heads::Head;
 use cbor_heads::HeadRead;
 use cbor_heads::read_head;
 
-pub mod reading;
-
 // Kinds of items: those of their heads.
 pub const NUMBER: usize = cbor_heads::NUMBER;
 
@@ -37,7 +35,7 @@ pub enum ItemRead {
 }
 
 // How many bytes follow a head of that kind and number as its content.
-pub(crate) fn content(kind: usize, num: usize) -> usize
+pub fn content(kind: usize, num: usize) -> usize
     ensures { λ r. ⌜ ((next : ℕ) → after (record { kind = kind; num = num; next = next }) ≡ next + r) ⌝ }
 {
     if kind == BYTES {
@@ -67,14 +65,7 @@ fn read_whole(s: &[u8], end: usize, at: usize) -> HeadRead
 }
 
 // The item at `at`, of a wanted kind, whose number, length or count is from lo to hi.
-pub(crate) fn read_item(
-    s: &[u8],
-    end: usize,
-    at: usize,
-    kind: usize,
-    lo: usize,
-    hi: usize,
-) -> ItemRead
+pub fn read_item(s: &[u8], end: usize, at: usize, kind: usize, lo: usize, hi: usize) -> ItemRead
     requires { ⌜ end ≤ length (now s) ⌝ }
     ensures { λ r. ⌜ itemMeans r ≡ item kind lo hi (was s) end at ⌝ }
 {

@@ -22,9 +22,9 @@ use Rattle.rules.specs.Commands.{params, paramOf}
 use Rattle.rules.specs.Check.{Given, give, nothing, number, parameter, entries}
 use Rattle.rules.proofs.GotLaws.{passed, split, split₂, both}
 use Rattle.rules.proofs.CheckLaws.{bytes-after, text-after, item-law, one-of-law, number-law}
-use Rattle.cbor.specs.Reading.{fault, ends, view, headReading, itemReading, reading, after, unnumbered}
-use Rattle.cbor.proofs.ReadingLaws.{Stopped}
-use Rattle.cbor.specs.declared.reading.Reading.{Reading}
+use Rattle.cbor_reading.specs.Reading.{fault, ends, view, headReading, itemReading, reading, after, unnumbered}
+use Rattle.cbor_reading.proofs.ReadingLaws.{Stopped}
+use Rattle.cbor_reading.specs.declared.Reading.{Reading}
 use Rattle.check_argument.specs.Argument.{argumentStart}
 
 -- what was read, given on with the place after it

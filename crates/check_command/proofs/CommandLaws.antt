@@ -18,9 +18,9 @@ use Rattle.rules.specs.Check.{number}
 use Rattle.rules.proofs.GotLaws.{passed, split, split₂}
 use Rattle.rules.proofs.CheckLaws.{number-law}
 use Rattle.rules.proofs.TableLaws.{allowed-bit, listed-some, listed-none}
-use Rattle.cbor.specs.Reading.{fault, reading}
-use Rattle.cbor.specs.declared.reading.Reading.{Reading}
-use Rattle.cbor.proofs.ReadingLaws.{Stopped}
+use Rattle.cbor_reading.specs.Reading.{fault, reading}
+use Rattle.cbor_reading.specs.declared.Reading.{Reading}
+use Rattle.cbor_reading.proofs.ReadingLaws.{Stopped}
 use Rattle.check_argument.specs.Argument.{argumentStart}
 use Rattle.check_argument.proofs.ArgumentLaws.{argument-forth}
 use Rattle.check_command.specs.Command.{commandStart, Section}

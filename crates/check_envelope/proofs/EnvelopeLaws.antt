@@ -18,16 +18,16 @@ use Rattle.rules.specs.Check.{inBytes, manifestAt, outerAt, check}
 use Rattle.rules.proofs.AnswerLaws.{of-number, not-zero}
 use Rattle.rules.proofs.GotLaws.{split}
 use Rattle.rules.proofs.CheckLaws.{item-law, bytes-after}
-use Rattle.cbor.specs.declared.reading.Reading.{Reading}
+use Rattle.cbor_reading.specs.declared.Reading.{Reading}
 use Rattle.check_manifest.specs.declared.Body.{Body}
 use Rattle.check_envelope.specs.declared.report.Checked.{Checked}
 use Rattle.check_envelope.specs.declared.report.Checked.the-variants.{Accepted, Refused}
 use Rattle.check_envelope.specs.declared.report.Report.{Report}
-use Rattle.cbor.specs.Reading.{headReading}
+use Rattle.cbor_reading.specs.Reading.{headReading}
 use Rattle.check_manifest.specs.Body.{bodyOf}
 use Rattle.check_envelope.specs.Outer.{manifestHead}
 use Rattle.check_envelope.specs.Report.{place, refusedReport, reportOf, numbersIn, numbersOf}
-use Rattle.cbor.proofs.ReadingLaws.{Stopped, stop-of, went, alike, bind-assoc}
+use Rattle.cbor_reading.proofs.ReadingLaws.{Stopped, stop-of, went, alike, bind-assoc}
 use Rattle.check_manifest.proofs.ManifestLaws.{manifest-part}
 
 module _ (s : Bytes) where

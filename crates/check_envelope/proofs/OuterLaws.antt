@@ -10,10 +10,10 @@ use Rattle.rules.specs.Got.{refused, got}
 use Rattle.rules.specs.Cbor.{NUMBER, BYTES, MAP, NIL, Head, after, item, oneOf}
 use Rattle.rules.specs.Check.{key, unread, outerAt}
 use Rattle.rules.proofs.CheckLaws.{one-of-law, one-of-kind, bytes-after}
-use Rattle.cbor.specs.declared.reading.Reading.{Reading}
-use Rattle.cbor.specs.Reading.{fault, ends, headReading, placeReading}
+use Rattle.cbor_reading.specs.declared.Reading.{Reading}
+use Rattle.cbor_reading.specs.Reading.{fault, ends, headReading, placeReading}
 use Rattle.check_envelope.specs.Outer.{manifestHead}
-use Rattle.cbor.proofs.ReadingLaws.{Stopped}
+use Rattle.cbor_reading.proofs.ReadingLaws.{Stopped}
 
 -- nil or a byte string
 module _ (s : Bytes) (e at : ℕ) where

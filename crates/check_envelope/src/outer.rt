@@ -4,12 +4,12 @@ ghost use Prim.Native.Nat.{_≤_};
 ghost use lib.ListN.{length};
 ghost use Rattle.rules.specs.Lent.{was};
 ghost use Rattle.rules.specs.Check as Check;
-ghost use Rattle.cbor.specs.Reading.{headReading, placeReading};
+ghost use Rattle.cbor_reading.specs.Reading.{headReading, placeReading};
 ghost use Rattle.check_envelope.specs.Outer.{manifestHead};
 use cbor::ItemRead;
-use cbor::reading::Reading;
-use cbor::reading::item;
-use cbor::reading::refuse;
+use cbor_reading::Reading;
+use cbor_reading::item;
+use cbor_reading::refuse;
 use rules::answers::Refusal;
 use rules::controller::Controller;
 

@@ -9,9 +9,9 @@ use Rattle.rules.specs.Got.{Got, refused, got, _>>=_}
 use Rattle.rules.specs.Cbor.{NUMBER, Head, item}
 use Rattle.rules.specs.Check.{key}
 use Rattle.rules.proofs.CheckLaws.{item-law}
-use Rattle.cbor.specs.declared.reading.Reading.{Reading}
-use Rattle.cbor.specs.Reading.{ends, view, headReading}
-use Rattle.cbor.proofs.ReadingLaws.{stopped, went}
+use Rattle.cbor_reading.specs.declared.Reading.{Reading}
+use Rattle.cbor_reading.specs.Reading.{ends, view, headReading}
+use Rattle.cbor_reading.proofs.ReadingLaws.{stopped, went}
 
 -- r tells what was read: where x ends and a number of it, or its refusal
 pub record Told {A : Type 0} (p v : A → ℕ) (x : Got A) (r : Reading) : Type 0 where

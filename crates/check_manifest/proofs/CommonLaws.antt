@@ -11,12 +11,12 @@ use Rattle.rules.specs.Got.{Got, refused, got}
 use Rattle.rules.specs.Cbor.{NUMBER, BYTES, MAP, item}
 use Rattle.rules.specs.Manifest.{Section, countAll}
 use Rattle.rules.specs.Check.{key, inBytes, components, commonSeq, commonAt, commonIn}
-use Rattle.cbor.specs.declared.reading.Reading.{Reading}
+use Rattle.cbor_reading.specs.declared.Reading.{Reading}
 use Rattle.check_manifest.specs.declared.Common.{Common}
-use Rattle.cbor.specs.Reading.{fault, reading}
+use Rattle.cbor_reading.specs.Reading.{fault, reading}
 use Rattle.check_manifest.specs.Sections.{Placed}
 use Rattle.check_manifest.specs.Body.{commonOf, listReading, Ids, Kept}
-use Rattle.cbor.proofs.ReadingLaws.{Stopped, stop-of, went, reading-went}
+use Rattle.cbor_reading.proofs.ReadingLaws.{Stopped, stop-of, went, reading-went}
 use Rattle.check_manifest.proofs.InBytesLaws.{in-stop, in-bad, in-over, in-got}
 
 -- what is promised of common

@@ -8,9 +8,9 @@ use Rattle.rules.specs.Bytes.{Bytes, span}
 use Rattle.rules.specs.Got.{Got, got, _>>=_}
 use Rattle.rules.specs.Cbor.{BYTES, item}
 use Rattle.rules.specs.Check.{Read, inBytes}
-use Rattle.cbor.specs.declared.reading.Reading.{Reading}
-use Rattle.cbor.specs.Reading.{fault}
-use Rattle.cbor.proofs.ReadingLaws.{Stopped}
+use Rattle.cbor_reading.specs.declared.Reading.{Reading}
+use Rattle.cbor_reading.specs.Reading.{fault}
+use Rattle.cbor_reading.proofs.ReadingLaws.{Stopped}
 
 -- what stopped stops all that would follow
 pub stopped-bind : {A B : Type 0} (x : Got A) (f : A → Got B) (r : Reading) → Stopped x r → Stopped (x >>= f) r

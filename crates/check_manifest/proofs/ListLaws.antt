@@ -8,9 +8,9 @@ use Rattle.rules.specs.Bytes.{Bytes, Span}
 use Rattle.rules.specs.Got.{got}
 use Rattle.rules.specs.Cbor.{BYTES, item}
 use Rattle.rules.specs.Check.{inBytes, components}
-use Rattle.cbor.specs.declared.reading.Reading.{Reading}
-use Rattle.cbor.specs.Reading.{reading}
-use Rattle.cbor.proofs.ReadingLaws.{Stopped, reading-went}
+use Rattle.cbor_reading.specs.declared.Reading.{Reading}
+use Rattle.cbor_reading.specs.Reading.{reading}
+use Rattle.cbor_reading.proofs.ReadingLaws.{Stopped, reading-went}
 use Rattle.component_ids.specs.Identifiers.{laid, idsRead}
 use Rattle.component_ids.proofs.IdentifierLaws.{read-all}
 use Rattle.check_manifest.specs.Body.{listReading, Ids}

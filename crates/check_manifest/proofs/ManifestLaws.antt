@@ -16,13 +16,13 @@ use Rattle.component_ids.specs.Identifiers.{laid}
 use Rattle.rules.specs.Commands.{PAYLOAD_FETCH}
 use Rattle.rules.specs.Manifest.{Section, countAll, Manifest}
 use Rattle.rules.specs.Check.{sectionsAt, manifestAt, versionAt, numberedAt, frontAt, commonIn}
-use Rattle.cbor.specs.declared.reading.Reading.{Reading}
+use Rattle.cbor_reading.specs.declared.Reading.{Reading}
 use Rattle.check_manifest.specs.declared.Front.{Front}
 use Rattle.check_manifest.specs.declared.Common.{Common}
 use Rattle.check_manifest.specs.declared.Body.{Body}
 use Rattle.check_manifest.specs.Sections.{placed}
 use Rattle.check_manifest.specs.Body.{frontOf, commonOf, refusedBody, bodyOf}
-use Rattle.cbor.proofs.ReadingLaws.{reading-stopped, reading-went}
+use Rattle.cbor_reading.proofs.ReadingLaws.{reading-stopped, reading-went}
 use Rattle.check_manifest.proofs.SectionLaws.{Promise}
 use Rattle.check_manifest.proofs.CommonLaws.{CommonPromise}
 

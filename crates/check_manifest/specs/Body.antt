@@ -12,8 +12,8 @@ use Rattle.rules.specs.Manifest.{Section, countAll, Manifest}
 use Rattle.check_manifest.specs.declared.Front.{Front}
 use Rattle.check_manifest.specs.declared.Common.{Common}
 use Rattle.check_manifest.specs.declared.Body.{Body}
-use Rattle.cbor.specs.declared.reading.Reading.{Reading}
-use Rattle.cbor.specs.Reading.{view}
+use Rattle.cbor_reading.specs.declared.Reading.{Reading}
+use Rattle.cbor_reading.specs.Reading.{view}
 use Rattle.component_ids.specs.Identifiers.{laid}
 use Rattle.check_manifest.specs.Sections.{placed}
 

@@ -9,8 +9,8 @@ use Rattle.rules.specs.Lent.{Lent, was, left}
 use Rattle.rules.specs.Commands.{COMMON, PAYLOAD_FETCH}
 use Rattle.rules.specs.Got.{Got, refused, got}
 use Rattle.rules.specs.Manifest.{Section}
-use Rattle.cbor.specs.declared.reading.Reading.{Reading}
-use Rattle.cbor.specs.Reading.{reading}
+use Rattle.cbor_reading.specs.declared.Reading.{Reading}
+use Rattle.cbor_reading.specs.Reading.{reading}
 
 -- the number of a section in the array: 0 for common's sequence, 1 to 5 for sections 8 to 12
 abbrev pub sectionNo : ℕ → ℕ

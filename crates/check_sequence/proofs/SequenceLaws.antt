@@ -16,9 +16,9 @@ use Rattle.rules.specs.Manifest.{Seq, then, Cmd, try, Alts, or, count, countCmd
 use Rattle.rules.specs.Check.{Read, nothing, number, inBytes, entries, alternativesAt, argument, command, commandsAt, sequenceAt}
 use Rattle.rules.proofs.GotLaws.{passed, split, split₂, both}
 use Rattle.rules.proofs.CheckLaws.{item-law}
-use Rattle.cbor.specs.Reading.{fault, ends, reading}
-use Rattle.cbor.specs.declared.reading.Reading.{Reading}
-use Rattle.cbor.proofs.ReadingLaws.{Stopped, alike, bind-assoc, reading-went}
+use Rattle.cbor_reading.specs.Reading.{fault, ends, reading}
+use Rattle.cbor_reading.specs.declared.Reading.{Reading}
+use Rattle.cbor_reading.proofs.ReadingLaws.{Stopped, alike, bind-assoc, reading-went}
 use Rattle.check_argument.specs.Argument.{argumentStart}
 use Rattle.check_command.specs.Command.{commandStart}
 use Rattle.check_command.proofs.CommandLaws.{start-forth}

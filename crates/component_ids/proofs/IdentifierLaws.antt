@@ -21,12 +21,12 @@ use Rattle.rules.proofs.CheckLaws.{Item, item-law, strings-law}
 use Rattle.rules.proofs.GotLaws.{passed, split, both}
 use Rattle.rules.proofs.BytesLaws.{length-part}
 use Rattle.rules.proofs.SameLaws.{same-lengths}
-use Rattle.cbor.specs.declared.reading.Reading.{Reading}
+use Rattle.cbor_reading.specs.declared.Reading.{Reading}
 use Rattle.component_ids.specs.declared.Repeat.{Repeat}
 use Rattle.component_ids.specs.declared.Repeat.the-variants.{At, Nothing}
 use Rattle.component_ids.specs.Identifiers.{flatSpans, laid, plain, Listing, onward, listing, idsRead, listedAs, listed, equal, among, searchFrom, repeated}
-use Rattle.cbor.specs.Reading.{fault, ends, headReading, placeReading, reading}
-use Rattle.cbor.proofs.ReadingLaws.{stopped, alike, bind-assoc, item-stopped, item-went, place-stopped, place-went}
+use Rattle.cbor_reading.specs.Reading.{fault, ends, headReading, placeReading, reading}
+use Rattle.cbor_reading.proofs.ReadingLaws.{stopped, alike, bind-assoc, item-stopped, item-went, place-stopped, place-went}
 use Rattle.rules.proofs.AnswerLaws.{not-zero}
 
 module _ (s : Bytes) where

@@ -11,8 +11,8 @@ use Rattle.rules.specs.Cbor.{ARRAY, Head, item}
 use Rattle.rules.specs.Check.{identifier}
 use Rattle.component_ids.specs.declared.Repeat.{Repeat}
 use Rattle.component_ids.specs.declared.Repeat.the-variants.{At, Nothing}
-use Rattle.cbor.specs.declared.reading.Reading.{Reading}
-use Rattle.cbor.specs.Reading.{ends}
+use Rattle.cbor_reading.specs.declared.Reading.{Reading}
+use Rattle.cbor_reading.specs.Reading.{ends}
 
 -- what a head that was accepted leads to
 abbrev pub under : Got Head → (Head → List Span) → List Span

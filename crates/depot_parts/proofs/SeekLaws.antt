@@ -8,7 +8,7 @@ use borrow.Author.Tests.{le-leb, lt-leb, lt-ltb, le-ltb, eq-eqb, ne-eqb}
 use native.Mathlib.Omega.{arith}
 use Rattle.rules.specs.Bytes.{Bytes}
 use Rattle.rules.specs.Cbor.{NUMBER, ARRAY, MAP}
-use Rattle.cbor.proofs.ReadingLaws.{above}
+use Rattle.cbor_reading.proofs.ReadingLaws.{above}
 use Rattle.depot_items.specs.declared.Item.{Item}
 use Rattle.depot_items.specs.Items.{NO_ITEM, itemAt, itemOf}
 use Rattle.depot_parts.specs.declared.parts.Part.{Part}

@@ -7,7 +7,7 @@ use borrow.Author.Tests.{eq-eqb, ne-eqb}
 use native.Mathlib.Omega.{arith}
 use Rattle.rules.specs.Bytes.{Bytes}
 use Rattle.rules.specs.Cbor.{NUMBER}
-use Rattle.cbor.proofs.ReadingLaws.{above}
+use Rattle.cbor_reading.proofs.ReadingLaws.{above}
 use Rattle.depot_items.specs.declared.Item.{Item}
 use Rattle.depot_parts.specs.declared.parts.Part.{Part}
 use Rattle.depot_parts.specs.declared.parts.Shape.{Shape}

@@ -9,7 +9,7 @@ use native.Mathlib.Omega.{arith}
 use Rattle.rules_kinds.specs.Kinds.{kindOf, isSequence}
 use Rattle.rules.specs.Bytes.{Bytes}
 use Rattle.rules.specs.Cbor.{NUMBER, BYTES, ARRAY, MAP}
-use Rattle.cbor.proofs.ReadingLaws.{above}
+use Rattle.cbor_reading.proofs.ReadingLaws.{above}
 use Rattle.depot_items.specs.declared.Item.{Item}
 use Rattle.depot_show.specs.declared.walk.Put.{Put}
 use Rattle.depot_items.specs.Items.{itemAt, itemOf}

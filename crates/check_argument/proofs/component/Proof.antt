@@ -1,7 +1,7 @@
 use mathlib.Core.Path.{_∙_}
 use native.Mathlib.Omega.{arith}
 use borrow.Author.Needs.{needs}
-use Rattle.cbor.proofs.ReadingLaws.{number-stopped, number-went}
+use Rattle.cbor_reading.proofs.ReadingLaws.{number-stopped, number-went}
 use Rattle.check_argument.proofs.ArgumentLaws.{index-stop, index-large, index-below}
 use Rattle.check_argument.proofs.component.Statement.{statement}
 use Rattle.check_argument.proofs.component.Tie as tie

@@ -3,8 +3,8 @@ use native.Mathlib.Omega.{arith}
 use borrow.Author.Needs.{needs}
 use Rattle.rules.proofs.CheckLaws.{number-law}
 use Rattle.rules.specs.Check.{nothing, entries}
-use Rattle.cbor.specs.Reading.{after}
-use Rattle.cbor.proofs.ReadingLaws.{number-stopped, number-went, reading-stopped, reading-went, pos}
+use Rattle.cbor_reading.specs.Reading.{after}
+use Rattle.cbor_reading.proofs.ReadingLaws.{number-stopped, number-went, reading-stopped, reading-went, pos}
 use Rattle.check_argument.proofs.ArgumentLaws.{known-some, known-none, entries-none, entries-stop, entries-low, entries-unknown, entries-bad, entries-more}
 use Rattle.check_argument.proofs.entries.Statement.{statement}
 use Rattle.check_argument.proofs.entries.Tie as tie

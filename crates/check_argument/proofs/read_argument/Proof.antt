@@ -1,7 +1,7 @@
 use mathlib.Core.Path.{refl, _∙_}
 use mathlib.Core.Logic.{inl}
 use borrow.Author.Needs.{needs}
-use Rattle.cbor.proofs.ReadingLaws.{item-stopped, item-went}
+use Rattle.cbor_reading.proofs.ReadingLaws.{item-stopped, item-went}
 use Rattle.check_argument.proofs.ArgumentLaws.{argument-sixteen, argument-nil, argument-index, argument-alternatives, argument-no-map, argument-parameters, argument-sequence}
 use Rattle.check_argument.proofs.read_argument.Statement.{statement}
 use Rattle.check_argument.proofs.read_argument.Tie as tie

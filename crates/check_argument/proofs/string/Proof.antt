@@ -1,6 +1,6 @@
 use native.Mathlib.Omega.{arith}
 use borrow.Author.Needs.{needs}
-use Rattle.cbor.proofs.ReadingLaws.{item-stopped, item-went, string-fits}
+use Rattle.cbor_reading.proofs.ReadingLaws.{item-stopped, item-went, string-fits}
 use Rattle.check_argument.proofs.ArgumentLaws.{string-end}
 use Rattle.check_argument.proofs.string.Statement.{statement}
 use Rattle.check_argument.proofs.string.Tie as tie

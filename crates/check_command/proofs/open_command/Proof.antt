@@ -2,7 +2,7 @@ use mathlib.Core.Path.{sym, _∙_}
 use native.Mathlib.Omega.{arith}
 use borrow.Author.Needs.{needs}
 use borrow.Author.Tests.{not-true, not-false}
-use Rattle.cbor.proofs.ReadingLaws.{number-stopped, number-went}
+use Rattle.cbor_reading.proofs.ReadingLaws.{number-stopped, number-went}
 use Rattle.check_command.proofs.CommandLaws.{start-stop, start-unknown, start-not-allowed, start-many, start-argument}
 use Rattle.check_command.proofs.open_command.Statement.{statement}
 use Rattle.check_command.proofs.open_command.Tie as tie

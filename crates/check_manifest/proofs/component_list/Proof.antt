@@ -3,7 +3,7 @@ use mathlib.Core.Logic.{inl}
 use native.Mathlib.Omega.{arith}
 use lib.ListN.{length}
 use borrow.Author.Needs.{needs}
-use Rattle.cbor.proofs.ReadingLaws.{item-stopped, item-went, string-fits, reading-stopped, reading-went}
+use Rattle.cbor_reading.proofs.ReadingLaws.{item-stopped, item-went, string-fits, reading-stopped, reading-went}
 use Rattle.check_manifest.proofs.InBytesLaws.{in-stop, in-bad, in-over}
 use Rattle.check_manifest.proofs.ListLaws.{list-stop, list-good}
 use Rattle.check_manifest.proofs.component_list.Statement.{statement}

@@ -4,7 +4,7 @@ use borrow.Author.Needs.{needs}
 use Rattle.rules.specs.Bytes.{Bytes}
 use Rattle.rules.specs.Commands.{COMMON}
 use Rattle.rules.specs.Check.{number, key, numberedAt}
-use Rattle.cbor.specs.Reading.{ends, reading}
+use Rattle.cbor_reading.specs.Reading.{ends, reading}
 use Rattle.check_manifest.proofs.BodyLaws.{Told, told, onward, halts, key-told}
 use Rattle.check_manifest.proofs.numbered.Statement.{statement}
 use Rattle.check_manifest.proofs.numbered.Tie as tie

@@ -4,7 +4,7 @@ use native.Mathlib.Omega.{arith}
 use borrow.Author.Needs.{needs}
 use Rattle.rules.specs.Manifest.{countAll}
 use Rattle.rules.proofs.CheckLaws.{item-law}
-use Rattle.cbor.proofs.ReadingLaws.{item-stopped, item-went, string-fits, reading-stopped}
+use Rattle.cbor_reading.proofs.ReadingLaws.{item-stopped, item-went, string-fits, reading-stopped}
 use Rattle.check_manifest.proofs.CommonLaws.{none-common, common-no-bytes, common-no-map, common-no-key, common-no-list, common-bad}
 use Rattle.check_manifest.proofs.CommonLaws.{common-left-over, common-good, list-went, list-stopped, common-sequence-went}
 use Rattle.check_manifest.proofs.read_common.Statement.{statement}

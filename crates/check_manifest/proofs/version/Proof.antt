@@ -5,7 +5,7 @@ use borrow.Author.Tests.{eq-eqb, ne-eqb}
 use Rattle.rules.specs.declared.answers.Refusal.the-variants.{WrongVersion}
 use Rattle.rules.specs.Bytes.{Bytes}
 use Rattle.rules.specs.Check.{number, key, versionAt}
-use Rattle.cbor.specs.Reading.{fault, ends, placeReading}
+use Rattle.cbor_reading.specs.Reading.{fault, ends, placeReading}
 use Rattle.check_manifest.proofs.BodyLaws.{Told, told, onward, halts, key-told}
 use Rattle.check_manifest.proofs.version.Statement.{statement}
 use Rattle.check_manifest.proofs.version.Tie as tie

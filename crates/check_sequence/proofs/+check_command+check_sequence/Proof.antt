@@ -7,8 +7,8 @@ use borrow.Fn.Kinds.{In}
 use borrow.Fn.PlainCycle.{Measures, is, falls, and}
 use Rattle.rules.specs.Manifest.{count, countCmd}
 use Rattle.rules.specs.Check.{command, commandsAt, sequenceAt}
-use Rattle.cbor.specs.Reading.{reading}
-use Rattle.cbor.proofs.ReadingLaws.{item-stopped, item-went, string-fits, pos, above, reading-stopped}
+use Rattle.cbor_reading.specs.Reading.{reading}
+use Rattle.cbor_reading.proofs.ReadingLaws.{item-stopped, item-went, string-fits, pos, above, reading-stopped}
 use Rattle.rules.proofs.CheckLaws.{item-law}
 use Rattle.check_command.proofs.CommandLaws.{start-forth}
 use Rattle.check_sequence.proofs.SequenceLaws.{nested, opened, read, done, command-forth, command-stop, command-opened, nested-none}
@@ -20,8 +20,8 @@ use Rattle.check_sequence.proofs.+check_command+check_sequence.Lts-chec
 use Rattle.check_sequence.proofs.check_sequence.Reads as check-sequence
 use Rattle.check_sequence.proofs.check_sequence.Kinds as check-sequence-kinds
 use Rattle.check_sequence.proofs.+check_command+check_sequence.Lts-check_sequence as check-sequence-lts
-use Rattle.cbor.proofs.reading.item.Reads as item-reads
-use Rattle.cbor.proofs.reading.refuse.Reads as refuse-reads
+use Rattle.cbor_reading.proofs.item.Reads as item-reads
+use Rattle.cbor_reading.proofs.refuse.Reads as refuse-reads
 use Rattle.check_command.proofs.open_command.Reads as open-command-reads
 use Rattle.check_sequence.proofs.+check_command+check_sequence.{statement}
 use Rattle.check_sequence.proofs.+check_command+check_sequence.Tie.{close}

@@ -4,8 +4,8 @@ use mathlib.Core.Logic.{inl}
 use native.Mathlib.Omega.{arith}
 use borrow.Author.Needs.{needs}
 use Rattle.rules.specs.Check.{strings}
-use Rattle.cbor.specs.Reading.{placeReading}
-use Rattle.cbor.proofs.ReadingLaws.{item-went, string-fits}
+use Rattle.cbor_reading.specs.Reading.{placeReading}
+use Rattle.cbor_reading.proofs.ReadingLaws.{item-went, string-fits}
 use Rattle.component_ids.proofs.IdentifierLaws.{strings-end, strings-stop, strings-next}
 use Rattle.component_ids.proofs.strings.Statement.{statement}
 use Rattle.component_ids.proofs.strings.Tie as tie

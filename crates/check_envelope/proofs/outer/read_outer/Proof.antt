@@ -1,5 +1,5 @@
 use borrow.Author.Needs.{needs}
-use Rattle.cbor.proofs.ReadingLaws.{item-stopped, item-went, place-stopped, place-went}
+use Rattle.cbor_reading.proofs.ReadingLaws.{item-stopped, item-went, place-stopped, place-went}
 use Rattle.check_envelope.proofs.OuterLaws.{outer-stop, outer-no-key, outer-bad, outer-no-manifest, outer-bytes}
 use Rattle.check_envelope.proofs.outer.read_outer.Statement.{statement}
 use Rattle.check_envelope.proofs.outer.read_outer.Tie as tie

@@ -1,5 +1,5 @@
 use borrow.Author.Needs.{needs}
-use Rattle.cbor.proofs.ReadingLaws.{item-stopped, item-went, above}
+use Rattle.cbor_reading.proofs.ReadingLaws.{item-stopped, item-went, above}
 use Rattle.check_manifest.proofs.SectionLaws.{common-none, common-stop, common-more}
 use Rattle.check_manifest.proofs.sections.common_sequence.Statement.{statement}
 use Rattle.check_manifest.proofs.sections.common_sequence.Tie as tie

@@ -2,7 +2,7 @@ use mathlib.Core.Path.{refl}
 use mathlib.Core.Logic.{inl}
 use native.Mathlib.Omega.{arith}
 use borrow.Author.Needs.{needs}
-use Rattle.cbor.proofs.ReadingLaws.{item-stopped, item-went, string-fits, reading-stopped}
+use Rattle.cbor_reading.proofs.ReadingLaws.{item-stopped, item-went, string-fits, reading-stopped}
 use Rattle.check_sequence.proofs.SequenceLaws.{read}
 use Rattle.check_manifest.proofs.SectionLaws.{stopped-promise, section-stop, section-bad, section-left-over, section-promise}
 use Rattle.check_manifest.proofs.sections.section.Statement.{statement}

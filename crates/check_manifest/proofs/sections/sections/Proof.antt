@@ -4,7 +4,7 @@ use borrow.Author.Needs.{needs}
 use Rattle.rules.specs.Commands.{PAYLOAD_FETCH}
 use Rattle.rules.specs.Check.{sectionsAt}
 use Rattle.rules.proofs.CheckLaws.{item-law}
-use Rattle.cbor.proofs.ReadingLaws.{item-stopped, item-went, pos, reading-stopped}
+use Rattle.cbor_reading.proofs.ReadingLaws.{item-stopped, item-went, pos, reading-stopped}
 use Rattle.check_manifest.proofs.SectionLaws.{key-section, Left, all-left, left-stopped, sections-none, sections-stop, sections-bad, sections-more}
 use Rattle.check_manifest.proofs.sections.sections.Statement.{statement}
 use Rattle.check_manifest.proofs.sections.sections.Tie as tie

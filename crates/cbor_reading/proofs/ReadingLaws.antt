@@ -10,10 +10,10 @@ use Rattle.rules.specs.Cbor.{BYTES, TEXT, Head, item}
 use Rattle.rules.specs.Check.{number}
 use Rattle.rules.proofs.CheckLaws.{item-law, bytes-after, text-after}
 use Rattle.rules.specs.Got.{Got, refused, got, _>>=_}
-use Rattle.cbor.specs.declared.reading.Reading.{Reading}
+use Rattle.cbor_reading.specs.declared.Reading.{Reading}
 use Rattle.cbor.specs.Answer.{itemMeans}
 use Rattle.cbor.specs.declared.ItemRead.{ItemRead}
-use Rattle.cbor.specs.Reading.{fault, view, headReading, placeReading, reading}
+use Rattle.cbor_reading.specs.Reading.{fault, view, headReading, placeReading, reading}
 
 -- two that go on alike where the first gave a value
 pub alike : {A B : Type 0} (x : Got A) (f g : A → Got B) → ((a : A) → x ≡ got a → f a ≡ g a) → (x >>= f) ≡ (x >>= g)

@@ -1,6 +1,6 @@
 use borrow.Author.Needs.{needs}
-use Rattle.cbor.proofs.reading.refuse.Statement.{statement}
-use Rattle.cbor.proofs.reading.refuse.Tie as tie
+use Rattle.cbor_reading.proofs.refuse.Statement.{statement}
+use Rattle.cbor_reading.proofs.refuse.Tie as tie
 
 returns : tie.Need-returns
 returns c = rw (c .number .ensures)

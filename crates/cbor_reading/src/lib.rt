@@ -1,18 +1,17 @@
 // What a reader of check answers. All fields have one width, so that it costs little to hand back.
 ghost use mathlib.Core.Path.{_≡_};
-ghost use mathlib.Core.Bool.{true};
-ghost use Prim.Native.Nat.{ℕ, _+_, _/_, _%_, _≤_, _<_};
+ghost use Prim.Native.Nat.{_≤_};
 ghost use lib.ListN.{length};
 ghost use Rattle.rules.specs.Lent.{was};
 ghost use Rattle.rules.specs.Cbor as Cbor;
-ghost use Rattle.cbor.specs.Reading.{fault, headReading};
-use crate::ItemRead;
-use crate::MAP;
-use crate::NIL;
-use crate::content;
-use crate::read_item;
-use crate::read_one_of;
+ghost use Rattle.cbor_reading.specs.Reading.{fault, headReading};
 use byte_buffer::wide;
+use cbor::ItemRead;
+use cbor::NIL;
+use cbor::read_item;
+use cbor::read_one_of;
+use cbor_short::is_short;
+use cbor_short::number_fits;
 use rules::answers::Refusal;
 
 // refusal is 0: what was read ends before `at`, and `value` is its number or count. Else refusal is the refusal's number, and `at` its place.
@@ -46,43 +45,6 @@ fn any_item(s: &[u8], end: usize, at: usize, kind: usize, lo: usize, hi: usize) 
         ItemRead::NotCbor(p) => refuse(Refusal::NotCbor, p),
         ItemRead::Malformed(p) => refuse(Refusal::Malformed, p),
     }
-}
-
-// Whether `first` is the whole head of an item of a kind from NUMBER to MAP.
-fn is_short(kind: usize, first: usize) -> bool
-    ensures { λ r. ⌜ (r ≡ true → (kind ≡ 1 → ⊥) × (kind < 6) × (first / 32 ≡ kind) × (first % 32 < 24)) ⌝ }
-{
-    if MAP < kind {
-        return false;
-    }
-    if kind == 1 {
-        return false;
-    }
-    // the head that says 0
-    let zero = 32 * kind;
-    if first < zero {
-        return false;
-    }
-    if 24 <= first - zero {
-        return false;
-    }
-    true
-}
-
-// Whether a head's number is in range, and what it says of the content fits into the `left` bytes after the head.
-fn number_fits(kind: usize, num: usize, left: usize, lo: usize, hi: usize) -> bool
-    ensures { λ r. ⌜ (r ≡ true → (lo ≤ num) × (num ≤ hi) × ((next : ℕ) → Cbor.after (record { kind = kind; num = num; next = next }) ≤ next + left)) ⌝ }
-{
-    if num < lo {
-        return false;
-    }
-    if hi < num {
-        return false;
-    }
-    if left < content(kind, num) {
-        return false;
-    }
-    true
 }
 
 // The head of an item of a wanted kind and range: the place after the head, and its number. Most heads have one byte: these come first.

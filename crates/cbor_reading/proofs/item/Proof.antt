@@ -1,10 +1,10 @@
 use mathlib.Core.Path.{sym, ap}
 use native.Mathlib.Omega.{arith}
 use borrow.Author.Needs.{needs}
-use Rattle.cbor.specs.Reading.{headReading}
-use Rattle.cbor.proofs.ShortLaws.{short-item}
-use Rattle.cbor.proofs.reading.item.Statement.{statement}
-use Rattle.cbor.proofs.reading.item.Tie as tie
+use Rattle.cbor_reading.specs.Reading.{headReading}
+use Rattle.cbor_reading.proofs.ShortLaws.{short-item}
+use Rattle.cbor_reading.proofs.item.Statement.{statement}
+use Rattle.cbor_reading.proofs.item.Tie as tie
 
 short : tie.Need-returns
 short c =

@@ -1,8 +1,8 @@
 use mathlib.Core.Path.{_∙_}
 use borrow.Author.Needs.{needs}
-use Rattle.cbor.proofs.ReadingLaws.{answered}
-use Rattle.cbor.proofs.reading.one_of.Statement.{statement}
-use Rattle.cbor.proofs.reading.one_of.Tie as tie
+use Rattle.cbor_reading.proofs.ReadingLaws.{answered}
+use Rattle.cbor_reading.proofs.one_of.Statement.{statement}
+use Rattle.cbor_reading.proofs.one_of.Tie as tie
 
 pub one-of-spec : {M : Type 1} → statement M
 one-of-spec =

@@ -2,8 +2,8 @@ use mathlib.Core.Path.{sym}
 use mathlib.Core.Bool.{true≢false}
 use native.Mathlib.Omega.{arith}
 use borrow.Author.Needs.{needs}
-use Rattle.cbor.proofs.reading.number_fits.Statement.{statement}
-use Rattle.cbor.proofs.reading.number_fits.Tie as tie
+use Rattle.cbor_short.proofs.number_fits.Statement.{statement}
+use Rattle.cbor_short.proofs.number_fits.Tie as tie
 
 pub number-fits-spec : {M : Type 1} → statement M
 number-fits-spec =

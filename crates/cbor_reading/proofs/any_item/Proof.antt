@@ -1,8 +1,8 @@
 use mathlib.Core.Path.{_∙_}
 use borrow.Author.Needs.{needs}
-use Rattle.cbor.proofs.ReadingLaws.{answered}
-use Rattle.cbor.proofs.reading.any_item.Statement.{statement}
-use Rattle.cbor.proofs.reading.any_item.Tie as tie
+use Rattle.cbor_reading.proofs.ReadingLaws.{answered}
+use Rattle.cbor_reading.proofs.any_item.Statement.{statement}
+use Rattle.cbor_reading.proofs.any_item.Tie as tie
 
 pub any-item-spec : {M : Type 1} → statement M
 any-item-spec =

@@ -1,10 +1,10 @@
 use mathlib.Core.Path.{sym, ap}
 use native.Mathlib.Omega.{arith}
 use borrow.Author.Needs.{needs}
-use Rattle.cbor.specs.Reading.{headReading}
-use Rattle.cbor.proofs.ShortLaws.{nil-item}
-use Rattle.cbor.proofs.reading.nil.Statement.{statement}
-use Rattle.cbor.proofs.reading.nil.Tie as tie
+use Rattle.cbor_reading.specs.Reading.{headReading}
+use Rattle.cbor_reading.proofs.ShortLaws.{nil-item}
+use Rattle.cbor_reading.proofs.nil.Statement.{statement}
+use Rattle.cbor_reading.proofs.nil.Tie as tie
 
 short : tie.Need-returns
 short c = sym (ap headReading (nil-item _ _ _ (omega arith)))

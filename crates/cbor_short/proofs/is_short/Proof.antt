@@ -2,8 +2,8 @@ use mathlib.Core.Path.{sym}
 use mathlib.Core.Bool.{true≢false}
 use native.Mathlib.Omega.{arith}
 use borrow.Author.Needs.{needs}
-use Rattle.cbor.proofs.reading.is_short.Statement.{statement}
-use Rattle.cbor.proofs.reading.is_short.Tie as tie
+use Rattle.cbor_short.proofs.is_short.Statement.{statement}
+use Rattle.cbor_short.proofs.is_short.Tie as tie
 
 pub is-short-spec : {M : Type 1} → statement M
 is-short-spec =

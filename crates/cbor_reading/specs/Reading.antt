@@ -5,7 +5,7 @@ use Rattle.rules.specs.Answers.{refusalNumber}
 use Rattle.rules.specs.Got.{Got, refused, got}
 use Rattle.rules.specs.Cbor.{Head}
 use Rattle.rules.specs.Cbor as Cbor
-use Rattle.cbor.specs.declared.reading.Reading.{Reading}
+use Rattle.cbor_reading.specs.declared.Reading.{Reading}
 
 abbrev pub fault : Refusal → ℕ → Reading
 fault r p = record { refusal = refusalNumber r; at = p; value = 0 }
