@@ -31,8 +31,8 @@ extern "C" {
 
 #define PITVORGAS_VERSION_MAJOR 0
 #define PITVORGAS_VERSION_MINOR 6
-#define PITVORGAS_VERSION_PATCH 0
-#define PITVORGAS_VERSION "0.6.0"
+#define PITVORGAS_VERSION_PATCH 1
+#define PITVORGAS_VERSION "0.6.1"
 
 /* Limits of document 01. */
 enum {

@@ -1,7 +1,7 @@
 -- Identifiers as they are found.
 use Prim.Native.Nat.{ℕ, zero, suc, _+_, _-_, _*_, _≤_, _<_}
 use mathlib.Core.Path.{_≡_, refl, sym, ap, _∙_}
-use mathlib.Core.List.{List, _∷_}
+use mathlib.Core.List.{List}
 use mathlib.Core.Bool.{Bool, true, false}
 use native.Mathlib.Omega.{arith}
 use lib.Dec.{leb}
@@ -12,7 +12,7 @@ use Rattle.rules.specs.Bytes.{Bytes, same, indexOf, bytesAt, spanAt}
 use Rattle.rules.specs.Limits.{limits}
 use Rattle.rules.specs.Slots.{slotBytes, idFrom, slotAt, slotOf}
 use Rattle.run_slot_search.specs.Search.{namesAt}
-use Rattle.run_slot_search.proofs.SearchLaws.{find-start, leftAt, left-turn, left-end, left-all}
+use Rattle.run_slot_search.proofs.SearchLaws.{find-start, index-hit, index-miss, leftAt, left-turn, left-end, left-all}
 use Rattle.text.specs.Text.{least}
 use Rattle.depot_slot_names.specs.Names.{slotWith}
 
@@ -41,12 +41,6 @@ slot-id b k p n from to qp qn qf qt =
 pub first-slot : (x b : Bytes) → slotWith x b 0 ≡ slotOf x b
 unfolding slotWith
 first-slot x b = sym (find-start x b)
-
-index-hit : (x y : Bytes) (ys : List Bytes) → same x y ≡ true → indexOf x (y ∷ ys) ≡ 0
-index-hit x y ys e = rw (indexOf, e)
-
-index-miss : (x y : Bytes) (ys : List Bytes) → same x y ≡ false → indexOf x (y ∷ ys) ≡ suc (indexOf x ys)
-index-miss x y ys e = rw (indexOf, e)
 
 -- the search of the components from k on
 module _ (x s : Bytes) (a : List ℕ) (k n r : ℕ) where

@@ -65,10 +65,10 @@ module _ (b : Bytes) where
   pub short-at : Short b → (n : ℕ) → slotBytes * n ≤ length b → (k : ℕ) → k < n → getD b (slotBytes * k) 0 ≤ limits .identifier
   short-at h n f k l = h k (omega arith)
 
-index-hit : (x y : Bytes) (ys : List Bytes) → same x y ≡ true → indexOf x (y ∷ ys) ≡ 0
+pub index-hit : (x y : Bytes) (ys : List Bytes) → same x y ≡ true → indexOf x (y ∷ ys) ≡ 0
 index-hit x y ys e = rw (indexOf, e)
 
-index-miss : (x y : Bytes) (ys : List Bytes) → same x y ≡ false → indexOf x (y ∷ ys) ≡ suc (indexOf x ys)
+pub index-miss : (x y : Bytes) (ys : List Bytes) → same x y ≡ false → indexOf x (y ∷ ys) ≡ suc (indexOf x ys)
 index-miss x y ys e = rw (indexOf, e)
 
 -- a list has x if x stands before its end
