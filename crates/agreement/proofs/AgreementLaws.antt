@@ -20,9 +20,9 @@ use Rattle.rules.specs.Program.{programOf, translate}
 use Rattle.rules.specs.ProgramRun.{runProgram}
 use Rattle.rules_theorems.proofs.Demand3.{demand-3}
 use Rattle.rules_theorems.proofs.ProgramFaults.{never97}
-use Rattle.run_admission.specs.declared.answer.Answer.the-variants as Answer
-use Rattle.run_admission.specs.declared.answer.Outcome.{Outcome}
-use Rattle.run_admission.specs.Answer.{inputOf, outcomeOf, Settles}
+use Rattle.run_ending.specs.declared.Answer.the-variants as Answer
+use Rattle.run_ending.specs.declared.Outcome.{Outcome}
+use Rattle.run_ending.specs.Answer.{inputOf, outcomeOf, Settles}
 use Rattle.translate.specs.declared.Translated.{Translated}
 use Rattle.translate.specs.declared.Translated.the-variants.{Refused, Program}
 use Rattle.translate.specs.Translate.{Translates}

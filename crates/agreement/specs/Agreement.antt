@@ -15,8 +15,8 @@ use Rattle.rules.specs.Check.{check}
 use Rattle.rules.specs.Run.{runEnvelope}
 use Rattle.rules.specs.Program.{programOf, programBytes, translate}
 use Rattle.rules.specs.ProgramRun.{runProgram}
-use Rattle.run_admission.specs.declared.answer.Answer.the-variants as Answer
-use Rattle.run_admission.specs.Answer.{inputOf, outcomeOf, Settles}
+use Rattle.run_ending.specs.declared.Answer.the-variants as Answer
+use Rattle.run_ending.specs.Answer.{inputOf, outcomeOf, Settles}
 use Rattle.translate.specs.declared.Translated.the-variants.{Refused, Program}
 use Rattle.translate.specs.Translate.{Translates}
 use Rattle.agreement.specs.declared.Agreement.{Agreement}

@@ -23,7 +23,7 @@ use Rattle.rules.specs.Program as Program
 use Rattle.rules.specs.ProgramRun.{runProgram}
 use Rattle.cbor_reader.specs.declared.Read.{Read}
 use Rattle.cbor_reader.specs.Read.{readOf}
-use Rattle.run_admission.specs.Answer.{inputOf, slotsAfter, traceAfter}
+use Rattle.run_ending.specs.Answer.{inputOf, slotsAfter, traceAfter}
 use Rattle.pitvorgas_answers.specs.Inputs.{controllerOf, groupOf}
 use Rattle.pitvorgas.specs.Answers.{checkedOf, newerOf, translatedOf, roomAfter, ranOf}
 use Rattle.conformance_cases.specs.Fields.{groupFrom, verdictFrom, traceFrom, fillFrom, runHead, isSet, stringEnd, deviceOf}

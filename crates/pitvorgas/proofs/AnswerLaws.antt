@@ -15,8 +15,8 @@ use Rattle.check_newer.specs.declared.Newest.{Newest}
 use Rattle.check_envelope.specs.declared.report.Report.{Report}
 use Rattle.check_newer.specs.Newer.{newestOf}
 use Rattle.check_envelope.specs.Report.{reportOf}
-use Rattle.run_admission.specs.declared.answer.Outcome.{Outcome}
-use Rattle.run_admission.specs.Answer.{outcomeOf}
+use Rattle.run_ending.specs.declared.Outcome.{Outcome}
+use Rattle.run_ending.specs.Answer.{outcomeOf}
 use Rattle.program_test.specs.declared.test.Tested.{Tested}
 use Rattle.program_test.specs.Test.{TestedAs}
 use Rattle.translate.specs.declared.Translated.{Translated}

@@ -15,8 +15,8 @@ use Rattle.rules.specs.Newer.{Newer, inFirst, inSecond}
 use Rattle.rules.specs.Run.{Input, Ran}
 use Rattle.component_ids.specs.Identifiers.{laid}
 use Rattle.check_manifest.specs.Sections.{placed}
-use Rattle.run_admission.specs.Answer as Run
-use Rattle.run_admission.specs.Answer.{slotsAfter, traceAfter}
+use Rattle.run_ending.specs.Answer as Run
+use Rattle.run_ending.specs.Answer.{slotsAfter, traceAfter}
 use Rattle.pitvorgas_answers.specs.Inputs.{controllerOf}
 use Rattle.pitvorgas_answers.specs.declared.Device.{Device}
 use Rattle.pitvorgas_answers.specs.declared.CheckAnswer.{CheckAnswer}

@@ -1,9 +1,9 @@
 -- The outcome of a run in numbers.
 use Prim.Native.Nat.{ℕ}
 use Rattle.rules.specs.Answers.{refusalNumber, endNumber}
-use Rattle.run_admission.specs.declared.answer.Answer.{Answer}
-use Rattle.run_admission.specs.declared.answer.Answer.the-variants as A
-use Rattle.run_admission.specs.declared.answer.Outcome.{Outcome}
+use Rattle.run_ending.specs.declared.Answer.{Answer}
+use Rattle.run_ending.specs.declared.Answer.the-variants as A
+use Rattle.run_ending.specs.declared.Outcome.{Outcome}
 use Rattle.pitvorgas_answers.specs.declared.RunAnswer.{RunAnswer}
 
 -- for each case of an outcome's answer, with its number

@@ -2,8 +2,8 @@
 ghost use mathlib.Core.Path.{_≡_};
 ghost use Rattle.pitvorgas_run_answer.specs.Answer.{answerOf};
 use pitvorgas_answers::RunAnswer;
-use run_admission::answer::Answer;
-use run_admission::answer::Outcome;
+use run_ending::Answer;
+use run_ending::Outcome;
 
 pub fn answer_of(o: Outcome) -> RunAnswer
     ensures { λ r. ⌜ r ≡ answerOf o ⌝ }

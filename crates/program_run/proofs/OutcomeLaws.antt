@@ -17,9 +17,9 @@ use Rattle.rules.specs.ProgramRun.{exec, runProgram}
 use Rattle.rules.specs.Run.{Input, admit, numberAfter, report, startState, envOf, runOf}
 use Rattle.run_slot_search.specs.Search.{namesAt, Found}
 use Rattle.run_commands.specs.Machine.{stateAt}
-use Rattle.run_admission.specs.declared.answer.Answer.the-variants as The
-use Rattle.run_admission.specs.declared.answer.Ending.{Ending}
-use Rattle.run_admission.specs.Answer.{refusalIn, LastEvent, endingOf, Settles}
+use Rattle.run_ending.specs.declared.Answer.the-variants as The
+use Rattle.run_ending.specs.declared.Ending.{Ending}
+use Rattle.run_ending.specs.Answer.{refusalIn, LastEvent, endingOf, Settles}
 use Rattle.run_admission.proofs.FrameLaws.{trace-room, lent-start, state-start, settles-refused}
 use Rattle.run_admission.proofs.FrameLaws as Frame
 use Rattle.program_steps.specs.declared.ProgramState.{ProgramState}

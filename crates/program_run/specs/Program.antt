@@ -3,8 +3,8 @@ use mathlib.Core.Bool.{Bool}
 use Rattle.rules.specs.declared.controller.Controller.{Controller}
 use Rattle.rules.specs.Lent.{Lent, was}
 use Rattle.rules.specs.ProgramRun.{runProgram}
-use Rattle.run_admission.specs.declared.answer.Outcome.{Outcome}
-use Rattle.run_admission.specs.Answer.{given, Settled}
+use Rattle.run_ending.specs.declared.Outcome.{Outcome}
+use Rattle.run_ending.specs.Answer.{given, Settled}
 
 -- the outcome, the slots and the trace are those of the rule's run
 abbrev pub Runs : Lent → Bool → Controller → Lent → Lent → Lent → Outcome → Type 0

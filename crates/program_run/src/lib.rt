@@ -7,13 +7,13 @@ use program_test::test::test_program;
 use rules::answers::Refusal;
 use rules::controller::Controller;
 use rules::controller::MEMORY_NUMBERS;
-use run_admission::admit::Request;
-use run_admission::admit::admit;
-use run_admission::answer::Answer;
-use run_admission::answer::Outcome;
-use run_admission::answer::refused;
-use run_admission::ending::ended;
-use run_admission::ending::number_after;
+use run_admission::Request;
+use run_admission::admit;
+use run_ending::Answer;
+use run_ending::Outcome;
+use run_ending::ended;
+use run_ending::number_after;
+use run_ending::refused;
 
 // The run of a program that the test has accepted, by what the test found.
 fn run_tested(

@@ -15,7 +15,7 @@ use Rattle.rules.specs.Bytes.{Bytes, allIn}
 use Rattle.rules.specs.Slots.{answerBytes, goodSlots, slotNames}
 use Rattle.rules.specs.Run.{Input, mayStart, numberFits, admit}
 use Rattle.run_slot_search.specs.Search.{slotNumbers}
-use Rattle.run_admission.specs.Answer.{refusalIn}
+use Rattle.run_ending.specs.Answer.{refusalIn}
 use Rattle.run_admission.specs.Admission.{assignedAfter}
 
 -- the answer, what holds where it is 0, and the numbers of slots after it

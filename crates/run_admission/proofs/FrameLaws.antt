@@ -27,10 +27,10 @@ use Rattle.run_slots.proofs.ParamsLaws.{zeros, params-start, fit-start}
 use Rattle.run_slot_search.proofs.SearchLaws.{good-some}
 use Rattle.run_actions.specs.Action.{AllHold}
 use Rattle.run_commands.specs.Machine.{stateAt, Lends}
-use Rattle.run_admission.specs.declared.answer.Answer.the-variants as The
-use Rattle.run_admission.specs.declared.answer.Ending.{Ending}
-use Rattle.run_admission.specs.Answer.{refusalIn, endingOf, Settles}
-use Rattle.run_admission.proofs.EndingLaws.{finished-law}
+use Rattle.run_ending.specs.declared.Answer.the-variants as The
+use Rattle.run_ending.specs.declared.Ending.{Ending}
+use Rattle.run_ending.specs.Answer.{refusalIn, endingOf, Settles}
+use Rattle.run_ending.proofs.EndingLaws.{finished-law}
 
 -- a refusal of a run has place 0
 abbrev AtZero : {A : Type 0} → Got A → Type 0

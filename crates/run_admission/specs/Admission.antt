@@ -13,8 +13,8 @@ use Rattle.rules.specs.Limits.{limits}
 use Rattle.rules.specs.Slots.{goodSlots}
 use Rattle.rules.specs.Run.{Input, mayStart, numberFits, admit}
 use Rattle.run_slot_search.specs.Search.{namesAt, slotNumbers, Found}
-use Rattle.run_admission.specs.declared.admit.Request.{Request}
-use Rattle.run_admission.specs.Answer.{refusalIn, given}
+use Rattle.run_admission.specs.declared.Request.{Request}
+use Rattle.run_ending.specs.Answer.{refusalIn, given}
 
 -- the identifiers of the components lie in s
 abbrev pub Requested : Bytes → Request → List ℕ → Type 0

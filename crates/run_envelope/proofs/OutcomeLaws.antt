@@ -17,11 +17,11 @@ use Rattle.rules_theorems.proofs.Effects.{envelope-effects}
 use Rattle.check_envelope.specs.declared.report.Checked.the-variants as The
 use Rattle.check_envelope.specs.declared.report.Report.{Report}
 use Rattle.check_envelope.specs.Report.{reportOf}
-use Rattle.run_admission.specs.declared.answer.Answer.the-variants.{Refused, Ran}
-use Rattle.run_admission.specs.declared.answer.Ending.{Ending}
+use Rattle.run_ending.specs.declared.Answer.the-variants.{Refused, Ran}
+use Rattle.run_ending.specs.declared.Ending.{Ending}
 use Rattle.run_actions.specs.declared.Progress.{Progress}
 use Rattle.run_slot_search.specs.Search.{namesAt, Found}
-use Rattle.run_admission.specs.Answer.{refusalIn, LastEvent, endingOf, Settles}
+use Rattle.run_ending.specs.Answer.{refusalIn, LastEvent, endingOf, Settles}
 use Rattle.run_commands.specs.Machine.{outAt}
 use Rattle.run_sections.specs.Sections.{SectionsJob, SectionsRan}
 use Rattle.manifest_accessors.specs.Accepted.{Accepted}

@@ -4,8 +4,8 @@ use Rattle.rules.specs.declared.answers.Group.{Group}
 use Rattle.rules.specs.declared.controller.Controller.{Controller}
 use Rattle.rules.specs.Lent.{Lent, was}
 use Rattle.rules.specs.Run.{runEnvelope}
-use Rattle.run_admission.specs.declared.answer.Outcome.{Outcome}
-use Rattle.run_admission.specs.Answer.{given, Settled}
+use Rattle.run_ending.specs.declared.Outcome.{Outcome}
+use Rattle.run_ending.specs.Answer.{given, Settled}
 
 -- the outcome, the slots and the trace are those of the rule's run
 abbrev pub Runs : Lent → Group → Bool → Controller → Lent → Lent → Lent → Outcome → Type 0

@@ -9,13 +9,13 @@ use rules::controller::Controller;
 use rules::controller::MEMORY_NUMBERS;
 use rules::controller::Places;
 use rules::controller::SectionPlaces;
-use run_admission::admit::Request;
-use run_admission::admit::admit;
-use run_admission::answer::Answer;
-use run_admission::answer::Outcome;
-use run_admission::answer::refused;
-use run_admission::ending::ended;
-use run_admission::ending::number_after;
+use run_admission::Request;
+use run_admission::admit;
+use run_ending::Answer;
+use run_ending::Outcome;
+use run_ending::ended;
+use run_ending::number_after;
+use run_ending::refused;
 use run_sections::run_sections;
 
 // The run of an envelope that check has accepted, by what check reported.

@@ -1,5 +1,5 @@
 use Rattle.rules.specs.Run.{runEnvelope}
-use Rattle.run_admission.specs.Answer.{inputOf}
+use Rattle.run_ending.specs.Answer.{inputOf}
 use Rattle.pitvorgas_answers.specs.Inputs.{controllerOf, groupOf}
 use Rattle.pitvorgas.proofs.AnswerLaws.{ran-answer}
 use borrow.Author.Needs.{needs}

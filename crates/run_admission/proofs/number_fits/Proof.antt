@@ -1,6 +1,6 @@
 use borrow.Author.Needs.{needs}
-use Rattle.run_admission.proofs.admit.number_fits.Statement.{statement}
-use Rattle.run_admission.proofs.admit.number_fits.Tie as tie
+use Rattle.run_admission.proofs.number_fits.Statement.{statement}
+use Rattle.run_admission.proofs.number_fits.Tie as tie
 
 install : tie.Need-returns
 install c = rw (c .enum-told .given .1)

@@ -12,10 +12,10 @@ use Rattle.rules.specs.Lent.{Lent, was, left}
 use Rattle.rules.specs.Got.{Got, refused, got}
 use Rattle.rules.specs.Step.{eventBytes}
 use Rattle.rules.specs.Run.{Input, Ran, lastPlace}
-use Rattle.run_admission.specs.declared.answer.Answer as The
-use Rattle.run_admission.specs.declared.answer.Answer.the-variants as Answer
-use Rattle.run_admission.specs.declared.answer.Ending.{Ending}
-use Rattle.run_admission.specs.declared.answer.Outcome.{Outcome}
+use Rattle.run_ending.specs.declared.Answer as The
+use Rattle.run_ending.specs.declared.Answer.the-variants as Answer
+use Rattle.run_ending.specs.declared.Ending.{Ending}
+use Rattle.run_ending.specs.declared.Outcome.{Outcome}
 
 -- what a run is given
 abbrev pub inputOf : Bool → Controller → Bytes → Bytes → Bytes → Input

@@ -3,8 +3,8 @@ use borrow.Author.Tests.{not-true, not-false}
 use Rattle.run_slot_search.proofs.SearchLaws.{good-short}
 use Rattle.rules.proofs.GotLaws.{holds, fails}
 use Rattle.run_admission.proofs.AdmitLaws.{no-verdict, no-start, wrong-number, bad-slots, no-slot, bad-answers, short-trace, admitted}
-use Rattle.run_admission.proofs.admit.admit.Statement.{statement}
-use Rattle.run_admission.proofs.admit.admit.Tie as tie
+use Rattle.run_admission.proofs.admit.Statement.{statement}
+use Rattle.run_admission.proofs.admit.Tie as tie
 
 -- the way back, from each test that was passed to the one before it: the verdict, the start, the number, the slots
 abbrev verified : tie.Else2 → tie.Else1

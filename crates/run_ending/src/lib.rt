@@ -1,17 +1,50 @@
-// How a run ended, and the device's number after it.
+// What a run answers: a refusal, or how it ended; and the device's number after it.
 ghost use mathlib.Core.Path.{_≡_};
 ghost use mathlib.Core.Bool.{cond};
 ghost use lib.Dec.{eqb};
 ghost use Rattle.rules.specs.Lent.{was};
 ghost use Rattle.rules.specs.Answers.{endOf};
+ghost use Rattle.rules.specs.Got as Got;
 ghost use Rattle.rules.specs.Run.{lastPlace, numberAfter};
-ghost use Rattle.run_admission.specs.Answer.{LastEvent, endingOf};
-use crate::answer::Ending;
+ghost use Rattle.run_ending.specs.Answer.{outcomeOf, LastEvent, endingOf};
 use byte_buffer::two;
 use rules::answers::End;
 use rules::answers::Group;
+use rules::answers::Refusal;
+use rules::controller::Controller;
 use rules::event_format::EVENT_BYTES;
 use rules::event_format::PLACE;
+
+// How a run ended.
+pub struct Ending {
+    pub end: End,
+    // the place of the last event, 0 where the run finished
+    pub place: usize,
+    pub events: usize,
+    pub used: usize,
+}
+
+// A refusal with its place, or how the run ended.
+pub enum Answer {
+    Refused(Refusal, usize),
+    Ran(Ending),
+}
+
+// The answer, and the device's number after the run.
+pub struct Outcome {
+    pub answer: Answer,
+    pub number: usize,
+}
+
+// A refusal leaves the device's number as it is.
+pub fn refused(refusal: Refusal, place: usize, device: Controller) -> Outcome
+    ensures { λ r. ⌜ r ≡ outcomeOf device (Got.refused refusal place) ⌝ }
+{
+    Outcome {
+        answer: Answer::Refused(refusal, place),
+        number: device.number,
+    }
+}
 
 // The bytes of an event from its place on.
 const FROM_PLACE: usize = EVENT_BYTES - PLACE;

@@ -1,6 +1,6 @@
 use borrow.Author.Needs.{needs}
-use Rattle.run_admission.proofs.ending.ended.Statement.{statement}
-use Rattle.run_admission.proofs.ending.ended.Tie as tie
+use Rattle.run_ending.proofs.ended.Statement.{statement}
+use Rattle.run_ending.proofs.ended.Tie as tie
 
 ends : tie.Need-returns
 ends c = rw (c .before .of .ensures, c .last-place .ensures)

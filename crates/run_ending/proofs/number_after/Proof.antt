@@ -1,7 +1,7 @@
 use borrow.Author.Needs.{needs}
-use Rattle.run_admission.proofs.EndingLaws.{takes, keeps}
-use Rattle.run_admission.proofs.ending.number_after.Statement.{statement}
-use Rattle.run_admission.proofs.ending.number_after.Tie as tie
+use Rattle.run_ending.proofs.EndingLaws.{takes, keeps}
+use Rattle.run_ending.proofs.number_after.Statement.{statement}
+use Rattle.run_ending.proofs.number_after.Tie as tie
 
 finished : tie.Need-returns
 finished c = takes _ (c .before .before .before .args .end) _ (c .before .before .before .args .old) (c .before .enum-told .given .1) (c .if1 .taken)

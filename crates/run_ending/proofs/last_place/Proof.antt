@@ -9,9 +9,9 @@ use Rattle.rules.specs.Bytes.{Bytes, twoAt}
 use Rattle.rules.specs.Run.{lastPlace}
 use Rattle.rules.specs.Step.{eventBytes, eventPlace}
 use Rattle.rules.proofs.BytesLaws.{num-2}
-use Rattle.run_admission.specs.Answer.{LastEvent}
-use Rattle.run_admission.proofs.ending.last_place.Statement.{statement}
-use Rattle.run_admission.proofs.ending.last_place.Tie as tie
+use Rattle.run_ending.specs.Answer.{LastEvent}
+use Rattle.run_ending.proofs.last_place.Statement.{statement}
+use Rattle.run_ending.proofs.last_place.Tie as tie
 
 finished : tie.Need-returns
 finished c = rw (eq-eqb _ 0 (c .if1 .taken))
