@@ -28,14 +28,14 @@ bytes (refused r p) = []
 bytes (got b) = b
 
 -- the envelope and its program, on the same input, give the same answer
-abbrev bothGive : Bytes → Group → ℕ → Bytes → Answer → List Case
+abbrev pub bothGive : Bytes → Group → ℕ → Bytes → Answer → List Case
 bothGive s g n slots a = case (runs s g (device n slots)) a ∷ case (executes (bytes (translate s g (limits .program))) (device n slots)) a ∷ []
 
 -- slots of the components [h'41'] and [h'42'], which hold an image with the digest 00..00
-abbrev slotA : Bytes
+abbrev pub slotA : Bytes
 slotA = lentSlot (0x81 ∷ 0x41 ∷ 0x41 ∷ []) (0 ∷ 0 ∷ 0 ∷ 9 ∷ []) 1 (0 ∷ 0 ∷ 0 ∷ 5 ∷ []) (replicate (limits .digest) 0)
 
-abbrev slotB : Bytes
+abbrev pub slotB : Bytes
 slotB = lentSlot (0x81 ∷ 0x41 ∷ 0x42 ∷ []) (0 ∷ 0 ∷ 0 ∷ 9 ∷ []) 1 (0 ∷ 0 ∷ 0 ∷ 5 ∷ []) (replicate (limits .digest) 0)
 
 -- 10: try each [20 {digest 00..00}, 1 (another vendor)] or [3]

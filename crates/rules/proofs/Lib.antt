@@ -1,6 +1,7 @@
 pub mod Cases
 pub mod BenchSheet
 pub mod EasyMistakes
+pub mod CommonFirst
 pub mod RefusalOrder
 pub mod AnswerLaws
 pub mod GotLaws

@@ -1,7 +1,7 @@
 -- Check: the manifest that an envelope holds, or the first fault (01, What a manifest may hold; Refusal numbers): 'Check reads depth first,
 -- left to right; the first fault met counts, at its item's first byte; on one item the lowest number.' 'A count that no good item has .. is
 -- met at the head, before the contents'.
-use Rattle.rules.specs.Base.{ℕ, zero, suc, _+_, _-_, _/_, _%_, List, [], _∷_, _++_, map, Bool, not, Option, some, none, ltb, leb, eqb, length}
+use Rattle.rules.specs.Base.{ℕ, zero, suc, _+_, _-_, _*_, _/_, _%_, List, [], _∷_, _++_, map, Bool, cond, not, Option, some, none, ltb, leb, eqb, length}
 use Rattle.rules.specs.Base.{EnvelopeTooLong, NotCbor, Malformed, WrongVersion, RepeatedIdentifier, UnknownCommand, UnknownParameter, NotAllowed}
 use Rattle.rules.specs.Base.{NoSuchComponent, TooDeep, TooManyCommands, Parameter, Coerce, Uri, Source, Digest, Size}
 use Rattle.rules.specs.Limits.{limits}
@@ -31,6 +31,10 @@ nothing = give none none none none none
 -- what v gives, and what g gives beside it
 abbrev pub overGiven : Given → Given → Given
 overGiven v g = record { coerce = orElse (v .coerce) (g .coerce); params = over (v .params) (g .params) }
+
+-- 02, T-01: 'each command of common now weighs as many as the manifest map's head promises sections (entries less 3, at least 1)'
+abbrev pub commonWeight : ℕ → ℕ
+commonWeight entries = cond (leb entries 3) 1 (entries - 3)
 
 module _ (s : Bytes) where
   -- an unsigned number
@@ -114,106 +118,107 @@ module _ (s : Bytes) where
     (v, q) ← parameter n what e p
     entries n k (name + 1) (overGiven v g) e q
 
-  -- k + 1 'sequences, each in a byte string', after m commands; `deeper` reads a sequence
-  unfoldable pub alternativesAt : (ℕ → Read Seq) → ℕ → ℕ → Read Alts
-  alternativesAt deeper zero m e at = do
+  -- k + 1 'sequences, each in a byte string', after commands that weigh m; `deeper` reads a sequence, whose commands weigh w each
+  unfoldable pub alternativesAt : (ℕ → Read Seq) → ℕ → ℕ → ℕ → Read Alts
+  alternativesAt deeper w zero m e at = do
     (a, p) ← inBytes (deeper m) e at
     got (last a, p .to)
-  alternativesAt deeper (suc k) m e at = do
+  alternativesAt deeper w (suc k) m e at = do
     (a, p) ← inBytes (deeper m) e at
-    (rest, q) ← alternativesAt deeper k (m + count a) e (p .to)
+    (rest, q) ← alternativesAt deeper w k (m + w * count a) e (p .to)
     got (or a rest, q)
 
-  -- the argument at `at` of the command whose code is at `place`, with m commands before those that it holds: the command table's column
-  -- Argument. 72: 'index or source not below the count'
-  unfoldable pub argument : (ℕ → Read Seq) → ℕ → ℕ → ℕ → Form → Read Cmd
-  argument deeper n m place (sixteen op) e at = do
+  -- the argument at `at` of the command whose code is at `place`: the command table's column Argument. Commands weigh m up to here, and
+  -- each that the argument holds weighs w. 72: 'index or source not below the count'
+  unfoldable pub argument : (ℕ → Read Seq) → ℕ → ℕ → ℕ → ℕ → Form → Read Cmd
+  argument deeper n w m place (sixteen op) e at = do
     h ← item BYTES (limits .class) (limits .class) s e at
     got (one place (op (part s (h .next) (limits .class))) none, after h)
-  argument deeper n m place (nil op) e at = do
+  argument deeper n w m place (nil op) e at = do
     h ← item NIL 0 0 s e at
     got (one place op none, h .next)
-  argument deeper n m place (below op) e at = do
+  argument deeper n w m place (below op) e at = do
     (k, next) ← number e at
     _ ← need (ltb k n) NoSuchComponent at
     got (one place (op k) none, next)
-  argument deeper n m place alternatives e at = do
+  argument deeper n w m place alternatives e at = do
     h ← item ARRAY 1 (limits .alternatives) s e at
-    (a, next) ← alternativesAt deeper (h .num - 1) m e (h .next)
+    (a, next) ← alternativesAt deeper w (h .num - 1) m e (h .next)
     got (try a, next)
-  argument deeper n m place (parameters op) e at = do
+  argument deeper n w m place (parameters op) e at = do
     h ← item MAP 1 (limits .parameters) s e at
     (g, next) ← entries n (h .num) 0 nothing e (h .next)
     got (one place (op (g .params)) (g .coerce), next)
-  argument deeper n m place sequence e at = do
+  argument deeper n w m place sequence e at = do
     (a, p) ← inBytes (deeper m) e at
     got (sub a, p .to)
 
-  -- 'code, argument', after m commands. On the code 69 'not listed', 71 'command not allowed there', 74 '257th command': '74 at the code'
-  unfoldable pub command : (ℕ → Read Seq) → ℕ → ℕ → ℕ → Read Cmd
-  command deeper n section m e at = do
+  -- 'code, argument', of weight w, after commands that weigh m. On the code 69 'not listed', 71 'command not allowed there', and 74 'at the
+  -- code that takes the sum past 256' (02, T-01)
+  unfoldable pub command : (ℕ → Read Seq) → ℕ → ℕ → ℕ → ℕ → Read Cmd
+  command deeper n section w m e at = do
     (c, p) ← number e at
     row ← found (rowOf c commands) UnknownCommand at
     _ ← need (isAllowed section (row .allowed)) NotAllowed at
-    _ ← need (ltb m (limits .commands)) TooManyCommands at
-    argument deeper n (m + 1) at (row .form) e p
+    _ ← need (leb (m + w) (limits .commands)) TooManyCommands at
+    argument deeper n w (m + w) at (row .form) e p
 
   -- k commands
-  unfoldable pub commandsAt : (ℕ → Read Seq) → ℕ → ℕ → ℕ → ℕ → Read Seq
-  commandsAt deeper n section zero m e at = got (end, at)
-  commandsAt deeper n section (suc k) m e at = do
-    (c, p) ← command deeper n section m e at
-    (cs, q) ← commandsAt deeper n section k (m + countCmd c) e p
+  unfoldable pub commandsAt : (ℕ → Read Seq) → ℕ → ℕ → ℕ → ℕ → ℕ → Read Seq
+  commandsAt deeper n section w zero m e at = got (end, at)
+  commandsAt deeper n section w (suc k) m e at = do
+    (c, p) ← command deeper n section w m e at
+    (cs, q) ← commandsAt deeper n section w k (m + w * countCmd c) e p
     got (then c cs, q)
 
-  -- a sequence of a section, after m commands: 'array of 2n items, n 0 to 64: code, argument, and so on', an odd count 'met at the head'.
-  -- It and those in it may be d deep: '73 is at the deep sequence's array head'
-  unfoldable pub sequenceAt : ℕ → ℕ → ℕ → ℕ → Read Seq
-  sequenceAt n section zero m e at = do
+  -- a sequence of a section, whose commands weigh w each, after commands that weigh m: 'array of 2n items, n 0 to 64: code, argument, and so
+  -- on', an odd count 'met at the head'. It and those in it may be d deep: '73 is at the deep sequence's array head'
+  unfoldable pub sequenceAt : ℕ → ℕ → ℕ → ℕ → ℕ → Read Seq
+  sequenceAt n section w zero m e at = do
     h ← item ARRAY 0 (limits .sequence + limits .sequence) s e at
     _ ← need (eqb (h .num % 2) 0) Malformed at
     refused TooDeep at
-  sequenceAt n section (suc d) m e at = do
+  sequenceAt n section w (suc d) m e at = do
     h ← item ARRAY 0 (limits .sequence + limits .sequence) s e at
     _ ← need (eqb (h .num % 2) 0) Malformed at
-    commandsAt (sequenceAt n section d) n section (h .num / 2) m e (h .next)
+    commandsAt (sequenceAt n section w d) n section w (h .num / 2) m e (h .next)
 
-  -- a section under `k`: 'a sequence in a byte string', after m commands; 'common or section is depth 1' of 4
-  unfoldable pub sectionAt : ℕ → ℕ → ℕ → Read Section
-  sectionAt n k m e at = do
-    (a, p) ← inBytes (sequenceAt n k (limits .depth) m) e at
+  -- a section under `k`: 'a sequence in a byte string'; 'common or section is depth 1' of 4
+  unfoldable pub sectionAt : ℕ → ℕ → ℕ → ℕ → Read Section
+  sectionAt n k w m e at = do
+    (a, p) ← inBytes (sequenceAt n k w (limits .depth) m) e at
     got (record { key = k; place = p; seq = a }, p .to)
 
   -- common's own, of which k entries are left: 'optional key 4 a sequence in a byte string'
-  unfoldable pub commonSeq : ℕ → ℕ → Read (List Section)
-  commonSeq n zero e at = got ([], at)
-  commonSeq n (suc k) e at = do
+  unfoldable pub commonSeq : ℕ → ℕ → ℕ → Read (List Section)
+  commonSeq n w zero e at = got ([], at)
+  commonSeq n w (suc k) e at = do
     p ← key 4 e at
-    (x, next) ← sectionAt n COMMON 0 e p
+    (x, next) ← sectionAt n COMMON w 0 e p
     got (x ∷ [], next)
 
   -- 'Common: map, key 2 the component list in a byte string, optional key 4 a sequence'; its count is '1 or 2'
-  unfoldable pub commonAt : Read (List Span × List Section)
-  commonAt e at = do
+  unfoldable pub commonAt : ℕ → Read (List Span × List Section)
+  commonAt w e at = do
     h ← item MAP 1 2 s e at
     p ← key 2 e (h .next)
     (ids, q) ← inBytes components e p
-    (xs, next) ← commonSeq (length ids) (h .num - 1) e (q .to)
+    (xs, next) ← commonSeq (length ids) w (h .num - 1) e (q .to)
     got ((ids, xs), next)
 
-  -- k sections more, whose keys are at least `low`, after m commands: 'keys ascending', 'optional 8 payload fetch, 9 install, 10 validate,
-  -- 11 load, 12 run'
+  -- k sections more, whose keys are at least `low`, after commands that weigh m; theirs weigh 1 each: 'keys ascending', 'optional 8 payload
+  -- fetch, 9 install, 10 validate, 11 load, 12 run'
   unfoldable pub sectionsAt : ℕ → ℕ → ℕ → ℕ → Read (List Section)
   sectionsAt n zero low m e at = got ([], at)
   sectionsAt n (suc k) low m e at = do
     h ← item NUMBER low RUN s e at
-    (x, p) ← sectionAt n (h .num) m e (h .next)
+    (x, p) ← sectionAt n (h .num) 1 m e (h .next)
     (xs, q) ← sectionsAt n k (h .num + 1) (m + count (x .seq)) e p
     got (x ∷ xs, q)
 
   -- 'common in a byte string', and its place
-  unfoldable pub commonIn : ℕ → ℕ → Got ((List Span × List Section) × Span)
-  commonIn e at = inBytes commonAt e at
+  unfoldable pub commonIn : ℕ → ℕ → ℕ → Got ((List Span × List Section) × Span)
+  commonIn w e at = inBytes (commonAt w) e at
 
   -- '1 version, is 1', else 67: the place after it
   unfoldable pub versionAt : ℕ → ℕ → Got ℕ
@@ -239,12 +244,13 @@ module _ (s : Bytes) where
     (n, next) ← numberedAt e p
     got ((h .num, n), next)
 
-  -- the whole manifest: the commands of common's sequence count before those of the sections
+  -- the whole manifest: the commands of common's sequence weigh before those of the sections
   unfoldable pub manifestAt : Read Manifest
   manifestAt e at = do
     ((k, n), p) ← frontAt e at
-    ((ids, xs), common) ← commonIn e p
-    (ys, next) ← sectionsAt (length ids) (k - 3) PAYLOAD_FETCH (countAll xs) e (common .to)
+    let w = commonWeight k
+    ((ids, xs), common) ← commonIn w e p
+    (ys, next) ← sectionsAt (length ids) (k - 3) PAYLOAD_FETCH (w * countAll xs) e (common .to)
     got (record { part = span at next; number = n; ids = ids; common = common; sections = xs ++ ys }, next)
 
   -- 'nil or a byte string (unread)'; the place after it

@@ -5,7 +5,7 @@ use Rattle.rules.specs.Base.{ℕ, _+_, _*_, Limits}
 -- 01, What a manifest may hold, in this order: 'Envelope, at most 4,096 bytes', 'numbers to 2^32-1', '1 to 8 identifiers', 'each an array
 -- of 1 to 4 byte strings, at most 32 bytes as encoded', 'n 0 to 64', 'at most 4 deep', 'At most 256 commands in an envelope', 'array of 1
 -- to 4 sequences', 'map, 1 to 5 entries', 'text, 1 to 96 bytes', '32 bytes', '16-byte string'. How a run goes: '1 to 8 slots'. Refusal
--- numbers, 84: 'trace under 2,048 bytes'. The flat program: '1,024 records, 32,768 bytes'
+-- numbers, 84: 'trace under 2,048 bytes'. The flat program: '1,024 records'. 02, T-01: 'their size limit becomes 49,152 bytes'
 abbrev pub limits : Limits
 limits =
     record {
@@ -25,7 +25,7 @@ limits =
       slots = 8;
       trace = 2048;
       records = 1024;
-      program = 32768;
+      program = 49152;
     }
 
 -- lengths that follow from them. Places: the first byte of each identifier, and the one after its last
@@ -38,6 +38,10 @@ sectionCount = 6
 
 abbrev pub sectionPlaces : ℕ
 sectionPlaces = 2 * sectionCount
+
+-- the sequences that a group does: common before each of at most three sections
+abbrev pub planSequences : ℕ
+planSequences = 6
 
 -- the numbers that hold a component's parameters
 abbrev pub paramNumbers : ℕ

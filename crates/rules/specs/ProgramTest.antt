@@ -6,7 +6,7 @@ use Rattle.rules.specs.Bytes.{Bytes, part, num, same, repeats}
 use Rattle.rules.specs.Got.{Got, refused, got, found, _>>=_}
 use Rattle.rules.specs.Got as G
 use Rattle.rules.specs.Commands.{Op, Params, Form, sixteen, nil, below, alternatives, parameters, sequence, Allowed, anywhere}
-use Rattle.rules.specs.Commands.{only, commands, rowOf, among, uriKey, sourceKey, digestKey, sizeKey}
+use Rattle.rules.specs.Commands.{COMMON, only, commands, rowOf, among, uriKey, sourceKey, digestKey, sizeKey}
 use Rattle.rules.specs.Run.{sectionsOf}
 use Rattle.rules.specs.ProgramFormat.{mark, START, NAME, JUMP, NONE, codeFrom, groupFrom, numberFrom, componentsFrom, recordsFrom, startSize, lengthFrom}
 use Rattle.rules.specs.ProgramFormat.{nameSize, componentFrom, placeFrom, targetFrom, argumentFrom, recordSize, sourceBytes, sizeBytes}
@@ -67,14 +67,14 @@ opIn n i (parameters op) p = do
   got (op ps)
 opIn n i sequence p = bad
 
--- a section of the group allows it: 'fetch only in group 0, run only in 1'
+-- common or a section of the group allows it: 'fetch only in group 0, run only in 1'
 abbrev pub anyOf : List ℕ → List ℕ → Bool
 anyOf [] ys = false
 anyOf (x ∷ xs) ys = among x ys || anyOf xs ys
 
 abbrev pub groupAllows : Group → Allowed → Bool
 groupAllows g anywhere = true
-groupAllows g (only sections) = anyOf (sectionsOf g) sections
+groupAllows g (only sections) = anyOf (COMMON ∷ sectionsOf g) sections
 
 -- record number n of `total`, at the start of p, and what follows it: 'any place but in jumps'; 'targets of jumps and conditions are
 -- greater than the record's own number and at most the count (a condition's may be FFFF)'; 'other codes have FFFF'
@@ -127,7 +127,7 @@ abbrev pub groupIn : ℕ → Option Group
 groupIn g = cond (eqb g 0) (some Install) (cond (eqb g 1) (some Boot) none)
 
 -- 'Well formed: all this holds for the lengths and ranges above', 'no identifier stands twice', 'at most 256 non-jumps, 1,024 records,
--- 32,768 bytes, nothing left over'
+-- .. nothing left over', and 49,152 bytes (02, T-01)
 unfoldable pub programIn : Bytes → Got Program
 programIn p = do
   _ ← need (leb (length p) (limits .program) && leb startSize (length p) && marked START p)

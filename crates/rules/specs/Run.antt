@@ -1,5 +1,5 @@
 -- The run of a checked manifest, what every run tests first, and what it gives back (01, How a run goes; Refusal numbers).
-use Rattle.rules.specs.Base.{ℕ, _-_, _*_, _%_, List, [], _∷_, Bool, true, false, _&&_, cond, not, Option·getD, ltb, leb, eqb, length, replicate, Controller, Group, Install, Boot}
+use Rattle.rules.specs.Base.{ℕ, _-_, _*_, _%_, List, [], _∷_, _++_, Bool, true, false, _&&_, cond, not, Option·getD, ltb, leb, eqb, length, replicate, Controller, Group, Install, Boot}
 use Rattle.rules.specs.Base.{NotVerified, EventOpen, BadSlots, NoSlot, BadAnswers, ShortTrace, End, Finished, ConditionFailed, Started, Failed, WrongNumber}
 use Rattle.rules.specs.Answers.{endNumber}
 use Rattle.rules.specs.Limits.{limits}
@@ -60,18 +60,28 @@ module _ (env : Env) where
   runAll [] st = out Finished st
   runAll (s ∷ ss) st = next (runSeq s false 0 false st) (λ st′. runAll ss st′) (λ st′. out ConditionFailed st′)
 
--- 'Install does common, 8, 9; boot does common, 10, 11, 12; each once, absent ones skipped'
+-- 'Install does common, 8, 9; boot does common, 10, 11, 12; .. absent ones skipped': the sections of a group, beside common
 abbrev pub sectionsOf : Group → List ℕ
-sectionsOf Install = COMMON ∷ PAYLOAD_FETCH ∷ INSTALL ∷ []
-sectionsOf Boot = COMMON ∷ VALIDATE ∷ LOAD ∷ RUN ∷ []
+sectionsOf Install = PAYLOAD_FETCH ∷ INSTALL ∷ []
+sectionsOf Boot = VALIDATE ∷ LOAD ∷ RUN ∷ []
 
 abbrev pub chosen : List ℕ → List Section → List Seq
 chosen ks [] = []
 chosen ks (x ∷ xs) = cond (among (x .key) ks) (x .seq ∷ chosen ks xs) (chosen ks xs)
 
+-- each section, with common before it
+abbrev pub each : {A : Type 0} → List A → List A → List A
+each common [] = []
+each common (s ∷ ss) = common ++ (s ∷ each common ss)
+
+-- 02, T-01: 'common runs before each section present in the group, or once where the group has none'
+abbrev pub withCommon : {A : Type 0} → List A → List A → List A
+withCommon common [] = common
+withCommon common (s ∷ ss) = each common (s ∷ ss)
+
 -- the sequences that a group does
 abbrev pub planOf : Group → Manifest → List Seq
-planOf g m = chosen (sectionsOf g) (m .sections)
+planOf g m = withCommon (chosen (COMMON ∷ []) (m .sections)) (chosen (sectionsOf g) (m .sections))
 
 -- 'Input: signature verdict; device .. 1 to 8 slots .. host answers of 37 bytes .. trace buffer'
 pub record Input : Type 0 where

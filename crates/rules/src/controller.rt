@@ -45,7 +45,7 @@ impl Controller {
 
     pub const RECORDS: usize = 1024;
 
-    pub const PROGRAM_BYTES: usize = 32768;
+    pub const PROGRAM_BYTES: usize = 49152;
 }
 
 // A vendor or a class.
@@ -62,6 +62,11 @@ pub const SECTIONS: usize = 6;
 pub const SECTION_PLACES: usize = 2 * SECTIONS;
 
 pub type SectionPlaces = [usize; SECTION_PLACES];
+
+// Where the sequences that a group does start, as they follow each other: common before each of at most three sections.
+pub const PLAN_SEQUENCES: usize = 6;
+
+pub type PlanStarts = [usize; PLAN_SEQUENCES];
 
 // The numbers that hold a component's parameters.
 pub const PARAMETER_NUMBERS: usize = 5;

@@ -31,7 +31,7 @@ use Rattle.rules.specs.ProgramTest.{marked, groupIn, idsIn, recordsIn, nonJumps
 use Rattle.rules.specs.ProgramRun.{exec, runProgram}
 use Rattle.rules.proofs.GotLaws.{passed, split, split₂, or-false}
 use Rattle.rules_theorems.proofs.ManifestLaws.{sound}
-use Rattle.rules_theorems.proofs.FlatLaws.{counts, chosen-law}
+use Rattle.rules_theorems.proofs.FlatLaws.{counts, plan-law}
 use Rattle.rules_theorems.proofs.SlotLaws.{drop-put-past, other-kept, fixed-kept, length-kept, number-kept}
 
 -- a command that a run does: at which component, and the place of its code
@@ -360,10 +360,9 @@ run-of-effects g number ids body x r h q₀ =
 pub envelope-effects : (s : Bytes) (g : Group) (m : Manifest) (x : Input) (r : Ran) → check s ≡ got m → runEnvelope s g x ≡ got r → Effects (names s m) x r
 unfolding runEnvelope
 envelope-effects s g m x r e q₀ =
-    let h = sound s m e in
-    let (_, c, _) = chosen-law g (length (names s m)) (m .sections) (h .sections) in
+    let p = plan-law s g m (sound s m e) in
     run-of-effects g (m .number) (names s m) (λ env st. runAll env (planOf g m) st) x r
-    (more (envOf (names s m) x) (counts (planOf g m)) (limits .commands) _ _ (omega (arith, h .few)) (all-reaches (envOf (names s m) x) (planOf g m) (startState (names s m) x)))
+    (more (envOf (names s m) x) (counts (planOf g m)) (limits .commands) _ _ (p .few) (all-reaches (envOf (names s m) x) (planOf g m) (startState (names s m) x)))
     (rw e at q₀)
 
 few-commands : (b : Bytes) (p : Program) → programIn b ≡ got p → nonJumps (p .records) ≤ limits .commands

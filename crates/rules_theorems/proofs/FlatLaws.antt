@@ -1,26 +1,30 @@
 -- The program of an accepted manifest is well formed.
 use Prim.Native.Nat.{ℕ, _+_, _*_, _≤_, _<_}
-use mathlib.Core.Path.{_≡_, refl}
+use mathlib.Core.Path.{_≡_, refl, sym, _∙_}
 use mathlib.Core.List.{List, [], _∷_, _++_, map}
 use mathlib.Core.Bool.{Bool, true, false, _&&_, _||_, cond}
 use native.Mathlib.Omega.{arith}
+use native.Mathlib.Nat.{mul-add, mul-le-mul-right, suc-mul}
 use lib.Dec.{T, ltb, leb, eqb}
 use lib.ListN.{length, length-append}
 use borrow.Author.Tests.{leb-true, eqb-true, eq-eqb, lt-ltb, le-leb}
 use Rattle.rules.specs.declared.answers.Group.{Group}
+use Rattle.rules.specs.declared.answers.Group.the-variants.{Install, Boot}
 use Rattle.rules.specs.Limits.{limits}
 use Rattle.rules.specs.Bytes.{Bytes, flat}
-use Rattle.rules.specs.Commands.{Op, component, isCondition, among, Allowed, anywhere, only, isAllowed}
-use Rattle.rules.specs.Manifest.{Seq, end, then, Cmd, one, sub, try, Alts, last, or, count, countCmd, countAlts, Section, countAll, Manifest, names}
-use Rattle.rules.specs.Run.{indexAfter, coerceAfter, sectionsOf, chosen, planOf}
+use Rattle.rules.specs.Commands.{COMMON, Op, component, isCondition, among, Allowed, anywhere, only, isAllowed}
+use Rattle.rules.specs.Manifest.{Seq, end, then, Cmd, one, sub, try, Alts, last, or, count, countCmd, countAlts, Section, Manifest, names}
+use Rattle.rules.specs.Check.{check}
+use Rattle.rules.specs.Got.{got}
+use Rattle.rules.specs.Run.{indexAfter, coerceAfter, sectionsOf, chosen, each, withCommon, planOf}
 use Rattle.rules.specs.Program.{Rec, does, jump, targetOf, size, sizeCmd, sizeAlts, flatSeq, flatCmd, flatAlts, flatAll, programOf, argBytes, recBytes, idBytes, programBytes}
 use Rattle.rules.specs.ProgramFormat.{NONE, recordSize, startSize}
 use Rattle.rules.specs.ProgramSize.{argSize, argSizeCmd, argSizeAlts, sizeAll, argSizeAll}
 use Rattle.rules.specs.ProgramTest.{groupAllows, anyOf, nonJumps}
-use Rattle.rules_theorems.proofs.OpLaws.{rowFor, component-below}
+use Rattle.rules_theorems.proofs.OpLaws.{argumentGrowth, rowFor, component-below}
 use Rattle.rules_theorems.proofs.RoundTrip.{GoodRecs, GoodIds, GoodProgram}
 use Rattle.rules_theorems.proofs.TreeLaws.{jumps, GoodSeq, GoodCmd, GoodAlts}
-use Rattle.rules_theorems.proofs.ManifestLaws.{Sound, argSizeIn, GoodSections}
+use Rattle.rules_theorems.proofs.ManifestLaws.{Sound, sound, GoodSections, others, weighed, weightOf, weightedSum, weight-law}
 use Rattle.rules_theorems.proofs.RunLaws.{length-seq, length-cmd}
 
 -- counts
@@ -120,10 +124,10 @@ any-law x (y ∷ ys) zs h h′ = go (eqb x y) refl h (λ q. any-law x ys zs q h�
     go true e q k = let f : x ≡ y = eqb-true x y e in let r : among y zs ≡ true = rw f at h′ in rw r
     go false e q k = rw (k q) (or-true (among y zs))
 
--- what a section of the group allows, the group does
-allowed-law : (g : Group) (sec : ℕ) (a : Allowed) → among sec (sectionsOf g) ≡ true → isAllowed sec a ≡ true → groupAllows g a ≡ true
+-- what common or a section of the group allows, the group does
+allowed-law : (g : Group) (sec : ℕ) (a : Allowed) → among sec (COMMON ∷ sectionsOf g) ≡ true → isAllowed sec a ≡ true → groupAllows g a ≡ true
 allowed-law g sec anywhere h q = refl
-allowed-law g sec (only zs) h q = any-law sec (sectionsOf g) zs h q
+allowed-law g sec (only zs) h q = any-law sec (COMMON ∷ sectionsOf g) zs h q
 
 -- a command's target in its record
 target-law : (op : Op) (k t total : ℕ) → k < t → total ≤ limits .records → Aim total t →
@@ -147,7 +151,7 @@ pick-aim true true z t k total h a az = az tt
 pick-aim true false z t k total h a az = (h, a)
 pick-aim false c z t k total h a az = (h, a)
 
-module _ (g : Group) (n sec total : ℕ) (of : among sec (sectionsOf g) ≡ true) (l : total ≤ limits .records) where
+module _ (g : Group) (n sec total : ℕ) (of : among sec (COMMON ∷ sectionsOf g) ≡ true) (l : total ≤ limits .records) where
   index-below : (x : Cmd) (i : ℕ) → GoodCmd x n sec → i < n → indexAfter x i < n
   unfolding GoodSeq
   index-below (one p op b) i good h = component-below n i op h (good .1)
@@ -203,7 +207,7 @@ counts (a ∷ xs) = count a + counts xs
 
 abbrev pub Plan : Group → ℕ → List Seq → Type 0
 Plan g n [] = Unit {0}
-Plan g n (a ∷ xs) = ((sec : ℕ) × (among sec (sectionsOf g) ≡ true) × GoodSeq a n sec) × Plan g n xs
+Plan g n (a ∷ xs) = ((sec : ℕ) × (among sec (COMMON ∷ sectionsOf g) ≡ true) × GoodSeq a n sec) × Plan g n xs
 
 pub length-all : (xs : List Seq) (k : ℕ) → length (flatAll xs k) ≡ sizeAll xs
 unfolding flatAll sizeAll
@@ -231,19 +235,102 @@ recs-all g n total (a ∷ xs) k h l p w m =
     (recs-seq g n (p .0 .0) total (p .0 .1) l a false 0 false NONE 0 k (p .0 .2) h (omega arith) (omega arith) (omega arith) refl (λ q. absurd q))
     (recs-all g n total xs (k + size a) h l (p .1) (omega arith) (omega arith))
 
-pub chosen-law : (g : Group) (n : ℕ) (xs : List Section) → GoodSections n xs →
-    Plan g n (chosen (sectionsOf g) xs) × (counts (chosen (sectionsOf g) xs) ≤ countAll xs) × (argSizeAll (chosen (sectionsOf g) xs) ≤ argSizeIn xs)
+-- how often a group does common, by the sections that it has
+abbrev pub times : List Seq → ℕ
+times [] = 1
+times (s ∷ ss) = length (s ∷ ss)
+
+plan-append : (g : Group) (n : ℕ) (xs ys : List Seq) → Plan g n xs → Plan g n ys → Plan g n (xs ++ ys)
+plan-append g n [] ys p q = q
+plan-append g n (x ∷ xs) ys p q = (p .0, plan-append g n xs ys (p .1) q)
+
+sums-append : (xs ys : List Seq) → (counts (xs ++ ys) ≡ counts xs + counts ys) × (argSizeAll (xs ++ ys) ≡ argSizeAll xs + argSizeAll ys)
 unfolding argSizeAll
-chosen-law g n [] h = (tt, omega arith, omega arith)
-chosen-law g n (x ∷ xs) h = go (among (x .key) (sectionsOf g)) refl (chosen-law g n xs (h .1))
+sums-append [] ys = (omega arith, omega arith)
+sums-append (x ∷ xs) ys = let r = sums-append xs ys in (omega (arith, r .0), omega (arith, r .1))
+
+each-law : (g : Group) (n : ℕ) (c ss : List Seq) → Plan g n c → Plan g n ss →
+    Plan g n (each c ss) × (counts (each c ss) ≡ length ss * counts c + counts ss) × (argSizeAll (each c ss) ≡ length ss * argSizeAll c + argSizeAll ss)
+unfolding argSizeAll
+each-law g n c [] p q = (tt, omega arith, omega arith)
+each-law g n c (s ∷ ss) p q =
+    let (r, x, y) = each-law g n c ss p (q .1) in
+    let (x′, y′) = sums-append c (s ∷ each c ss) in
+    (plan-append g n c (s ∷ each c ss) p (q .0, r), omega (arith, suc-mul (length ss) (counts c)), omega (arith, suc-mul (length ss) (argSizeAll c)))
+
+with-law : (g : Group) (n : ℕ) (c ss : List Seq) → Plan g n c → Plan g n ss →
+    Plan g n (withCommon c ss) × (counts (withCommon c ss) ≡ times ss * counts c + counts ss) × (argSizeAll (withCommon c ss) ≡ times ss * argSizeAll c + argSizeAll ss)
+unfolding argSizeAll
+with-law g n c [] p q = (p, omega arith, omega arith)
+with-law g n c (s ∷ ss) p q = each-law g n c (s ∷ ss) p q
+
+-- common's own sequence is of no group's sections
+not-common : (g : Group) (k : ℕ) → k ≡ COMMON → among k (sectionsOf g) ≡ false
+not-common Install k e = rw e
+not-common Boot k e = rw e
+
+several-law : (g : Group) (xs : List Section) → length (chosen (sectionsOf g) xs) ≤ others xs
+several-law g [] = omega arith
+several-law g (x ∷ xs) = go (eqb (x .key) COMMON) (among (x .key) (sectionsOf g)) refl refl (several-law g xs)
   where
-    go : (b : Bool) → among (x .key) (sectionsOf g) ≡ b →
-        Plan g n (chosen (sectionsOf g) xs) × (counts (chosen (sectionsOf g) xs) ≤ countAll xs) × (argSizeAll (chosen (sectionsOf g) xs) ≤ argSizeIn xs) →
-        Plan g n (cond b (x .seq ∷ chosen (sectionsOf g) xs) (chosen (sectionsOf g) xs))
-        × (counts (cond b (x .seq ∷ chosen (sectionsOf g) xs) (chosen (sectionsOf g) xs)) ≤ count (x .seq) + countAll xs)
-        × (argSizeAll (cond b (x .seq ∷ chosen (sectionsOf g) xs) (chosen (sectionsOf g) xs)) ≤ argSize (x .seq) + argSizeIn xs)
-    go true e r = (((x .key, e, h .0), r .0), omega (arith, r .1), omega (arith, r .2))
-    go false e r = (r .0, omega (arith, r .1), omega (arith, r .2))
+    go : (b a : Bool) → eqb (x .key) COMMON ≡ b → among (x .key) (sectionsOf g) ≡ a → length (chosen (sectionsOf g) xs) ≤ others xs →
+        length (cond a (x .seq ∷ chosen (sectionsOf g) xs) (chosen (sectionsOf g) xs)) ≤ cond b 0 1 + others xs
+    go true a e f r = let z : a ≡ false = sym f ∙ not-common g (x .key) (eqb-true _ _ e) in rw z (omega arith)
+    go false true e f r = omega arith
+    go false false e f r = omega arith
+
+-- the sequences of common and of the group's sections, where common runs k times, beside what weighs w times
+pub record Chosen (g : Group) (n k w : ℕ) (xs : List Section) (c ss : List Seq) : Type 0 where
+  pub common : Plan g n c
+  pub sections : Plan g n ss
+  pub few : k * counts c + counts ss ≤ weighed count w xs
+  pub light : k * argSizeAll c + argSizeAll ss ≤ weighed argSize w xs
+
+pub chosen-law : (g : Group) (n k w : ℕ) (xs : List Section) → k ≤ w → GoodSections n xs → Chosen g n k w xs (chosen (COMMON ∷ []) xs) (chosen (sectionsOf g) xs)
+unfolding argSizeAll
+chosen-law g n k w [] l h = record { common = tt; sections = tt; few = omega arith; light = omega arith }
+chosen-law g n k w (x ∷ xs) l h = go (eqb (x .key) COMMON) (among (x .key) (sectionsOf g)) refl refl (chosen-law g n k w xs l (h .1))
+  where
+    go : (b a : Bool) → eqb (x .key) COMMON ≡ b → among (x .key) (sectionsOf g) ≡ a → Chosen g n k w xs (chosen (COMMON ∷ []) xs) (chosen (sectionsOf g) xs) →
+        Chosen g n k w (x ∷ xs) (chosen (COMMON ∷ []) (x ∷ xs)) (chosen (sectionsOf g) (x ∷ xs))
+    go true a e f r =
+        rw (not-common g (x .key) (eqb-true _ _ e), e)
+        (record {
+          common = ((x .key, rw e, h .0), r .common);
+          sections = r .sections;
+          few = rw e (omega (arith, r .few, mul-add k (count (x .seq)) (counts (chosen (COMMON ∷ []) xs)), mul-le-mul-right (count (x .seq)) l));
+          light = rw e (omega (arith, r .light, mul-add k (argSize (x .seq)) (argSizeAll (chosen (COMMON ∷ []) xs)), mul-le-mul-right (argSize (x .seq)) l));
+        })
+    go false true e f r =
+        rw (f, e)
+        (record {
+          common = r .common;
+          sections = ((x .key, rw (e, f), h .0), r .sections);
+          few = rw e (omega (arith, r .few));
+          light = rw e (omega (arith, r .light));
+        })
+    go false false e f r =
+        rw (f, e)
+        (record { common = r .common; sections = r .sections; few = rw e (omega (arith, r .few)); light = rw e (omega (arith, r .light)) })
+
+-- 02, T-01: the sequences that a group does, common as often as it runs, have at most as many commands as check weighed
+pub record Planned (s : Bytes) (g : Group) (m : Manifest) : Type 0 where
+  pub plan : Plan g (length (names s m)) (planOf g m)
+  pub weighs : counts (planOf g m) ≤ weightedSum m
+  pub few : counts (planOf g m) ≤ limits .commands
+  pub light : argSizeAll (planOf g m) ≤ 5 * limits .envelope + argumentGrowth * limits .commands
+
+pub plan-law : (s : Bytes) (g : Group) (m : Manifest) → Sound s m → Planned s g m
+plan-law s g m h =
+    let c : List Seq = chosen (COMMON ∷ []) (m .sections) in
+    let ss : List Seq = chosen (sectionsOf g) (m .sections) in
+    let r = chosen-law g (length (names s m)) (times ss) (weightOf m) (m .sections) (often ss (several-law g (m .sections))) (h .sections) in
+    let (p, x, y) = with-law g (length (names s m)) c ss (r .common) (r .sections) in
+    record { plan = p; weighs = omega (arith, r .few); few = omega (arith, r .few, h .few); light = omega (arith, r .light, h .few, h .light) }
+  where
+    often : (ss : List Seq) → length ss ≤ others (m .sections) → times ss ≤ weightOf m
+    often [] l = weight-law (others (m .sections)) .0
+    often (s ∷ ss) l = omega (arith, weight-law (others (m .sections)) .1)
 
 ids-bytes : (ids : List Bytes) → GoodIds ids → length (flat (map idBytes ids)) ≤ 36 * length ids
 ids-bytes [] h = omega arith
@@ -253,34 +340,43 @@ pub well-formed : (s : Bytes) (g : Group) (m : Manifest) → Sound s m → GoodP
 unfolding programOf programBytes bytes
 well-formed s g m h =
     let n : ℕ = length (names s m) in
-    let (plan, c, w) = chosen-law g n (m .sections) (h .sections) in
-    let (x, y, z) = sums-all g n (planOf g m) 0 plan in
+    let p = plan-law s g m h in
+    let (x, y, z) = sums-all g n (planOf g m) 0 (p .plan) in
     let j : length (flatAll (planOf g m) 0) ≡ sizeAll (planOf g m) = length-all (planOf g m) 0 in
     record {
       number = h .number;
       some-ids = h .some-ids;
       ids = h .ids;
       distinct = h .distinct;
-      records = recs-all g n (length (flatAll (planOf g m) 0)) (planOf g m) 0 (h .some-ids .0) (omega (arith, h .few)) plan (omega (arith, h .few, h .light)) (omega arith);
-      few = omega (arith, h .few);
-      commands = omega (arith, h .few);
+      records = recs-all g n (length (flatAll (planOf g m) 0)) (planOf g m) 0 (h .some-ids .0) (omega (arith, p .few)) (p .plan) (omega (arith, p .light)) (omega arith);
+      few = omega (arith, p .few);
+      commands = omega (arith, p .few);
       short =
           omega (
             arith,
             z,
-            h .few,
-            h .light,
+            p .few,
+            p .light,
             ids-bytes (names s m) (h .ids),
             h .some-ids .1,
             length-append (flat (map idBytes (names s m))) (flat (map recBytes (flatAll (planOf g m) 0))),
           );
     }
 
+-- 02, T-01: the sum that check weighs bounds the commands in the program of either group, and is at most 256
+pub program-commands : (s : Bytes) (g : Group) (m : Manifest) → check s ≡ got m →
+    (nonJumps (programOf s g m .records) ≤ weightedSum m) × (weightedSum m ≤ limits .commands)
+unfolding programOf
+program-commands s g m e =
+    let h = sound s m e in
+    let p = plan-law s g m h in
+    let (_, y, _) = sums-all g (length (names s m)) (planOf g m) 0 (p .plan) in
+    (omega (arith, p .weighs), h .few)
+
 -- how long the program is: its start, the identifiers, the records, and the arguments
 pub program-size : (s : Bytes) (g : Group) (m : Manifest) → Sound s m →
     length (programBytes (programOf s g m)) ≡ startSize + length (flat (map idBytes (names s m))) + recordSize * sizeAll (planOf g m) + argSizeAll (planOf g m)
 unfolding programOf programBytes bytes
 program-size s g m h =
-    let (plan, _, _) = chosen-law g (length (names s m)) (m .sections) (h .sections) in
-    let (_, _, z) = sums-all g (length (names s m)) (planOf g m) 0 plan in
+    let (_, _, z) = sums-all g (length (names s m)) (planOf g m) 0 (plan-law s g m h .plan) in
     omega (arith, z, length-append (flat (map idBytes (names s m))) (flat (map recBytes (flatAll (planOf g m) 0))))

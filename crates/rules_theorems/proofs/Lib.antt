@@ -1,6 +1,7 @@
 pub mod OpLaws
 pub mod ParamLaws
 pub mod TreeLaws
+pub mod Reread
 pub mod RoundTrip
 pub mod ManifestLaws
 pub mod RunLaws

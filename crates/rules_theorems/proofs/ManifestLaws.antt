@@ -2,18 +2,19 @@
 use Prim.Native.Nat.{ℕ, zero, suc, _+_, _-_, _*_, _≤_, _<_}
 use mathlib.Core.Path.{_≡_, refl, ap, _∙_, subst}
 use mathlib.Core.List.{List, [], _∷_, _++_, map, map-append}
-use mathlib.Core.Bool.{false, not}
+use mathlib.Core.Bool.{Bool, true, false, not, cond}
 use native.Mathlib.Omega.{arith}
-use lib.Dec.{leb}
+use native.Mathlib.Nat.{mul-add, mul-left-comm, mul-le-mul-left, mul-le-mul-right}
+use lib.Dec.{leb, eqb}
 use lib.ListN.{length, length-append, length-map}
-use borrow.Author.Tests.{leb-true, not-true}
+use borrow.Author.Tests.{leb-true, not-true, ne-eqb, lt-leb}
 use Rattle.rules.specs.declared.answers.Refusal.the-variants.{Malformed, RepeatedIdentifier}
 use Rattle.rules.specs.Limits.{limits}
 use Rattle.rules.specs.Bytes.{Bytes, Span, span, bytesAt, same, member, repeats}
 use Rattle.rules.specs.Got.{got}
 use Rattle.rules.specs.Cbor.{NUMBER, ARRAY, MAP, item}
-use Rattle.rules.specs.Manifest.{count, Section, countAll, Manifest, names}
-use Rattle.rules.specs.Check.{key, inBytes, strings, identifier, identifiers, components, sequenceAt, sectionAt, commonSeq, commonAt, versionAt, numberedAt, frontAt, sectionsAt, manifestAt, check}
+use Rattle.rules.specs.Manifest.{Seq, count, Section, countAll, Manifest, names}
+use Rattle.rules.specs.Check.{commonWeight, key, inBytes, strings, identifier, identifiers, components, sequenceAt, sectionAt, commonSeq, commonAt, versionAt, numberedAt, frontAt, sectionsAt, manifestAt, check}
 use Rattle.rules.specs.Check as Check
 use Rattle.rules.specs.ProgramSize.{argSize}
 use Rattle.rules.specs.Commands.{COMMON, PAYLOAD_FETCH, RUN}
@@ -109,87 +110,141 @@ abbrev pub GoodSections : ℕ → List Section → Type 0
 GoodSections n [] = Unit {0}
 GoodSections n (x ∷ xs) = GoodSeq (x .seq) n (x .key) × GoodSections n xs
 
+-- how many sections there are beside common's own sequence
+abbrev pub others : List Section → ℕ
+others [] = 0
+others (x ∷ xs) = cond (eqb (x .key) COMMON) 0 1 + others xs
+
+-- f of every sequence, that of common w times
+abbrev pub weighed : (Seq → ℕ) → ℕ → List Section → ℕ
+weighed f w [] = 0
+weighed f w (x ∷ xs) = cond (eqb (x .key) COMMON) w 1 * f (x .seq) + weighed f w xs
+
+-- 02, T-01: the weight of a command of common, and the sum that number 74 speaks of
+abbrev pub weightOf : Manifest → ℕ
+weightOf m = commonWeight (3 + others (m .sections))
+
+abbrev pub weightedSum : Manifest → ℕ
+weightedSum m = weighed count (weightOf m) (m .sections)
+
 pub record Sound (s : Bytes) (m : Manifest) : Type 0 where
   pub number : m .number ≤ limits .largest
   pub ids : GoodIds (names s m)
   pub distinct : repeats (names s m) ≡ false
   pub some-ids : (1 ≤ length (names s m)) × (length (names s m) ≤ limits .components)
   pub sections : GoodSections (length (names s m)) (m .sections)
-  pub few : countAll (m .sections) ≤ limits .commands
-  pub light : argSizeIn (m .sections) ≤ limits .envelope + argumentGrowth * countAll (m .sections)
+  pub few : weightedSum m ≤ limits .commands
+  pub light : weighed argSize (weightOf m) (m .sections) ≤ 5 * limits .envelope + argumentGrowth * weightedSum m
 
-count-append : (xs ys : List Section) → (countAll (xs ++ ys) ≡ countAll xs + countAll ys) × (argSizeIn (xs ++ ys) ≡ argSizeIn xs + argSizeIn ys)
-count-append [] ys = (omega arith, omega arith)
-count-append (x ∷ xs) ys = let r = count-append xs ys in (omega (arith, r .0), omega (arith, r .1))
+-- sections of which all, or none, are common's own sequence
+abbrev Are : Bool → List Section → Type 0
+Are b [] = Unit {0}
+Are b (x ∷ xs) = (eqb (x .key) COMMON ≡ b) × Are b xs
+
+others-are : (ys : List Section) → Are false ys → others ys ≡ length ys
+others-are [] h = refl
+others-are (y ∷ ys) h = rw (h .0) (omega (arith, others-are ys (h .1)))
+
+others-append : (xs ys : List Section) → Are true xs → others (xs ++ ys) ≡ others ys
+others-append [] ys h = refl
+others-append (x ∷ xs) ys h = rw (h .0) (omega (arith, others-append xs ys (h .1)))
+
+weighed-are : (w : ℕ) (ys : List Section) → Are false ys → (weighed count w ys ≡ countAll ys) × (weighed argSize w ys ≡ argSizeIn ys)
+weighed-are w [] h = (refl, refl)
+weighed-are w (y ∷ ys) h = let r = weighed-are w ys (h .1) in rw (h .0) (omega (arith, r .0), omega (arith, r .1))
+
+weighed-append : (w : ℕ) (xs ys : List Section) → Are true xs →
+    (weighed count w (xs ++ ys) ≡ w * countAll xs + weighed count w ys) × (weighed argSize w (xs ++ ys) ≡ w * argSizeIn xs + weighed argSize w ys)
+weighed-append w [] ys h = (omega arith, omega arith)
+weighed-append w (x ∷ xs) ys h =
+    let r = weighed-append w xs ys (h .1) in
+    rw (h .0)
+    (omega (arith, r .0, mul-add w (count (x .seq)) (countAll xs)), omega (arith, r .1, mul-add w (argSize (x .seq)) (argSizeIn xs)))
+
+-- the weight of common's commands is at least 1 and at least the number of sections, and a manifest has at most 5 of these
+pub weight-law : (n : ℕ) → (1 ≤ commonWeight (3 + n)) × (n ≤ commonWeight (3 + n)) × (n ≤ 5 → commonWeight (3 + n) ≤ 5)
+weight-law zero = (omega arith, omega arith, λ h. omega arith)
+weight-law (suc n) = rw (lt-leb (3 + suc n) 3 (omega arith)) (omega arith, omega arith, λ h. omega arith)
 
 sections-append : (n : ℕ) (xs ys : List Section) → GoodSections n xs → GoodSections n ys → GoodSections n (xs ++ ys)
 sections-append n [] ys g h = h
 sections-append n (x ∷ xs) ys g h = (g .0, sections-append n xs ys (g .1) h)
 
+-- what is light stays so when it is repeated up to 5 times
+repeat-law : (v a l c : ℕ) → v ≤ 5 → a ≤ l + argumentGrowth * c → v * a ≤ 5 * l + argumentGrowth * (v * c)
+repeat-law v a l c five h =
+    let x : v * a ≤ v * (l + argumentGrowth * c) = mul-le-mul-left v h in
+    let y : v * l ≤ 5 * l = mul-le-mul-right l five in
+    omega (arith, mul-add v l (argumentGrowth * c), mul-left-comm v argumentGrowth c)
+
 module _ (s : Bytes) (small : length s < 65536) where
-  section-law : (n k m e at : ℕ) (x : Section) (q : ℕ) → e ≤ length s → sectionAt s n k m e at ≡ got (x, q) →
-      Tree m e at q (count (x .seq)) (argSize (x .seq)) (GoodSeq (x .seq) n (x .key))
+  section-law : (n k w m e at : ℕ) (x : Section) (q : ℕ) → e ≤ length s → sectionAt s n k w m e at ≡ got (x, q) →
+      Tree w m e at q (count (x .seq)) (argSize (x .seq)) (GoodSeq (x .seq) n (x .key) × (x .key ≡ k))
   unfolding sectionAt
-  section-law n k m e at x q l q₀ =
-      split₂ _ (inBytes s (sequenceAt s n k (limits .depth) m) e at) _ (x, q) q₀ λ a p qa q₁.
-      let i = inBytes-law s (sequenceAt s n k (limits .depth) m) e at a p qa in
-      let t = seq-tree s n k small (limits .depth) m (p .to) (p .from) a (p .to) (omega (arith, i .fits)) (i .mid) (i .reads) in
+  section-law n k w m e at x q l q₀ =
+      split₂ _ (inBytes s (sequenceAt s n k w (limits .depth) m) e at) _ (x, q) q₀ λ a p qa q₁.
+      let i = inBytes-law s (sequenceAt s n k w (limits .depth) m) e at a p qa in
+      let t = seq-tree s n k w small (limits .depth) m (p .to) (p .from) a (p .to) (omega (arith, i .fits)) (i .mid) (i .reads) in
       let (ex, eq) = both q₁ in
       rw (← ex, ← eq)
-      (record { up = omega (arith, i .up, t .up); fits = i .fits; few = t .few; light = omega (arith, i .up, t .light); good = t .good })
+      (record { up = omega (arith, i .up, t .up); fits = i .fits; few = t .few; light = omega (arith, i .up, t .light); good = (t .good, refl) })
 
-  abbrev Listed : ℕ → ℕ → ℕ → List Section → ℕ → ℕ → Type 0
-  Listed m e at xs q n = Tree m e at q (countAll xs) (argSizeIn xs) (GoodSections n xs)
+  abbrev Listed : Bool → ℕ → ℕ → ℕ → ℕ → List Section → ℕ → ℕ → Type 0
+  Listed b w m e at xs q n = Tree w m e at q (countAll xs) (argSizeIn xs) (GoodSections n xs × Are b xs)
 
-  sections-law : (n k low m e at : ℕ) (xs : List Section) (q : ℕ) → e ≤ length s → at ≤ e → sectionsAt s n k low m e at ≡ got (xs, q) → Listed m e at xs q n
+  sections-law : (n k low m e at : ℕ) (xs : List Section) (q : ℕ) → 8 ≤ low → e ≤ length s → at ≤ e → sectionsAt s n k low m e at ≡ got (xs, q) →
+      Listed false 1 m e at xs q n × (length xs ≡ k)
   unfolding sectionsAt
-  sections-law n zero low m e at xs q l u q₀ =
+  sections-law n zero low m e at xs q b l u q₀ =
       let (ex, eq) = both q₀ in
-      rw (← ex, ← eq) (record { up = omega arith; fits = u; few = λ h. omega arith; light = omega arith; good = tt })
-  sections-law n (suc k) low m e at xs q l u q₀ =
+      rw (← ex, ← eq) (record { up = omega arith; fits = u; few = λ h. omega arith; light = omega arith; good = (tt, tt) }, refl)
+  sections-law n (suc k) low m e at xs q b l u q₀ =
       split _ (item NUMBER low RUN s e at) _ (xs, q) q₀ λ h qh q₁.
-      split₂ _ (sectionAt s n (h .num) m e (h .next)) _ (xs, q) q₁ λ x p qa q₂.
+      split₂ _ (sectionAt s n (h .num) 1 m e (h .next)) _ (xs, q) q₁ λ x p qa q₂.
       split₂ _ (sectionsAt s n k (h .num + 1) (m + count (x .seq)) e p) _ (xs, q) q₂ λ rest p′ qs q₃.
       let i : Item s NUMBER low RUN e at h = item-law s NUMBER low RUN e at h qh in
-      let t = section-law n (h .num) m e (h .next) x p l qa in
-      let t′ = sections-law n k (h .num + 1) (m + count (x .seq)) e p rest p′ l (t .fits) qs in
+      let t = section-law n (h .num) 1 m e (h .next) x p l qa in
+      let (t′, len) = sections-law n k (h .num + 1) (m + count (x .seq)) e p rest p′ (omega arith) l (t .fits) qs in
+      let other : eqb (x .key) COMMON ≡ false = ne-eqb (x .key) COMMON (λ z. omega (arith, t .good .1)) in
       let (ex, eq) = both q₃ in
-      rw (← ex, ← eq)
-      (record {
-        up = omega (arith, t .up, t′ .up);
-        fits = t′ .fits;
-        few = λ z. let y : m + count (x .seq) + countAll rest ≤ limits .commands = t′ .few (t .few z) in omega arith;
-        light = omega (arith, t .light, t′ .light);
-        good = (t .good, t′ .good);
-      })
+      rw (← ex, ← eq) (
+        record {
+          up = omega (arith, t .up, t′ .up);
+          fits = t′ .fits;
+          few = λ z. omega (arith, t′ .few (omega (arith, t .few z)));
+          light = omega (arith, t .light, t′ .light);
+          good = ((t .good .0, t′ .good .0), (other, t′ .good .1));
+        },
+        omega arith,
+      )
 
-  commonSeq-law : (n k e at : ℕ) (xs : List Section) (q : ℕ) → e ≤ length s → at ≤ e → commonSeq s n k e at ≡ got (xs, q) → Listed 0 e at xs q n
+  commonSeq-law : (n w k e at : ℕ) (xs : List Section) (q : ℕ) → e ≤ length s → at ≤ e → commonSeq s n w k e at ≡ got (xs, q) → Listed true w 0 e at xs q n
   unfolding commonSeq
-  commonSeq-law n zero e at xs q l u q₀ =
+  commonSeq-law n w zero e at xs q l u q₀ =
       let (ex, eq) = both q₀ in
-      rw (← ex, ← eq) (record { up = omega arith; fits = u; few = λ h. omega arith; light = omega arith; good = tt })
-  commonSeq-law n (suc k) e at xs q l u q₀ =
+      rw (← ex, ← eq) (record { up = omega arith; fits = u; few = λ h. omega arith; light = omega arith; good = (tt, tt) })
+  commonSeq-law n w (suc k) e at xs q l u q₀ =
       split _ (key s 4 e at) _ (xs, q) q₀ λ p qp q₁.
-      split₂ _ (sectionAt s n 3 0 e p) _ (xs, q) q₁ λ x next qx q₂.
+      split₂ _ (sectionAt s n COMMON w 0 e p) _ (xs, q) q₁ λ x next qx q₂.
       let (y, z) = key-law s 4 e at p qp in
-      let t = section-law n 3 0 e p x next l qx in
+      let t = section-law n COMMON w 0 e p x next l qx in
       let (ex, eq) = both q₂ in
       rw (← ex, ← eq)
       (record {
         up = omega (arith, t .up);
         fits = t .fits;
-        few = λ h. let w : 0 + count (x .seq) ≤ limits .commands = t .few h in omega arith;
+        few = λ h. omega (arith, t .few h, mul-add w (count (x .seq)) 0);
         light = omega (arith, t .light);
-        good = (t .good, tt);
+        good = ((t .good .0, tt), (rw (t .good .1), tt));
       })
 
-  common-law : (e at : ℕ) (r : List Span × List Section) (q : ℕ) → e ≤ length s → commonAt s e at ≡ got (r, q) →
-      Listed 0 e at (r .1) q (length (r .0)) × Distinct s (r .0) × (1 ≤ length (r .0)) × (length (r .0) ≤ limits .components)
-  common-law e at r q l q₀ =
-      let x = common-parts s e at r q q₀ in
+  common-law : (v e at : ℕ) (r : List Span × List Section) (q : ℕ) → e ≤ length s → commonAt s v e at ≡ got (r, q) →
+      Listed true v 0 e at (r .1) q (length (r .0)) × Distinct s (r .0) × (1 ≤ length (r .0)) × (length (r .0) ≤ limits .components)
+  common-law v e at r q l q₀ =
+      let x = common-parts s v e at r q q₀ in
       let j = inBytes-law s (components s) e (x .list) (r .0) (x .place) (x .ids) in
       let (u₂, f₂, d, n₁, n₂) = components-law s (x .place .to) (x .place .from) (r .0) (x .place .to) (omega (arith, j .fits)) (j .reads) in
-      let t = commonSeq-law (length (r .0)) (x .left) e (x .place .to) (r .1) q l (j .fits) (x .sequence) in (
+      let t = commonSeq-law (length (r .0)) v (x .left) e (x .place .to) (r .1) q l (j .fits) (x .sequence) in (
         record {
           up = omega (arith, t .up, j .up, x .up);
           fits = t .fits;
@@ -202,8 +257,8 @@ module _ (s : Bytes) (small : length s < 65536) where
         n₂,
       )
 
-  -- the sequence number is one that an item holds
-  front-law : (e at k n q : ℕ) → frontAt s e at ≡ got ((k, n), q) → n ≤ limits .largest
+  -- the map has 3 to 8 entries, and the sequence number is one that an item holds
+  front-law : (e at k n q : ℕ) → frontAt s e at ≡ got ((k, n), q) → (3 ≤ k) × (k ≤ 8) × (n ≤ limits .largest)
   unfolding frontAt numberedAt
   front-law e at k n q q₀ =
       split _ (item MAP 3 8 s e at) _ ((k, n), q) q₀ λ h qh q₁.
@@ -212,33 +267,42 @@ module _ (s : Bytes) (small : length s < 65536) where
       split _ (key s 2 e p) _ (number, next) qn λ p₁ qk q₄.
       split₂ _ (Check.number s e p₁) _ (number, next) q₄ λ read p₂ qr q₅.
       split _ (key s COMMON e p₂) _ (number, next) q₅ λ p₃ qc q₆.
+      let i : Item s MAP 3 8 e at h = item-law s MAP 3 8 e at h qh in
       let (_, _, big) = number-law s e p₁ read p₂ qr in
       let (er, _) = both q₆ in
       let (ek, _) = both q₃ in
+      let ec : h .num ≡ k = ap (λ (z : ℕ × ℕ). z .0) ek in
       let en : number ≡ n = ap (λ (z : ℕ × ℕ). z .1) ek in
-      omega (arith, big, er, en)
+      (omega (arith, i .low, ec), omega (arith, i .high, ec), omega (arith, big, er, en))
 
   manifest-law : (e at : ℕ) (m : Manifest) (q : ℕ) → length s ≤ limits .envelope → e ≤ length s → manifestAt s e at ≡ got (m, q) → Sound s m
   manifest-law e at m q big l q₀ =
       let x = manifest-parts s e at m q q₀ in
       let c = x .common in
       let w = x .place in
-      let j = common-in s e (x .start) c w (x .held) in
-      let (t, d, n₁, n₂) = common-law (w .to) (w .from) c (w .to) (omega (arith, j .fits)) (j .reads) in
-      let t′ = sections-law (length (c .0)) (x .entries - 3) PAYLOAD_FETCH (countAll (c .1)) e (w .to) (x .sections) q l (j .fits) (x .follow) in
-      let few : 0 + countAll (c .1) ≤ limits .commands = t .few (omega arith) in
-      let all : countAll (c .1) + countAll (x .sections) ≤ limits .commands = t′ .few (omega arith) in
-      let (ca, wa) = count-append (c .1) (x .sections) in
+      let v : ℕ = commonWeight (x .entries) in
+      let (low, high, big-n) = front-law e at (x .entries) (x .number) (x .start) (x .front) in
+      let j = common-in s v e (x .start) c w (x .held) in
+      let (t, d, n₁, n₂) = common-law v (w .to) (w .from) c (w .to) (omega (arith, j .fits)) (j .reads) in
+      let (t′, several) = sections-law (length (c .0)) (x .entries - 3) PAYLOAD_FETCH (v * countAll (c .1)) e (w .to) (x .sections) q (omega arith) l (j .fits) (x .follow) in
+      let num : 3 + others (c .1 ++ x .sections) ≡ x .entries =
+      omega (arith, low, others-append (c .1) (x .sections) (t .good .1), others-are (x .sections) (t′ .good .1)) in
+      let (ca, wa) = weighed-append v (c .1) (x .sections) (t .good .1) in
+      let (cb, wb) = weighed-are v (x .sections) (t′ .good .1) in
+      let sum : v * countAll (c .1) + countAll (x .sections) ≤ limits .commands = omega (arith, t′ .few (omega (arith, t .few (omega arith)))) in
+      let five : v ≤ 5 = rw num at (weight-law (others (c .1 ++ x .sections)) .2 (omega (arith, high))) in
+      let repeated : v * argSizeIn (c .1) ≤ 5 * (w .to - w .from) + argumentGrowth * (v * countAll (c .1)) =
+      repeat-law v (argSizeIn (c .1)) (w .to - w .from) (countAll (c .1)) five (omega (arith, t .light)) in
       let len : length (map (bytesAt s) (c .0)) ≡ length (c .0) = length-map (c .0) (bytesAt s) in
       rw (x .is)
       (record {
-        number = front-law e at (x .entries) (x .number) (x .start) (x .front);
+        number = big-n;
         ids = d .good;
         distinct = d .once;
         some-ids = (omega arith, omega arith);
-        sections = rw len (sections-append (length (c .0)) (c .1) (x .sections) (t .good) (t′ .good));
-        few = omega arith;
-        light = omega (arith, t .light, t′ .light, t′ .fits);
+        sections = rw len (sections-append (length (c .0)) (c .1) (x .sections) (t .good .0) (t′ .good .0));
+        few = rw num (omega arith);
+        light = rw num (omega (arith, j .mid, t′ .light, t′ .fits));
       })
 
 pub sound : (s : Bytes) (m : Manifest) → check s ≡ got m → Sound s m

@@ -3,9 +3,10 @@ use Prim.Native.Nat.{ℕ, zero, suc, _+_, _-_, _*_, _/_, _%_, _≤_, _<_}
 use mathlib.Core.Path.{_≡_, refl, ap, _∙_}
 use mathlib.Core.Bool.{true}
 use native.Mathlib.Omega.{arith}
-use lib.Dec.{ltb, eqb}
+use native.Mathlib.Nat.{mul-add}
+use lib.Dec.{ltb, leb, eqb}
 use lib.ListN.{length}
-use borrow.Author.Tests.{ltb-true}
+use borrow.Author.Tests.{ltb-true, leb-true}
 use Rattle.rules.specs.declared.answers.Refusal.the-variants.{Malformed, NoSuchComponent, NotAllowed, TooManyCommands, UnknownCommand}
 use Rattle.rules.specs.Limits.{limits}
 use Rattle.rules.specs.Bytes.{Bytes, part, Span}
@@ -40,27 +41,27 @@ unfoldable mutual
   GoodAlts (last s) n sec = GoodSeq s n sec
   GoodAlts (or s a) n sec = GoodSeq s n sec × GoodAlts a n sec
 
--- a reading of something with c commands, w bytes of arguments and the property G, after m commands
-pub record Tree (m e at q c w : ℕ) (G : Type 0) : Type 0 where
+-- a reading of something with c commands that weigh `weight` each, w bytes of arguments and the property G, after commands that weigh m
+pub record Tree (weight m e at q c w : ℕ) (G : Type 0) : Type 0 where
   pub up : at ≤ q
   pub fits : q ≤ e
-  pub few : m ≤ (limits .commands) → m + c ≤ (limits .commands)
+  pub few : m ≤ limits .commands → m + weight * c ≤ limits .commands
   pub light : w + at ≤ q + argumentGrowth * c
   pub good : G
 
-module _ (s : Bytes) (n sec : ℕ) (small : length s < 65536) where
+module _ (s : Bytes) (n sec weight : ℕ) (small : length s < 65536) where
   abbrev pub Fine : (ℕ → Read Seq) → Type 0
-  Fine read = (m e at : ℕ) (a : Seq) (q : ℕ) → e ≤ length s → at ≤ e → read m e at ≡ got (a, q) → Tree m e at q (count a) (argSize a) (GoodSeq a n sec)
+  Fine read = (m e at : ℕ) (a : Seq) (q : ℕ) → e ≤ length s → at ≤ e → read m e at ≡ got (a, q) → Tree weight m e at q (count a) (argSize a) (GoodSeq a n sec)
 
   module _ (deeper : ℕ → Read Seq) (ih : Fine deeper) where
-    held : (m e at : ℕ) (a : Seq) (p : Span) → e ≤ length s → inBytes s (deeper m) e at ≡ got (a, p) → Tree m e at (p .to) (count a) (argSize a) (GoodSeq a n sec)
+    held : (m e at : ℕ) (a : Seq) (p : Span) → e ≤ length s → inBytes s (deeper m) e at ≡ got (a, p) → Tree weight m e at (p .to) (count a) (argSize a) (GoodSeq a n sec)
     held m e at a p l q₀ =
         let i = inBytes-law s (deeper m) e at a p q₀ in
         let t = ih m (p .to) (p .from) a (p .to) (omega (arith, i .fits)) (i .mid) (i .reads) in
         record { up = omega (arith, i .up, t .up); fits = i .fits; few = t .few; light = omega (arith, i .up, t .light); good = t .good }
 
-    alts-tree : (k m e at : ℕ) (a : Alts) (q : ℕ) → e ≤ length s → alternativesAt s deeper k m e at ≡ got (a, q) →
-        Tree m e at q (countAlts a) (argSizeAlts a) (GoodAlts a n sec × (jumps a ≡ k))
+    alts-tree : (k m e at : ℕ) (a : Alts) (q : ℕ) → e ≤ length s → alternativesAt s deeper weight k m e at ≡ got (a, q) →
+        Tree weight m e at q (countAlts a) (argSizeAlts a) (GoodAlts a n sec × (jumps a ≡ k))
     unfolding alternativesAt count argSize GoodSeq
     alts-tree zero m e at a q l q₀ =
         split₂ _ (inBytes s (deeper m) e at) _ (a, q) q₀ λ b p qr q₁.
@@ -69,21 +70,21 @@ module _ (s : Bytes) (n sec : ℕ) (small : length s < 65536) where
         rw (← ea, ← eq) (record { up = t .up; fits = t .fits; few = t .few; light = t .light; good = (t .good, refl) })
     alts-tree (suc k) m e at a q l q₀ =
         split₂ _ (inBytes s (deeper m) e at) _ (a, q) q₀ λ b p qr q₁.
-        split₂ _ (alternativesAt s deeper k (m + count b) e (p .to)) _ (a, q) q₁ λ bs p′ qr′ q₂.
+        split₂ _ (alternativesAt s deeper weight k (m + weight * count b) e (p .to)) _ (a, q) q₁ λ bs p′ qr′ q₂.
         let t = held m e at b p l qr in
-        let t′ = alts-tree k (m + count b) e (p .to) bs p′ l qr′ in
+        let t′ = alts-tree k (m + weight * count b) e (p .to) bs p′ l qr′ in
         let (ea, eq) = both q₂ in
         rw (← ea, ← eq)
         (record {
           up = omega (arith, t .up, t′ .up);
           fits = t′ .fits;
-          few = λ h. let x : m + count b + countAlts bs ≤ (limits .commands) = t′ .few (t .few h) in omega arith;
+          few = λ h. omega (arith, t′ .few (t .few h), mul-add weight (count b) (countAlts bs));
           light = omega (arith, t .light, t′ .light);
           good = ((t .good, t′ .good .0), ap suc (t′ .good .1));
         })
 
-    arg-tree : (m place : ℕ) (form : Form) (allowed : Allowed) (e at : ℕ) (c : Cmd) (q : ℕ) → RowOk form allowed → isAllowed sec allowed ≡ true → m < (limits .commands) → place < at →
-        at ≤ e → e ≤ length s → argument s deeper n (m + 1) place form e at ≡ got (c, q) → Tree m e at q (countCmd c) (argSizeCmd c) (GoodCmd c n sec)
+    arg-tree : (m place : ℕ) (form : Form) (allowed : Allowed) (e at : ℕ) (c : Cmd) (q : ℕ) → RowOk form allowed → isAllowed sec allowed ≡ true → m + weight ≤ limits .commands → place < at →
+        at ≤ e → e ≤ length s → argument s deeper n weight (m + weight) place form e at ≡ got (c, q) → Tree weight m e at q (countCmd c) (argSizeCmd c) (GoodCmd c n sec)
     unfolding argument count argSize GoodSeq
     arg-tree m place (sixteen op) allowed e at c q ok al room pl u l q₀ =
         split _ (item BYTES (limits .class) (limits .class) s e at) _ (c, q) q₀ λ h qh q₁.
@@ -128,16 +129,16 @@ module _ (s : Bytes) (n sec : ℕ) (small : length s < 65536) where
         })
     arg-tree m place alternatives allowed e at c q ok al room pl u l q₀ =
         split _ (item ARRAY 1 (limits .alternatives) s e at) _ (c, q) q₀ λ h qh q₁.
-        split₂ _ (alternativesAt s deeper (h .num - 1) (m + 1) e (h .next)) _ (c, q) q₁ λ a p qa q₂.
+        split₂ _ (alternativesAt s deeper weight (h .num - 1) (m + weight) e (h .next)) _ (c, q) q₁ λ a p qa q₂.
         let i : Item s ARRAY 1 (limits .alternatives) e at h = item-law s ARRAY 1 (limits .alternatives) e at h qh in
-        let t = alts-tree (h .num - 1) (m + 1) e (h .next) a p l qa in
+        let t = alts-tree (h .num - 1) (m + weight) e (h .next) a p l qa in
         let (ea, eq) = both q₂ in
         let j : jumps a ≡ h .num - 1 = t .good .1 in
         rw (← ea, ← eq)
         (record {
           up = omega (arith, t .up);
           fits = t .fits;
-          few = λ _. let x : m + 1 + countAlts a ≤ (limits .commands) = t .few (omega arith) in omega arith;
+          few = λ _. omega (arith, t .few room, mul-add weight 1 (countAlts a));
           light = omega (arith, t .light);
           good = (t .good .0, omega arith);
         })
@@ -158,51 +159,51 @@ module _ (s : Bytes) (n sec : ℕ) (small : length s < 65536) where
           good = (omega arith, o .0, ap (λ (x : Allowed). isAllowed sec x) (o .1) ∙ al);
         })
     arg-tree m place sequence allowed e at c q ok al room pl u l q₀ =
-        split₂ _ (inBytes s (deeper (m + 1)) e at) _ (c, q) q₀ λ a p qa q₁.
-        let t = held (m + 1) e at a p l qa in
+        split₂ _ (inBytes s (deeper (m + weight)) e at) _ (c, q) q₀ λ a p qa q₁.
+        let t = held (m + weight) e at a p l qa in
         let (ea, eq) = both q₁ in
         rw (← ea, ← eq)
         (record {
           up = t .up;
           fits = t .fits;
-          few = λ _. let x : m + 1 + count a ≤ (limits .commands) = t .few (omega arith) in omega arith;
+          few = λ _. omega (arith, t .few room, mul-add weight 1 (count a));
           light = omega (arith, t .light);
           good = t .good;
         })
 
-    cmd-tree : (m e at : ℕ) (c : Cmd) (q : ℕ) → e ≤ length s → command s deeper n sec m e at ≡ got (c, q) → Tree m e at q (countCmd c) (argSizeCmd c) (GoodCmd c n sec)
+    cmd-tree : (m e at : ℕ) (c : Cmd) (q : ℕ) → e ≤ length s → command s deeper n sec weight m e at ≡ got (c, q) → Tree weight m e at q (countCmd c) (argSizeCmd c) (GoodCmd c n sec)
     unfolding command
     cmd-tree m e at c q l q₀ =
         split₂ _ (number s e at) _ (c, q) q₀ λ k p qk q₁.
         split _ (found (rowOf k commands) UnknownCommand at) _ (c, q) q₁ λ row qr q₂.
         let (al, q₃) = passed (isAllowed sec (row .allowed)) NotAllowed at _ (c, q) q₂ in
-        let (room, q₄) = passed (ltb m (limits .commands)) TooManyCommands at _ (c, q) q₃ in
+        let (room, q₄) = passed (leb (m + weight) (limits .commands)) TooManyCommands at _ (c, q) q₃ in
         let (u, f, _) = number-law s e at k p qk in
-        let t = arg-tree m at (row .form) (row .allowed) e p c q (row-ok k row (found-is (rowOf k commands) UnknownCommand at row qr)) al (ltb-true _ _ room) u f l q₄ in
+        let t = arg-tree m at (row .form) (row .allowed) e p c q (row-ok k row (found-is (rowOf k commands) UnknownCommand at row qr)) al (leb-true _ _ room) u f l q₄ in
         record { up = omega (arith, t .up); fits = t .fits; few = t .few; light = omega (arith, t .light); good = t .good }
 
-    cmds-tree : (k m e at : ℕ) (a : Seq) (q : ℕ) → e ≤ length s → at ≤ e → commandsAt s deeper n sec k m e at ≡ got (a, q) →
-        Tree m e at q (count a) (argSize a) (GoodSeq a n sec)
+    cmds-tree : (k m e at : ℕ) (a : Seq) (q : ℕ) → e ≤ length s → at ≤ e → commandsAt s deeper n sec weight k m e at ≡ got (a, q) →
+        Tree weight m e at q (count a) (argSize a) (GoodSeq a n sec)
     unfolding commandsAt count argSize GoodSeq
     cmds-tree zero m e at a q l u q₀ =
         let (ea, eq) = both q₀ in
         rw (← ea, ← eq) (record { up = omega arith; fits = u; few = λ h. omega arith; light = omega arith; good = tt })
     cmds-tree (suc k) m e at a q l u q₀ =
-        split₂ _ (command s deeper n sec m e at) _ (a, q) q₀ λ c p qc q₁.
-        split₂ _ (commandsAt s deeper n sec k (m + countCmd c) e p) _ (a, q) q₁ λ cs p′ qs q₂.
+        split₂ _ (command s deeper n sec weight m e at) _ (a, q) q₀ λ c p qc q₁.
+        split₂ _ (commandsAt s deeper n sec weight k (m + weight * countCmd c) e p) _ (a, q) q₁ λ cs p′ qs q₂.
         let t = cmd-tree m e at c p l qc in
-        let t′ = cmds-tree k (m + countCmd c) e p cs p′ l (t .fits) qs in
+        let t′ = cmds-tree k (m + weight * countCmd c) e p cs p′ l (t .fits) qs in
         let (ea, eq) = both q₂ in
         rw (← ea, ← eq)
         (record {
           up = omega (arith, t .up, t′ .up);
           fits = t′ .fits;
-          few = λ h. let x : m + countCmd c + count cs ≤ (limits .commands) = t′ .few (t .few h) in omega arith;
+          few = λ h. omega (arith, t′ .few (t .few h), mul-add weight (countCmd c) (count cs));
           light = omega (arith, t .light, t′ .light);
           good = (t .good, t′ .good);
         })
 
-  pub seq-tree : (d : ℕ) → Fine (sequenceAt s n sec d)
+  pub seq-tree : (d : ℕ) → Fine (sequenceAt s n sec weight d)
   unfolding sequenceAt
   seq-tree zero m e at a q l u q₀ =
       split _ (item ARRAY 0 (limits .sequence + limits .sequence) s e at) _ (a, q) q₀ λ h qh q₁.
@@ -212,5 +213,5 @@ module _ (s : Bytes) (n sec : ℕ) (small : length s < 65536) where
       split _ (item ARRAY 0 (limits .sequence + limits .sequence) s e at) _ (a, q) q₀ λ h qh q₁.
       let (_, q₂) = passed (eqb (h .num % 2) 0) Malformed at _ (a, q) q₁ in
       let i : Item s ARRAY 0 (limits .sequence + limits .sequence) e at h = item-law s ARRAY 0 (limits .sequence + limits .sequence) e at h qh in
-      let t = cmds-tree (sequenceAt s n sec d) (seq-tree d) (h .num / 2) m e (h .next) a q l (omega arith) q₂ in
+      let t = cmds-tree (sequenceAt s n sec weight d) (seq-tree d) (h .num / 2) m e (h .next) a q l (omega arith) q₂ in
       record { up = omega (arith, t .up); fits = t .fits; few = t .few; light = omega (arith, t .light); good = t .good }
