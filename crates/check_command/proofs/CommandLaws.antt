@@ -1,11 +1,11 @@
 -- The start of a command, read by its places, ends where the rule of check ends it.
-use Prim.Native.Nat.{ℕ, _/_, _%_, _≤_, _<_}
+use Prim.Native.Nat.{ℕ, _+_, _/_, _%_, _≤_, _<_}
 use mathlib.Core.Path.{_≡_, sym, ap, _∙_}
 use mathlib.Core.Bool.{true, false}
 use mathlib.Core.Option.{some}
 use native.Mathlib.Omega.{arith}
-use lib.Dec.{ltb, eqb}
-use borrow.Author.Tests.{lt-ltb, le-ltb, ltb-true}
+use lib.Dec.{leb, eqb}
+use borrow.Author.Tests.{lt-leb, le-leb, leb-true}
 use Rattle.rules.specs.declared.answers.Refusal.the-variants.{UnknownCommand, NotAllowed, TooManyCommands}
 use Rattle.rules.specs.declared.tables.Command.{Command}
 use Rattle.rules.specs.declared.tables.Listed.the-variants as L
@@ -26,13 +26,13 @@ use Rattle.check_argument.proofs.ArgumentLaws.{argument-forth}
 use Rattle.check_command.specs.Command.{commandStart, Section}
 
 -- the start of a command, by the tests in their order
-module _ (s : Bytes) (n section m e at : ℕ) where
-  pub start-stop : (r : Reading) → Stopped (number s e at) r → r ≡ reading (λ k. k) (commandStart s n section m e at)
+module _ (s : Bytes) (n section wt m e at : ℕ) where
+  pub start-stop : (r : Reading) → Stopped (number s e at) r → r ≡ reading (λ k. k) (commandStart s n section wt m e at)
   unfolding commandStart
   start-stop r x = rw (x .was) (x .is)
 
   module _ (code p : ℕ) (q : number s e at ≡ got (code, p)) where
-    pub start-unknown : listed (rowOf code commands) ≡ L.Unlisted → fault UnknownCommand at ≡ reading (λ k. k) (commandStart s n section m e at)
+    pub start-unknown : listed (rowOf code commands) ≡ L.Unlisted → fault UnknownCommand at ≡ reading (λ k. k) (commandStart s n section wt m e at)
     unfolding commandStart
     start-unknown u = rw (q, listed-none (rowOf code commands) u)
 
@@ -40,27 +40,28 @@ module _ (s : Bytes) (n section m e at : ℕ) where
       allowed : (r : Row) → rowOf code commands ≡ some r → asCommand r ≡ c → isAllowed section (r .allowed) ≡ eqb (c .sections / weightOf section % 2) 1
       allowed r f g = allowed-bit code section r f is ∙ ap (λ (x : Command). eqb (x .sections / weightOf section % 2) 1) g
 
-      pub start-not-allowed : eqb (c .sections / weightOf section % 2) 1 ≡ false → fault NotAllowed at ≡ reading (λ k. k) (commandStart s n section m e at)
+      pub start-not-allowed : eqb (c .sections / weightOf section % 2) 1 ≡ false → fault NotAllowed at ≡ reading (λ k. k) (commandStart s n section wt m e at)
       unfolding commandStart
       start-not-allowed a = let (r, f, g) = listed-some _ c u in rw (q, f, allowed r f g, a)
 
       module _ (a : eqb (c .sections / weightOf section % 2) 1 ≡ true) where
-        pub start-many : limits .commands ≤ m → fault TooManyCommands at ≡ reading (λ k. k) (commandStart s n section m e at)
+        pub start-many : limits .commands < m + wt → fault TooManyCommands at ≡ reading (λ k. k) (commandStart s n section wt m e at)
         unfolding commandStart
-        start-many l = let (r, f, g) = listed-some _ c u in rw (q, f, allowed r f g, a, le-ltb _ _ l)
+        start-many l = let (r, f, g) = listed-some _ c u in rw (q, f, allowed r f g, a, lt-leb _ _ l)
 
-        pub start-argument : m < limits .commands → (x : Reading) → x ≡ reading (λ k. k) (argumentStart s n (c .argument) e p) → x ≡ reading (λ k. k) (commandStart s n section m e at)
+        pub start-argument : m + wt ≤ limits .commands → (x : Reading) → x ≡ reading (λ k. k) (argumentStart s n (c .argument) e p) →
+            x ≡ reading (λ k. k) (commandStart s n section wt m e at)
         unfolding commandStart
         start-argument l x y =
             let (r, f, g) = listed-some _ c u in
-            rw (q, f, allowed r f g, a, lt-ltb _ _ l) (y ∙ ap (λ (z : Command). reading (λ k. k) (argumentStart s n (z .argument) e p)) (sym g))
+            rw (q, f, allowed r f g, a, le-leb _ _ l) (y ∙ ap (λ (z : Command). reading (λ k. k) (argumentStart s n (z .argument) e p)) (sym g))
 
 -- a command's sequences begin after its code
-pub start-forth : (s : Bytes) (n section m e at k q : ℕ) → commandStart s n section m e at ≡ got (k, q) → (m < limits .commands) × (at < q)
+pub start-forth : (s : Bytes) (n section wt m e at k q : ℕ) → commandStart s n section wt m e at ≡ got (k, q) → (m + wt ≤ limits .commands) × (at < q)
 unfolding commandStart
-start-forth s n section m e at k q w =
+start-forth s n section wt m e at k q w =
     split₂ _ (number s e at) _ (k, q) w λ code p qn w₁.
     split _ (found (rowOf code commands) UnknownCommand at) _ (k, q) w₁ λ row qr w₂.
     let (_, w₃) = passed (isAllowed section (row .allowed)) NotAllowed at _ (k, q) w₂ in
-    let (few, w₄) = passed (ltb m (limits .commands)) TooManyCommands at _ (k, q) w₃ in
-    (ltb-true _ _ few, omega (arith, number-law s e at code p qn .0, argument-forth s n (kindOf (row .form)) e p k q w₄))
+    let (few, w₄) = passed (leb (m + wt) (limits .commands)) TooManyCommands at _ (k, q) w₃ in
+    (leb-true _ _ few, omega (arith, number-law s e at code p qn .0, argument-forth s n (kindOf (row .form)) e p k q w₄))

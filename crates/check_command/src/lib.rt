@@ -33,18 +33,20 @@ fn has_section(sections: u8, section: usize) -> bool
     }
 }
 
-// A command's code, and what stands before the sequences that it holds: how many they are, and where the first is.
+// A command's code, and what stands before the sequences that it holds: how many they are, and where the first is. It weighs
+// `weight`, the commands before it `commands`.
 pub fn open_command(
     s: &[u8],
     table: &Table,
     components: usize,
     section: usize,
+    weight: usize,
     commands: usize,
     end: usize,
     at: usize,
 ) -> Reading
-    requires { ⌜ (end ≤ length (now s)) × (now table ≡ byNumber) × Section section ⌝ }
-    ensures { λ r. ⌜ r ≡ reading (λ k. k) (commandStart (was s) components section commands end at) ⌝ }
+    requires { ⌜ (end ≤ length (now s)) × (now table ≡ byNumber) × Section section × (weight ≤ 5) ⌝ }
+    ensures { λ r. ⌜ r ≡ reading (λ k. k) (commandStart (was s) components section weight commands end at) ⌝ }
 {
     let c = number(s, end, at);
     let refusal = c.refusal;
@@ -58,7 +60,8 @@ pub fn open_command(
     if !has_section(sections, section) {
         return refuse(Refusal::NotAllowed, at);
     }
-    if Controller::COMMANDS <= commands {
+    let most = Controller::COMMANDS - weight;
+    if most < commands {
         return refuse(Refusal::TooManyCommands, at);
     }
     let argument = row.argument;

@@ -16,19 +16,19 @@ abbrev to-listed : tie.After-has-section → tie.After-look-up
 to-listed c = c .before .before .before .before
 
 refusal : tie.Need-returns
-refusal c = start-stop _ _ _ _ _ _ _ (number-stopped _ _ _ _ (c .before .number .ensures) (c .if1 .taken))
+refusal c = start-stop _ _ _ _ _ _ _ _ (number-stopped _ _ _ _ (c .before .number .ensures) (c .if1 .taken))
 
 unknown : tie.Need-returns-2
 unknown c =
     c .refuse .ensures
-    ∙ start-unknown _ _ _ _ _ _ _ _ (number-went _ _ _ _ (c .before .before .before .before .before .number .ensures) (c .before .before .before .before .if1 .left))
+    ∙ start-unknown _ _ _ _ _ _ _ _ _ (number-went _ _ _ _ (c .before .before .before .before .before .number .ensures) (c .before .before .before .before .if1 .left))
     (sym (c .before .before .before .look-up .ensures) ∙ c .before .enum-told .given .1)
 
 not-allowed : tie.Need-returns-3
 not-allowed c =
     let listed = to-listed (c .before .before) in
     c .refuse2 .ensures
-    ∙ start-not-allowed _ _ _ _ _ _ _ _
+    ∙ start-not-allowed _ _ _ _ _ _ _ _ _
     (number-went _ _ _ _ (listed .before .before .number .ensures) (listed .before .if1 .left))
     _ (sym (listed .look-up .ensures) ∙ c .before .before .before .before .row .given .1)
     (to-entry listed .pre .2)
@@ -39,7 +39,7 @@ too-many c =
     let placed = c .before .before .before in
     let listed = to-listed placed in
     c .refuse3 .ensures
-    ∙ start-many _ _ _ _ _ _ _ _
+    ∙ start-many _ _ _ _ _ _ _ _ _
     (number-went _ _ _ _ (listed .before .before .number .ensures) (listed .before .if1 .left))
     _ (sym (listed .look-up .ensures) ∙ placed .before .before .row .given .1)
     (to-entry listed .pre .2)
@@ -49,11 +49,11 @@ argument : tie.Need-returns-5
 argument c =
     let placed = c .before .before .before in
     let listed = to-listed placed in
-    start-argument _ _ _ _ _ _ _ _
+    start-argument _ _ _ _ _ _ _ _ _
     (number-went _ _ _ _ (listed .before .before .number .ensures) (listed .before .if1 .left))
     _ (sym (listed .look-up .ensures) ∙ placed .before .before .row .given .1)
     (to-entry listed .pre .2)
-    (sym (placed .has-section .ensures) ∙ not-false _ (c .before .before .if2 .left)) (c .before .if3 .left) _ (c .read-argument .ensures)
+    (sym (placed .has-section .ensures) ∙ not-false _ (c .before .before .if2 .left)) (omega (arith, c .before .if3 .left)) _ (c .read-argument .ensures)
 
 pub open-command-spec : {M : Type 1} → statement M
 open-command-spec =
@@ -69,6 +69,7 @@ open-command-spec =
     (λ c κs. search needs)
     (λ c κs. search needs)
     not-allowed
+    (λ c. search needs)
     (λ c κs. search needs)
     too-many
     (λ c κs. search needs)
