@@ -1,6 +1,6 @@
 // Sequences hold commands and commands hold sequences.
 ghost use mathlib.Core.Path.{_≡_};
-ghost use Prim.Native.Nat.{_+_, _≤_};
+ghost use Prim.Native.Nat.{_+_, _*_, _≤_};
 ghost use lib.ListN.{length};
 ghost use Rattle.rules.specs.Lent.{was};
 ghost use Rattle.rules.specs.Tables.{byNumber};
@@ -17,19 +17,20 @@ use rules::answers::Refusal;
 use rules::controller::Controller;
 use rules_tables::Table;
 
-// The sequence at `at`, after so many commands; it and those in it may be `depth` deep.
+// The sequence at `at`, whose commands weigh `weight` each, after commands that weigh `commands`; it and those in it may be `depth` deep.
 pub fn check_sequence(
     s: &[u8],
     table: &Table,
     components: usize,
     section: usize,
+    weight: usize,
     depth: usize,
     commands: usize,
     end: usize,
     at: usize,
 ) -> Reading
-    requires { ⌜ (end ≤ length (now s)) × (now table ≡ byNumber) × Section section ⌝ }
-    ensures { λ r. ⌜ r ≡ reading (λ a. commands + count a) (Check.sequenceAt (was s) components section depth commands end at) ⌝ }
+    requires { ⌜ (end ≤ length (now s)) × (now table ≡ byNumber) × Section section × (weight ≤ 5) ⌝ }
+    ensures { λ r. ⌜ r ≡ reading (λ a. commands + weight * count a) (Check.sequenceAt (was s) components section weight depth commands end at) ⌝ }
 {
     let h = item(
         s,
@@ -50,47 +51,49 @@ pub fn check_sequence(
     if depth == 0 {
         return refuse(Refusal::TooDeep, at);
     }
+    let inner = depth - 1;
     let mut p = h.at;
-    let mut so_far = commands;
+    let mut sum = commands;
     let mut left = v / 2;
     while 0 < left {
-        let c = check_command(s, table, components, section, depth - 1, so_far, end, p);
+        let c = check_command(s, table, components, section, weight, inner, sum, end, p);
         let refusal = c.refusal;
         if refusal != 0 {
             return c;
         }
         p = c.at;
-        so_far = c.value;
+        sum = c.value;
         left -= 1;
     }
     Reading {
         refusal: 0,
         at: p,
-        value: so_far,
+        value: sum,
     }
 }
 
-// The command at `at`, after so many commands; the sequences that it holds may be `depth` deep.
+// The command at `at`, likewise; the sequences that it holds may be `depth` deep.
 fn check_command(
     s: &[u8],
     table: &Table,
     components: usize,
     section: usize,
+    weight: usize,
     depth: usize,
     commands: usize,
     end: usize,
     at: usize,
 ) -> Reading
-    requires { ⌜ (end ≤ length (now s)) × (now table ≡ byNumber) × Section section ⌝ }
-    ensures { λ r. ⌜ r ≡ reading (λ c. commands + countCmd c) (commandAt (was s) components section depth commands end at) ⌝ }
+    requires { ⌜ (end ≤ length (now s)) × (now table ≡ byNumber) × Section section × (weight ≤ 5) ⌝ }
+    ensures { λ r. ⌜ r ≡ reading (λ c. commands + weight * countCmd c) (commandAt (was s) components section weight depth commands end at) ⌝ }
 {
-    let o = open_command(s, table, components, section, commands, end, at);
+    let o = open_command(s, table, components, section, weight, commands, end, at);
     let refusal = o.refusal;
     if refusal != 0 {
         return o;
     }
     let mut p = o.at;
-    let mut so_far = commands + 1;
+    let mut sum = commands + weight;
     let mut left = o.value;
     while 0 < left {
         let b = item(s, end, p, cbor::BYTES, 0, Controller::LARGEST_NUMBER);
@@ -100,7 +103,7 @@ fn check_command(
         }
         let from = b.at;
         let to = from + b.value;
-        let r = check_sequence(s, table, components, section, depth, so_far, to, from);
+        let r = check_sequence(s, table, components, section, weight, depth, sum, to, from);
         let refusal = r.refusal;
         if refusal != 0 {
             return r;
@@ -110,12 +113,12 @@ fn check_command(
             return refuse(Refusal::NotCbor, next);
         }
         p = to;
-        so_far = r.value;
+        sum = r.value;
         left -= 1;
     }
     Reading {
         refusal: 0,
         at: p,
-        value: so_far,
+        value: sum,
     }
 }
