@@ -1,9 +1,10 @@
 // The head of a command: its code, whether it may stand there, and what stands before the sequences that it holds.
 ghost use mathlib.Core.Path.{_≡_};
-ghost use Prim.Native.Nat.{_/_, _%_, _≤_};
+ghost use Prim.Native.Nat.{_/_, _%_, _≤_, _<_};
 ghost use lib.Dec.{eqb};
 ghost use lib.ListN.{length};
 ghost use Rattle.rules.specs.Lent.{was};
+ghost use Rattle.rules.specs.Limits.{sectionCount};
 ghost use Rattle.rules.specs.Tables.{byNumber, weightOf};
 ghost use Rattle.cbor_reading.specs.Reading.{reading};
 ghost use Rattle.check_command.specs.Command.{commandStart, Section};
@@ -45,7 +46,7 @@ pub fn open_command(
     end: usize,
     at: usize,
 ) -> Reading
-    requires { ⌜ (end ≤ length (now s)) × (now table ≡ byNumber) × Section section × (weight ≤ 5) ⌝ }
+    requires { ⌜ (end ≤ length (now s)) × (now table ≡ byNumber) × Section section × (weight < sectionCount) ⌝ }
     ensures { λ r. ⌜ r ≡ reading (λ k. k) (commandStart (was s) components section weight commands end at) ⌝ }
 {
     let c = number(s, end, at);

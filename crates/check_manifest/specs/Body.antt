@@ -1,5 +1,5 @@
 -- What the readers of a manifest hand back: of its start, of common, of the whole.
-use Prim.Native.Nat.{ℕ}
+use Prim.Native.Nat.{ℕ, _*_}
 use mathlib.Core.Path.{_≡_}
 use mathlib.Core.List.{List}
 use lib.ListN.{length, replicate}
@@ -34,9 +34,10 @@ Ids f (got a) ids ids′ = ids′ ≡ laid (f (a .0)) ids
 abbrev pub ListRead : Got (List Span × Span) → Lent → Reading → Type 0
 ListRead g ids r = (r ≡ listReading g) × Ids (λ l. l) g (was ids) (left ids)
 
-abbrev pub commonOf : Got ((List Span × List Section) × Span) → Common
-commonOf (refused r p) = record { refusal = refusalNumber r; at = p; components = 0; commands = 0; from = 0 }
-commonOf (got a) = record { refusal = 0; at = a .1 .to; components = length (a .0 .0); commands = countAll (a .0 .1); from = a .1 .from }
+-- of common, whose commands weigh w each
+abbrev pub commonOf : ℕ → Got ((List Span × List Section) × Span) → Common
+commonOf w (refused r p) = record { refusal = refusalNumber r; at = p; components = 0; commands = 0; from = 0 }
+commonOf w (got a) = record { refusal = 0; at = a .1 .to; components = length (a .0 .0); commands = w * countAll (a .0 .1); from = a .1 .from }
 
 -- a refused manifest: all but the refusal's number and place is 0
 abbrev pub refusedBody : ℕ → ℕ → Body
@@ -72,5 +73,5 @@ Kept f g (refused r p) ids ids′ at at′ = Unit {0}
 Kept f g (got a) ids ids′ at at′ = (ids′ ≡ laid (f (a .0)) ids) × (at′ ≡ placed (g (a .0)) at)
 
 -- common was read, and the places of its identifiers and of its sequence stand in the lent arrays
-abbrev pub CommonRead : Got ((List Span × List Section) × Span) → Lent → Lent → Common → Type 0
-CommonRead g ids places r = (r ≡ commonOf g) × Kept (λ c. c .0) (λ c. c .1) g (was ids) (left ids) (was places) (left places)
+abbrev pub CommonRead : ℕ → Got ((List Span × List Section) × Span) → Lent → Lent → Common → Type 0
+CommonRead w g ids places r = (r ≡ commonOf w g) × Kept (λ c. c .0) (λ c. c .1) g (was ids) (left ids) (was places) (left places)

@@ -28,7 +28,7 @@ abbrev pub Placed : {A : Type 0} → (A → List Section) → Got (A × ℕ) →
 Placed f (refused r p) before after = Unit {0}
 Placed f (got a) before after = after ≡ placed (f (a .0)) before
 
--- a section was read, and sections: the answer has how many commands there are with theirs, and the lent array has their places
+-- a section was read, and sections: the answer has what commands weigh with theirs, and the lent array has their places
 abbrev pub SectionRead : (Section → ℕ) → Got (Section × ℕ) → Lent → Reading → Type 0
 SectionRead commands g places r = (r ≡ reading commands g) × Placed (λ x. x ∷ []) g (was places) (left places)
 

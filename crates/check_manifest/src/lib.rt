@@ -1,8 +1,9 @@
 // The manifest: its start, common, and the sections.
 ghost use mathlib.Core.Path.{_≡_};
-ghost use Prim.Native.Nat.{_≤_};
+ghost use Prim.Native.Nat.{_≤_, _<_};
 ghost use lib.ListN.{length};
 ghost use Rattle.rules.specs.Lent.{was};
+ghost use Rattle.rules.specs.Limits.{sectionCount};
 ghost use Rattle.rules.specs.Tables.{byNumber};
 ghost use Rattle.rules.specs.Check as Check;
 ghost use Rattle.cbor_reading.specs.Reading.{placeReading, reading};
@@ -189,17 +190,30 @@ fn no_common(r: Reading) -> Common
     }
 }
 
-// Common in its byte string.
+// What each command of common weighs: as many as there are sections, and at least 1.
+fn common_weight(entries: usize) -> usize
+    requires { ⌜ entries ≤ 8 ⌝ }
+    ensures { λ r. ⌜ (r ≡ Check.commonWeight entries) × (r < sectionCount) ⌝ }
+{
+    if entries <= REQUIRED {
+        1
+    } else {
+        entries - REQUIRED
+    }
+}
+
+// Common in its byte string, whose commands weigh `weight` each.
 fn read_common(
     s: &[u8],
     table: &Table,
+    weight: usize,
     end: usize,
     at: usize,
     ids: &mut Places,
     places: &mut SectionPlaces,
 ) -> Common
-    requires { ⌜ (end ≤ length (now s)) × (now table ≡ byNumber) ⌝ }
-    ensures { λ r. ⌜ CommonRead (Check.commonIn (was s) end at) ids places r ⌝ }
+    requires { ⌜ (end ≤ length (now s)) × (now table ≡ byNumber) × (weight < sectionCount) ⌝ }
+    ensures { λ r. ⌜ CommonRead weight (Check.commonIn (was s) weight end at) ids places r ⌝ }
 {
     let b = item(s, end, at, cbor::BYTES, 0, Controller::LARGEST_NUMBER);
     let refusal = b.refusal;
@@ -223,7 +237,7 @@ fn read_common(
     if refusal != 0 {
         return no_common(l);
     }
-    let q = common_sequence(s, table, l.value, h.value - 1, to, l.at, places);
+    let q = common_sequence(s, table, l.value, weight, h.value - 1, to, l.at, places);
     let refusal = q.refusal;
     if refusal != 0 {
         return no_common(q);
@@ -280,7 +294,8 @@ pub fn read_body(s: &[u8], table: &Table, end: usize, at: usize) -> Body
     }
     let mut ids = [0usize; PLACES];
     let mut places = [0usize; SECTION_PLACES];
-    let c = read_common(s, table, end, f.at, &mut ids, &mut places);
+    let weight = common_weight(f.entries);
+    let c = read_common(s, table, weight, end, f.at, &mut ids, &mut places);
     let refusal = c.refusal;
     if refusal != 0 {
         return refused(refusal, c.at);

@@ -1,6 +1,6 @@
 // Sections: sequences in byte strings under ascending keys.
 ghost use mathlib.Core.Path.{_≡_};
-ghost use Prim.Native.Nat.{_+_, _≤_, _<_};
+ghost use Prim.Native.Nat.{_+_, _*_, _≤_, _<_};
 ghost use lib.ListN.{length};
 ghost use Rattle.rules.specs.Lent.{was};
 ghost use Rattle.rules.specs.Limits.{sectionCount};
@@ -38,19 +38,20 @@ fn section_number(key: usize) -> usize
     }
 }
 
-// The section under `key`, after that many commands.
+// The section under `key`, whose commands weigh `weight` each, after commands that weigh `commands`.
 fn section(
     s: &[u8],
     table: &Table,
     components: usize,
     key: usize,
+    weight: usize,
     commands: usize,
     end: usize,
     at: usize,
     places: &mut SectionPlaces,
 ) -> Reading
-    requires { ⌜ (end ≤ length (now s)) × (now table ≡ byNumber) × Section key ⌝ }
-    ensures { λ r. ⌜ SectionRead (λ x. commands + count (x .seq)) (Check.sectionAt (was s) components key commands end at) places r ⌝ }
+    requires { ⌜ (end ≤ length (now s)) × (now table ≡ byNumber) × Section key × (weight < sectionCount) ⌝ }
+    ensures { λ r. ⌜ SectionRead (λ x. commands + weight * count (x .seq)) (Check.sectionAt (was s) components key weight commands end at) places r ⌝ }
 {
     let b = item(s, end, at, cbor::BYTES, 0, Controller::LARGEST_NUMBER);
     let refusal = b.refusal;
@@ -64,6 +65,7 @@ fn section(
         table,
         components,
         key,
+        weight,
         Controller::DEPTH,
         commands,
         to,
@@ -83,7 +85,7 @@ fn section(
     r
 }
 
-// k sections, after that many commands, whose keys ascend from 8 on.
+// k sections, whose keys ascend from 8 on and whose commands weigh 1 each, after commands that weigh `commands`.
 pub(crate) fn sections(
     s: &[u8],
     table: &Table,
@@ -108,7 +110,7 @@ pub(crate) fn sections(
             return h;
         }
         let key = h.value;
-        let r = section(s, table, components, key, so_far, end, h.at, places);
+        let r = section(s, table, components, key, 1, so_far, end, h.at, places);
         let refusal = r.refusal;
         if refusal != 0 {
             return r;
@@ -130,13 +132,14 @@ pub(crate) fn common_sequence(
     s: &[u8],
     table: &Table,
     components: usize,
+    weight: usize,
     k: usize,
     end: usize,
     at: usize,
     places: &mut SectionPlaces,
 ) -> Reading
-    requires { ⌜ (end ≤ length (now s)) × (now table ≡ byNumber) × (k ≤ 1) ⌝ }
-    ensures { λ r. ⌜ SectionsRead countAll (Check.commonSeq (was s) components k end at) places r ⌝ }
+    requires { ⌜ (end ≤ length (now s)) × (now table ≡ byNumber) × (k ≤ 1) × (weight < sectionCount) ⌝ }
+    ensures { λ r. ⌜ SectionsRead (λ xs. weight * countAll xs) (Check.commonSeq (was s) components weight k end at) places r ⌝ }
 {
     if k == 0 {
         return Reading {
@@ -150,5 +153,15 @@ pub(crate) fn common_sequence(
     if refusal != 0 {
         return h;
     }
-    section(s, table, components, codes::COMMON, 0, end, h.at, places)
+    section(
+        s,
+        table,
+        components,
+        codes::COMMON,
+        weight,
+        0,
+        end,
+        h.at,
+        places,
+    )
 }

@@ -1,8 +1,9 @@
 // Sequences hold commands and commands hold sequences.
 ghost use mathlib.Core.Path.{_≡_};
-ghost use Prim.Native.Nat.{_+_, _*_, _≤_};
+ghost use Prim.Native.Nat.{_+_, _*_, _≤_, _<_};
 ghost use lib.ListN.{length};
 ghost use Rattle.rules.specs.Lent.{was};
+ghost use Rattle.rules.specs.Limits.{sectionCount};
 ghost use Rattle.rules.specs.Tables.{byNumber};
 ghost use Rattle.rules.specs.Manifest.{count, countCmd};
 ghost use Rattle.rules.specs.Check as Check;
@@ -29,7 +30,7 @@ pub fn check_sequence(
     end: usize,
     at: usize,
 ) -> Reading
-    requires { ⌜ (end ≤ length (now s)) × (now table ≡ byNumber) × Section section × (weight ≤ 5) ⌝ }
+    requires { ⌜ (end ≤ length (now s)) × (now table ≡ byNumber) × Section section × (weight < sectionCount) ⌝ }
     ensures { λ r. ⌜ r ≡ reading (λ a. commands + weight * count a) (Check.sequenceAt (was s) components section weight depth commands end at) ⌝ }
 {
     let h = item(
@@ -84,7 +85,7 @@ fn check_command(
     end: usize,
     at: usize,
 ) -> Reading
-    requires { ⌜ (end ≤ length (now s)) × (now table ≡ byNumber) × Section section × (weight ≤ 5) ⌝ }
+    requires { ⌜ (end ≤ length (now s)) × (now table ≡ byNumber) × Section section × (weight < sectionCount) ⌝ }
     ensures { λ r. ⌜ r ≡ reading (λ c. commands + weight * countCmd c) (commandAt (was s) components section weight depth commands end at) ⌝ }
 {
     let o = open_command(s, table, components, section, weight, commands, end, at);

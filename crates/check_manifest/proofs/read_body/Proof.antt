@@ -8,23 +8,32 @@ use Rattle.check_manifest.proofs.read_body.Tie as tie
 no-front : tie.Need-returns
 no-front c = c .refused .ensures ∙ manifest-no-front _ _ _ _ (c .before .before .read-front .ensures) (c .before .if1 .taken)
 
+-- back to where the weight was computed, from where common was read
+abbrev to-weight : tie.After-read-common → tie.After-common-weight
+to-weight c = c .before .before .before
+
 no-common : tie.Need-returns-2
 no-common c =
-    let i = c .before .before .before .before .before in
-    c .refused2 .ensures ∙ manifest-no-common _ _ _ _ _ _ (i .before .read-front .ensures) (i .if1 .left) _ (c .before .before .read-common .ensures) (c .before .if2 .taken)
+    let common = c .before .before in
+    let weight = to-weight common in
+    c .refused2 .ensures
+    ∙ manifest-no-common _ _ _ _ _ _ (weight .before .before .read-front .ensures) (weight .before .if1 .left) _ (weight .common-weight .ensures .0)
+    _ (common .read-common .ensures) (c .before .if2 .taken)
 
 bad : tie.Need-returns-3
 bad c =
-    let i = c .before .before .before .before .before in
-    let k = i .before .before .before .before in
+    let went = c .before .before .before .before .before in
+    let weight = to-weight (went .before) in
     c .refused3 .ensures
-    ∙ manifest-bad _ _ _ _ _ _ (k .before .read-front .ensures) (k .if1 .left) _ (i .before .read-common .ensures) (i .if2 .left) _ _ (c .before .before .sections .ensures) (c .before .if3 .taken)
+    ∙ manifest-bad _ _ _ _ _ _ (weight .before .before .read-front .ensures) (weight .before .if1 .left) _ (weight .common-weight .ensures .0)
+    _ (went .before .read-common .ensures) (went .if2 .left) _ _ (c .before .before .sections .ensures) (c .before .if3 .taken)
 
 good : tie.Need-returns-4
 good c =
-    let i = c .before .before .before .before in
-    let k = i .before .before .before .before in
-    manifest-good _ _ _ _ _ _ (k .before .read-front .ensures) (k .if1 .left) _ (i .before .read-common .ensures) (i .if2 .left) _ _ (c .before .sections .ensures) (c .if3 .left)
+    let went = c .before .before .before .before in
+    let weight = to-weight (went .before) in
+    manifest-good _ _ _ _ _ _ (weight .before .before .read-front .ensures) (weight .before .if1 .left) _ (weight .common-weight .ensures .0)
+    _ (went .before .read-common .ensures) (went .if2 .left) _ _ (c .before .sections .ensures) (c .if3 .left)
 
 pub read-body-spec : {M : Type 1} → statement M
 read-body-spec =
@@ -33,10 +42,11 @@ read-body-spec =
     (λ c κs. search needs)
     (λ c κs. search needs)
     no-front
-    (λ c κs. search needs)
+    (λ c. omega (arith, front-entries _ _ _ _ (c .before .read-front .ensures) (c .if1 .left) .1))
+    (λ c κs. (search needs, search needs, c .before .before .common-weight .ensures .1))
     (λ c κs. search needs)
     no-common
-    (λ c. let i = c .before .before .before .before .before in omega (arith, front-entries _ _ _ _ (i .before .read-front .ensures) (i .if1 .left)))
+    (λ c. let weight = to-weight (c .before .before) in omega (arith, front-entries _ _ _ _ (weight .before .before .read-front .ensures) (weight .before .if1 .left) .0))
     (λ c κs. search needs)
     (λ c κs. search needs)
     bad

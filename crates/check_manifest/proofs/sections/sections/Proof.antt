@@ -28,7 +28,7 @@ refusal c =
 section-requires : tie.Need-section-requires Inv-loop μ-loop
 section-requires c κs =
     let i = item-law _ _ _ _ _ _ _ (item-went _ _ _ _ _ _ _ (c .before .before .item .ensures) (c .before .if1 .left)) in
-    (search needs, search needs, key-section _ _ (c .before .before .before .before .loop .inv .0) (i .low) (i .high))
+    (search needs, search needs, key-section _ _ (c .before .before .before .before .loop .inv .0) (i .low) (i .high), omega arith)
 
 bad : tie.Need-returns-2 Inv-loop μ-loop
 bad c =
