@@ -9,7 +9,7 @@ use Rattle.rules.specs.Limits.{limits, places}
 use Rattle.rules.specs.Bytes.{Bytes, span, bytesAt, spanAt, InBytes}
 use Rattle.rules.specs.Got.{Got, refused, got}
 use Rattle.rules.specs.Manifest.{Manifest, names}
-use Rattle.rules.specs.Check.{components, check}
+use Rattle.rules.specs.Check.{commonWeight, components, check}
 use Rattle.rules.proofs.CheckLaws.{inBytes-law}
 use Rattle.rules.proofs.ManifestParts.{common-parts, common-in, manifest-parts, held}
 use Rattle.rules_theorems.proofs.ManifestLaws.{Sound, sound}
@@ -29,8 +29,8 @@ ids-in : (s : Bytes) (m : Manifest) (a : List ℕ) → check s ≡ got m → InB
 ids-in s m a q =
     let h = held s m q in
     let x = manifest-parts s (h .to) (h .from) m (h .to) (h .reads) in
-    let j = common-in s (h .to) (x .start) (x .common) (x .place) (x .held) in
-    let y = common-parts s (x .place .to) (x .place .from) (x .common) (x .place .to) (j .reads) in
+    let j = common-in s (commonWeight (x .entries)) (h .to) (x .start) (x .common) (x .place) (x .held) in
+    let y = common-parts s (commonWeight (x .entries)) (x .place .to) (x .place .from) (x .common) (x .place .to) (j .reads) in
     let i = inBytes-law s (components s) (x .place .to) (y .list) (x .common .0) (y .place) (y .ids) in
     rw (x .is) (ids-inside s (y .place .to) (y .place .from) (x .common .0) (y .place .to) a (omega (arith, i .fits, j .fits, h .fits)) (i .reads))
 

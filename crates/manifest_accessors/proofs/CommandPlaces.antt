@@ -1,9 +1,10 @@
 -- A command by its code, and the sequences that it holds, as check read them.
-use Prim.Native.Nat.{ℕ, zero, suc, _+_, _-_, _≤_, _<_}
+use Prim.Native.Nat.{ℕ, zero, suc, _+_, _-_, _*_, _≤_, _<_}
 use mathlib.Core.Path.{_≡_, refl, sym, ap, _∙_}
 use mathlib.Core.List.{List, [], _∷_}
 use mathlib.Core.Option.{some}
 use native.Mathlib.Omega.{arith}
+use native.Mathlib.Nat.{one-mul}
 use lib.Dec.{eqb}
 use lib.ListN.{length}
 use borrow.Author.Tests.{eqb-true}
@@ -30,13 +31,13 @@ pub record Coded (s : Bytes) (n depth events at : ℕ) (x : CommandAt s n depth 
   pub row : Row
   pub listed : rowOf code commands ≡ some row
   pub few : x .m < limits .commands
-  pub argument : Rattle.rules.specs.Check.argument s (sequenceAt s n (x .section) depth) n (x .m + 1) at (row .form) (x .e) from ≡ got (x .cmd, x .to)
+  pub argument : Rattle.rules.specs.Check.argument s (sequenceAt s n (x .section) 1 depth) n 1 (x .m + 1) at (row .form) (x .e) from ≡ got (x .cmd, x .to)
 
 pub coded : (s : Bytes) (n depth events at : ℕ) (x : CommandAt s n depth events at) → Coded s n depth events at x
 unfolding command
 coded s n depth events at x =
     split₂ _ (number s (x .e) at) _ (x .cmd, x .to) (x .reads) λ c p qc q₁.
-    let y = command-coded s (sequenceAt s n (x .section) depth) n (x .section) (x .m) (x .e) at (x .cmd) (x .to) (x .reads) c p qc in
+    let y = command-coded s (sequenceAt s n (x .section) 1 depth) n (x .section) (x .m) (x .e) at (x .cmd) (x .to) (x .reads) c p qc in
     record { code = c; from = p; reads = qc; row = y .row; listed = y .listed; few = y .room; argument = y .reads }
 
 -- a sequence in a byte string
@@ -60,7 +61,7 @@ in-string s deeper m e at a p q₀ =
     (record { head = h; item = qh; reads = rw (← ea, ← w) (qr ∙ ap (λ (z : ℕ). got (b, z)) l); fits = omega (arith, i .fits, w) }, ap (λ (z : Span). z .to) (sym ep) ∙ l ∙ w)
 
 -- once the head of the byte string is read: its sequence
-module _ (s : Bytes) (n section depth m e at : ℕ) (a : Seq) (i : InString s (sequenceAt s n section depth) m e at a) (f : e ≤ length s) where
+module _ (s : Bytes) (n section depth m e at : ℕ) (a : Seq) (i : InString s (sequenceAt s n section 1 depth) m e at a) (f : e ≤ length s) where
   abbrev pub string-head : HeadAt s at
   string-head = item-headed s BYTES 0 (limits .largest) e at (i .head) f (omega arith) (i .item)
 
@@ -83,7 +84,7 @@ module _ (s : Bytes) (n section depth m e at : ℕ) (a : Seq) (i : InString s (s
 -- of a run sequence
 pub record Sub (s : Bytes) (n depth events at : ℕ) (x : CommandAt s n depth events at) (p : ℕ) : Type 0 where
   pub seq : Seq
-  pub inside : InString s (sequenceAt s n (x .section) depth) (x .m + 1) (x .e) p seq
+  pub inside : InString s (sequenceAt s n (x .section) 1 depth) (x .m + 1) (x .e) p seq
   pub is : x .cmd ≡ sub seq
   pub to : x .to ≡ inside .head .next + inside .head .num
 
@@ -93,8 +94,8 @@ unfolding argument
 its-sequence s n depth events at x c p e z =
     let r : some (c .row) ≡ rowOf runSequenceCode commands = sym (c .listed) ∙ ap (λ (k : ℕ). rowOf k commands) z in
     let f : c .row .form ≡ Rattle.rules.specs.Commands.sequence = cc in
-    split₂ _ (inBytes s (sequenceAt s n (x .section) depth (x .m + 1)) (x .e) p) _ (x .cmd, x .to) (rw (f, ← e) at (c .argument)) λ a q qa q₁.
-    let (i, t) = in-string s (sequenceAt s n (x .section) depth) (x .m + 1) (x .e) p a q qa in
+    split₂ _ (inBytes s (sequenceAt s n (x .section) 1 depth (x .m + 1)) (x .e) p) _ (x .cmd, x .to) (rw (f, ← e) at (c .argument)) λ a q qa q₁.
+    let (i, t) = in-string s (sequenceAt s n (x .section) 1 depth) (x .m + 1) (x .e) p a q qa in
     let (ec, et) = both q₁ in
     record { seq = a; inside = i; is = sym ec; to = sym et ∙ t }
 
@@ -103,7 +104,7 @@ pub record Tries (s : Bytes) (n depth events at : ℕ) (x : CommandAt s n depth 
   pub head : Head
   pub item : item ARRAY 1 (limits .alternatives) s (x .e) p ≡ got head
   pub alts : Alts
-  pub reads : alternativesAt s (sequenceAt s n (x .section) depth) (head .num - 1) (x .m + 1) (x .e) (head .next) ≡ got (alts, x .to)
+  pub reads : alternativesAt s (sequenceAt s n (x .section) 1 depth) 1 (head .num - 1) (x .m + 1) (x .e) (head .next) ≡ got (alts, x .to)
   pub is : x .cmd ≡ try alts
   pub some-of : 1 ≤ head .num
 
@@ -114,7 +115,7 @@ its-alternatives s n depth events at x c p e z =
     let r : some (c .row) ≡ rowOf tryEachCode commands = sym (c .listed) ∙ ap (λ (k : ℕ). rowOf k commands) z in
     let f : c .row .form ≡ Rattle.rules.specs.Commands.alternatives = cc in
     split _ (item ARRAY 1 (limits .alternatives) s (x .e) p) _ (x .cmd, x .to) (rw (f, ← e) at (c .argument)) λ h qh q₁.
-    split₂ _ (alternativesAt s (sequenceAt s n (x .section) depth) (h .num - 1) (x .m + 1) (x .e) (h .next)) _ (x .cmd, x .to) q₁ λ a q qa q₂.
+    split₂ _ (alternativesAt s (sequenceAt s n (x .section) 1 depth) 1 (h .num - 1) (x .m + 1) (x .e) (h .next)) _ (x .cmd, x .to) q₁ λ a q qa q₂.
     let i : Item s ARRAY 1 (limits .alternatives) (x .e) p h = item-law s ARRAY 1 (limits .alternatives) (x .e) p h qh in
     let (ec, et) = both q₂ in
     record { head = h; item = qh; alts = a; reads = rw (← et) qa; is = sym ec; some-of = i .low }
@@ -128,7 +129,7 @@ abbrev pub Alternatives : (s : Bytes) (deeper : ℕ → Read Seq) (e : ℕ) → 
 Alternatives s deeper e [] m at to = at ≡ to
 Alternatives s deeper e (a ∷ rest) m at to = (i : InString s deeper m e at a) × Alternatives s deeper e rest (m + count a) (i .head .next + i .head .num) to
 
-pub alternatives-law : (s : Bytes) (deeper : ℕ → Read Seq) (k m e at : ℕ) (a : Alts) (to : ℕ) → alternativesAt s deeper k m e at ≡ got (a, to) →
+pub alternatives-law : (s : Bytes) (deeper : ℕ → Read Seq) (k m e at : ℕ) (a : Alts) (to : ℕ) → alternativesAt s deeper 1 k m e at ≡ got (a, to) →
     Alternatives s deeper e (listOf a) m at to × (length (listOf a) ≡ suc k)
 unfolding alternativesAt
 alternatives-law s deeper zero m e at a to q₀ =
@@ -138,8 +139,8 @@ alternatives-law s deeper zero m e at a to q₀ =
     rw (← ea) ((i, sym t ∙ et), refl)
 alternatives-law s deeper (suc k) m e at a to q₀ =
     split₂ _ (inBytes s (deeper m) e at) _ (a, to) q₀ λ b p qb q₁.
-    split₂ _ (alternativesAt s deeper k (m + count b) e (p .to)) _ (a, to) q₁ λ rest q qs q₂.
+    split₂ _ (alternativesAt s deeper 1 k (m + 1 * count b) e (p .to)) _ (a, to) q₁ λ rest q qs q₂.
     let (i, t) = in-string s deeper m e at b p qb in
     let (ea, et) = both q₂ in
-    let (l, w) = alternatives-law s deeper k (m + count b) e (i .head .next + i .head .num) rest to (rw (← t, ← et) qs) in
+    let (l, w) = alternatives-law s deeper k (m + count b) e (i .head .next + i .head .num) rest to (rw (← t, ← et) (rw (one-mul (count b)) at qs)) in
     rw (← ea) ((i, l), ap suc w)

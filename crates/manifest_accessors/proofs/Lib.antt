@@ -6,6 +6,4 @@ pub mod CommandPlaces
 pub mod SequencePlaces
 pub mod TryPlaces
 pub mod PlaceLaws
-pub mod SectionsRead
-pub mod SectionPlaces
 pub mod AcceptedLaws

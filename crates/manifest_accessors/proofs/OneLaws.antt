@@ -39,7 +39,7 @@ row-above c r =
 -- an argument by its form
 module _ (s : Bytes) (deeper : ℕ → Read Seq) (n m place e at : ℕ) (op : Op) (coerce : Option Bool) (to : ℕ) (f : e ≤ length s) where
   abbrev Reads : Form → Type 0
-  Reads form = argument s deeper n m place form e at ≡ got (one place op coerce, to)
+  Reads form = argument s deeper n 1 m place form e at ≡ got (one place op coerce, to)
 
   pub record SixteenAt (make : Bytes → Op) : Type 0 where
     pub headed : HeadAt s at
@@ -117,7 +117,7 @@ module _ (s : Bytes) (deeper : ℕ → Read Seq) (n m place e at : ℕ) (op : Op
   unfolding argument
   no-try q₀ =
       split _ (item ARRAY 1 (limits .alternatives) s e at) _ (one place op coerce, to) q₀ λ h qh q₁.
-      split₂ _ (alternativesAt s deeper (h .num - 1) m e (h .next)) _ (one place op coerce, to) q₁ λ a next qa q₂.
+      split₂ _ (alternativesAt s deeper 1 (h .num - 1) m e (h .next)) _ (one place op coerce, to) q₁ λ a next qa q₂.
       let (eo, et) = both q₂ in
       let z : _≡_ {A = ℕ} 0 1 = cc in
       omega arith
@@ -205,7 +205,7 @@ module _ (s : Bytes) (c v : ℕ) (p : Words.Params) where
 -- the commands by their codes
 module _ (s : Bytes) (c at : ℕ) (x : ArgumentAt s c at) where
   abbrev AsForm : Form → Type 0
-  AsForm form = argument s (x .deeper) (x .n) (x .m) (x .place) form (x .e) at ≡ got (one (x .place) (x .op) (x .coerce), x .to)
+  AsForm form = argument s (x .deeper) (x .n) 1 (x .m) (x .place) form (x .e) at ≡ got (one (x .place) (x .op) (x .coerce), x .to)
 
   as-form : (k : ℕ) → c ≡ k → (r : Row) → rowOf k commands ≡ some r → AsForm (r .form)
   as-form k e r q = rw (form-of c (x .row) r (x .listed) (rw e q)) at (x .reads)

@@ -1,5 +1,5 @@
 -- Places rise: what check has read ends after it begins, and within its container. So the bytes left fall with each call.
-use Prim.Native.Nat.{ℕ, zero, suc, _+_, _-_, _≤_, _<_}
+use Prim.Native.Nat.{ℕ, zero, suc, _+_, _-_, _*_, _≤_, _<_}
 use mathlib.Core.Path.{_≡_}
 use native.Mathlib.Omega.{arith}
 use lib.Dec.{ltb}
@@ -41,7 +41,7 @@ abbrev Within : ℕ → ℕ → ℕ → Type 0
 Within at to e = (at < to) × (to ≤ e)
 
 module _ (s : Bytes) (deeper : ℕ → Read Seq) where
-  alternatives-within : (k m e at : ℕ) (a : Alts) (to : ℕ) → alternativesAt s deeper k m e at ≡ got (a, to) → Within at to e
+  alternatives-within : (k m e at : ℕ) (a : Alts) (to : ℕ) → alternativesAt s deeper 1 k m e at ≡ got (a, to) → Within at to e
   unfolding alternativesAt
   alternatives-within zero m e at a to q₀ =
       split₂ _ (inBytes s (deeper m) e at) _ (a, to) q₀ λ b p qb q₁.
@@ -50,13 +50,13 @@ module _ (s : Bytes) (deeper : ℕ → Read Seq) where
       (omega (arith, i .up, i .mid), omega (arith, i .fits))
   alternatives-within (suc k) m e at a to q₀ =
       split₂ _ (inBytes s (deeper m) e at) _ (a, to) q₀ λ b p qb q₁.
-      split₂ _ (alternativesAt s deeper k (m + count b) e (p .to)) _ (a, to) q₁ λ bs q qs q₂.
+      split₂ _ (alternativesAt s deeper 1 k (m + 1 * count b) e (p .to)) _ (a, to) q₁ λ bs q qs q₂.
       let i = inBytes-law s (deeper m) e at b p qb in
-      let (l, f) = alternatives-within k (m + count b) e (p .to) bs q qs in
+      let (l, f) = alternatives-within k (m + 1 * count b) e (p .to) bs q qs in
       let (_, et) = both q₂ in
       (omega (arith, i .up, i .mid), omega arith)
 
-  argument-within : (n m place : ℕ) (form : Form) (e at : ℕ) (c : Cmd) (to : ℕ) → e ≤ length s → argument s deeper n m place form e at ≡ got (c, to) → Within at to e
+  argument-within : (n m place : ℕ) (form : Form) (e at : ℕ) (c : Cmd) (to : ℕ) → e ≤ length s → argument s deeper n 1 m place form e at ≡ got (c, to) → Within at to e
   unfolding argument
   argument-within n m place (sixteen op) e at c to f q₀ =
       split _ (item BYTES (limits .class) (limits .class) s e at) _ (c, to) q₀ λ h qh q₁.
@@ -76,7 +76,7 @@ module _ (s : Bytes) (deeper : ℕ → Read Seq) where
       (omega arith, omega arith)
   argument-within n m place alternatives e at c to f q₀ =
       split _ (item ARRAY 1 (limits .alternatives) s e at) _ (c, to) q₀ λ h qh q₁.
-      split₂ _ (alternativesAt s deeper (h .num - 1) m e (h .next)) _ (c, to) q₁ λ a next qa q₂.
+      split₂ _ (alternativesAt s deeper 1 (h .num - 1) m e (h .next)) _ (c, to) q₁ λ a next qa q₂.
       let i = item-law s ARRAY 1 (limits .alternatives) e at h qh in
       let (u, v) = alternatives-within (h .num - 1) m e (h .next) a next qa in
       let (_, et) = both q₂ in
@@ -100,7 +100,7 @@ module _ (s : Bytes) (n depth events at : ℕ) (x : CommandAt s n depth events a
   command-within =
       let c = coded s n depth events at x in
       let (u, v, _) = number-law s (x .e) at (c .code) (c .from) (c .reads) in
-      let (l, f) = argument-within s (sequenceAt s n (x .section) depth) n (x .m + 1) at (c .row .form) (x .e) (c .from) (x .cmd) (x .to) (x .fits) (c .argument) in
+      let (l, f) = argument-within s (sequenceAt s n (x .section) 1 depth) n (x .m + 1) at (c .row .form) (x .e) (c .from) (x .cmd) (x .to) (x .fits) (c .argument) in
       (omega arith, f)
 
   pub command-later : at < x .to

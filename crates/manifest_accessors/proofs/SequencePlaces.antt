@@ -1,5 +1,5 @@
 -- The commands of a sequence, one after the other, as check read them.
-use Prim.Native.Nat.{ℕ, zero, suc, _+_, _-_, _/_, _%_, _≤_, _<_}
+use Prim.Native.Nat.{ℕ, zero, suc, _+_, _-_, _*_, _/_, _%_, _≤_, _<_}
 use mathlib.Core.Path.{_≡_, refl, sym}
 use native.Mathlib.Omega.{arith}
 use lib.Dec.{eqb}
@@ -24,7 +24,7 @@ pub record CommandsAt (s : Bytes) (n depth events k at : ℕ) : Type 0 where
   pub fits : e ≤ length s
   pub cmds : Seq
   pub to : ℕ
-  pub reads : commandsAt s (sequenceAt s n section depth) n section k m e at ≡ got (cmds, to)
+  pub reads : commandsAt s (sequenceAt s n section 1 depth) n section 1 k m e at ≡ got (cmds, to)
   pub few : events ≤ m
 
 -- the head of a sequence
@@ -32,7 +32,7 @@ pub record Start (s : Bytes) (n depth events at : ℕ) (x : SequenceAt s n depth
   pub head : Head
   pub item : item ARRAY 0 (limits .sequence + limits .sequence) s (x .e) at ≡ got head
   pub deep : 0 < depth
-  pub reads : commandsAt s (sequenceAt s n (x .section) (depth - 1)) n (x .section) (head .num / 2) (x .m) (x .e) (head .next) ≡ got (x .seq, x .to)
+  pub reads : commandsAt s (sequenceAt s n (x .section) 1 (depth - 1)) n (x .section) 1 (head .num / 2) (x .m) (x .e) (head .next) ≡ got (x .seq, x .to)
 
 pub start : (s : Bytes) (n depth events at : ℕ) (x : SequenceAt s n depth events at) → Start s n depth events at x
 unfolding sequenceAt
@@ -80,16 +80,16 @@ pub turn : (s : Bytes) (n depth events k at : ℕ) (x : CommandsAt s n depth eve
 unfolding commandsAt
 turn s n depth events zero at x h = absurd (omega arith)
 turn s n depth events (suc k) at x h =
-    split₂ _ (command s (sequenceAt s n (x .section) depth) n (x .section) (x .m) (x .e) at) _ (x .cmds, x .to) (x .reads) λ c p qc q₁.
-    split₂ _ (commandsAt s (sequenceAt s n (x .section) depth) n (x .section) k (x .m + countCmd c) (x .e) p) _ (x .cmds, x .to) q₁ λ cs q qs q₂.
+    split₂ _ (command s (sequenceAt s n (x .section) 1 depth) n (x .section) 1 (x .m) (x .e) at) _ (x .cmds, x .to) (x .reads) λ c p qc q₁.
+    split₂ _ (commandsAt s (sequenceAt s n (x .section) 1 depth) n (x .section) 1 k (x .m + 1 * countCmd c) (x .e) p) _ (x .cmds, x .to) q₁ λ cs q qs q₂.
     let (ec, eq) = both q₂ in
     let d : suc k - 1 ≡ k = omega arith in
     record {
       first = record { section = x .section; m = x .m; e = x .e; fits = x .fits; cmd = c; to = p; reads = qc; few = x .few };
-      rest = record { section = x .section; m = x .m + countCmd c; e = x .e; fits = x .fits; cmds = cs; to = q; reads = rw d qs; few = omega arith };
+      rest = record { section = x .section; m = x .m + 1 * countCmd c; e = x .e; fits = x .fits; cmds = cs; to = q; reads = rw d qs; few = omega arith };
       cmds = sym ec;
       ends = eq;
-      few = refl;
+      few = omega arith;
       under = x .few;
     }
 

@@ -24,7 +24,7 @@ pub record AltsAt (s : Bytes) (n depth events k at to : ℕ) : Type 0 where
   pub fits : e ≤ length s
   pub seqs : List Seq
   pub size : length seqs ≡ k
-  pub reads : Alternatives s (sequenceAt s n section depth) e seqs m at to
+  pub reads : Alternatives s (sequenceAt s n section 1 depth) e seqs m at to
   pub few : events ≤ m
 
 -- once the head of a try each is read: its alternatives
@@ -34,7 +34,7 @@ module _ (s : Bytes) (n depth events at : ℕ) (x : CommandAt s n depth events a
 
   abbrev pub try-places : (w from : ℕ) → (w ≡ t .head .num) × (from ≡ t .head .next) → AltsAt s n depth events w from (x .to)
   try-places w from o =
-      let (l, size) = alternatives-law s (sequenceAt s n (x .section) depth) (t .head .num - 1) (x .m + 1) (x .e) (t .head .next) (t .alts) (x .to) (t .reads) in
+      let (l, size) = alternatives-law s (sequenceAt s n (x .section) 1 depth) (t .head .num - 1) (x .m + 1) (x .e) (t .head .next) (t .alts) (x .to) (t .reads) in
       record {
         section = x .section;
         m = x .m + 1;
@@ -49,7 +49,7 @@ module _ (s : Bytes) (n depth events at : ℕ) (x : CommandAt s n depth events a
 -- the first of some alternatives, and the others
 pub record Choice (s : Bytes) (n depth events k at to : ℕ) (x : AltsAt s n depth events k at to) : Type 0 where
   pub first : Seq
-  pub inside : InString s (sequenceAt s n (x .section) depth) (x .m) (x .e) at first
+  pub inside : InString s (sequenceAt s n (x .section) 1 depth) (x .m) (x .e) at first
   pub rest : AltsAt s n depth 0 (k - 1) (inside .head .next + inside .head .num) to
   pub seqs : x .seqs ≡ first ∷ rest .seqs
   pub more : rest .m ≡ x .m + count first
@@ -57,7 +57,7 @@ pub record Choice (s : Bytes) (n depth events k at to : ℕ) (x : AltsAt s n dep
 pub choice : (s : Bytes) (n depth events k at to : ℕ) (x : AltsAt s n depth events k at to) → 0 < k → Choice s n depth events k at to x
 choice s n depth events k at to x h = go (x .seqs) refl (x .size) (x .reads)
   where
-    go : (list : List Seq) → x .seqs ≡ list → length list ≡ k → Alternatives s (sequenceAt s n (x .section) depth) (x .e) list (x .m) at to → Choice s n depth events k at to x
+    go : (list : List Seq) → x .seqs ≡ list → length list ≡ k → Alternatives s (sequenceAt s n (x .section) 1 depth) (x .e) list (x .m) at to → Choice s n depth events k at to x
     go [] q l r = absurd (omega (arith, l, h))
     go (a ∷ rest) q l r =
         record {
@@ -81,7 +81,7 @@ choice s n depth events k at to x h = go (x .seqs) refl (x .size) (x .reads)
 pub no-choice : (s : Bytes) (n depth events k at to : ℕ) (x : AltsAt s n depth events k at to) → k ≡ 0 → (x .seqs ≡ []) × (at ≡ to)
 no-choice s n depth events k at to x z = go (x .seqs) refl (x .size) (x .reads)
   where
-    go : (list : List Seq) → x .seqs ≡ list → length list ≡ k → Alternatives s (sequenceAt s n (x .section) depth) (x .e) list (x .m) at to → (x .seqs ≡ []) × (at ≡ to)
+    go : (list : List Seq) → x .seqs ≡ list → length list ≡ k → Alternatives s (sequenceAt s n (x .section) 1 depth) (x .e) list (x .m) at to → (x .seqs ≡ []) × (at ≡ to)
     go [] q l r = (q, r)
     go (a ∷ rest) q l r = absurd (omega (arith, l, z))
 
@@ -96,4 +96,4 @@ strings-of s deeper e (a ∷ rest) m at to r =
 
 abbrev pub strings-at : (s : Bytes) (n depth events k at to : ℕ) (x : AltsAt s n depth events k at to) → Strings s k at
 strings-at s n depth events k at to x =
-    record { e = x .e; fits = x .fits; to = to; reads = rw (x .size) at (strings-of s (sequenceAt s n (x .section) depth) (x .e) (x .seqs) (x .m) at to (x .reads)) }
+    record { e = x .e; fits = x .fits; to = to; reads = rw (x .size) at (strings-of s (sequenceAt s n (x .section) 1 depth) (x .e) (x .seqs) (x .m) at to (x .reads)) }

@@ -93,7 +93,7 @@ pub record ArgumentAt (s : Bytes) (c at : ℕ) : Type 0 where
   pub op : Op
   pub coerce : Option Bool
   pub to : ℕ
-  pub reads : argument s deeper n m place (row .form) e at ≡ got (one place op coerce, to)
+  pub reads : argument s deeper n 1 m place (row .form) e at ≡ got (one place op coerce, to)
 
 -- the component that a command concerns: the new index where its code sets the index, else the current one
 abbrev pub componentOf : ℕ → ℕ → ℕ → ℕ

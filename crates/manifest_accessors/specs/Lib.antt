@@ -1,5 +1,4 @@
 pub mod Heads
 pub mod Arguments
 pub mod Places
-pub mod Sections
 pub mod Accepted

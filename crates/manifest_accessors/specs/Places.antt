@@ -15,7 +15,7 @@ pub record CommandAt (s : Bytes) (n depth events at : ℕ) : Type 0 where
   pub fits : e ≤ length s
   pub cmd : Cmd
   pub to : ℕ
-  pub reads : command s (sequenceAt s n section depth) n section m e at ≡ got (cmd, to)
+  pub reads : command s (sequenceAt s n section 1 depth) n section 1 m e at ≡ got (cmd, to)
   pub few : events ≤ m
 
 pub record SequenceAt (s : Bytes) (n depth events at : ℕ) : Type 0 where
@@ -25,5 +25,5 @@ pub record SequenceAt (s : Bytes) (n depth events at : ℕ) : Type 0 where
   pub fits : e ≤ length s
   pub seq : Seq
   pub to : ℕ
-  pub reads : sequenceAt s n section depth m e at ≡ got (seq, to)
+  pub reads : sequenceAt s n section 1 depth m e at ≡ got (seq, to)
   pub few : events ≤ m

@@ -621,7 +621,7 @@ module _ (s : Bytes) (table : List ℕ) (depth components : ℕ) (cmd : Cmd) (to
           coerce = v .coerce;
         }) (l .inside) (λ i. rw (l .is)) (λ c. rw (l .is))
       where
-        no-others : (list : List Seq) → list ≡ [] → Alternatives s (sequenceAt s components (its-choice .rest .section) depth) (its-choice .rest .e)
+        no-others : (list : List Seq) → list ≡ [] → Alternatives s (sequenceAt s components (its-choice .rest .section) 1 depth) (its-choice .rest .e)
             list (its-choice .rest .m) (its-choice .inside .head .next + its-choice .inside .head .num) to →
             its-choice .inside .head .next + its-choice .inside .head .num ≡ to
         no-others [] e q = q

@@ -148,7 +148,7 @@ module _ (s : Bytes) (table : List ℕ) (depth at : ℕ) (j : CommandHere s tabl
 
         pub choices-start : Choices s table depth at (j .place .cmd) (j .place .to) w (record { next = from; records = w - 1; arguments = 0 })
         choices-start =
-            let many = alternatives-law s (sequenceAt s (j .n) (j .place .section) depth) (tries-at .head .num - 1) (j .place .m + 1) (j .place .e)
+            let many = alternatives-law s (sequenceAt s (j .n) (j .place .section) 1 depth) (tries-at .head .num - 1) (j .place .m + 1) (j .place .e)
             (tries-at .head .next) (tries-at .alts) (j .place .to) (tries-at .reads) .1 in
             record {
               rows = j .rows;
