@@ -36,6 +36,11 @@ unfoldable mutual
   countAlts (last s) = count s
   countAlts (or s a) = count s + countAlts a
 
+-- the commands of several sequences
+abbrev pub counts : List Seq → ℕ
+counts [] = 0
+counts (a ∷ xs) = count a + counts xs
+
 -- a section that is there, common's sequence among them: its key, where the sequence stands, and the sequence
 pub record Section : Type 0 where
   pub key : ℕ

@@ -20,7 +20,7 @@ use Rattle.rules.specs.Limits.{limits}
 use Rattle.rules.specs.Bytes.{Bytes, part, num, same, repeats}
 use Rattle.rules.specs.Got.{got, found}
 use Rattle.rules.specs.Commands.{Op, vendor, class, imageMatch, setIndex, abort, setParams, overrideParams, fetch, copy, run, swap, among, component, code}
-use Rattle.rules.specs.Manifest.{Seq, end, then, Cmd, one, sub, try, Alts, last, or, count, countCmd, countAlts, Manifest, names}
+use Rattle.rules.specs.Manifest.{counts, Seq, end, then, Cmd, one, sub, try, Alts, last, or, count, countCmd, countAlts, Manifest, names}
 use Rattle.rules.specs.Check.{check}
 use Rattle.rules.specs.Slots.{slotBytes, imageFrom, answerBytes, imageAt, slotOf}
 use Rattle.rules.specs.Step.{Env, State, Out, out, withUsed, eventBytes, unless, given, passes, slotNo, image, filled, paramsOf, matches, fetches, copies, swaps, acts, step, event}
@@ -31,7 +31,7 @@ use Rattle.rules.specs.ProgramTest.{marked, groupIn, idsIn, recordsIn, nonJumps
 use Rattle.rules.specs.ProgramRun.{exec, runProgram}
 use Rattle.rules.proofs.GotLaws.{passed, split, split₂, or-false}
 use Rattle.rules_theorems.proofs.ManifestLaws.{sound}
-use Rattle.rules_theorems.proofs.FlatLaws.{counts, plan-law}
+use Rattle.rules_theorems.proofs.FlatLaws.{plan-law}
 use Rattle.rules_theorems.proofs.SlotLaws.{drop-put-past, other-kept, fixed-kept, length-kept, number-kept}
 
 -- a command that a run does: at which component, and the place of its code

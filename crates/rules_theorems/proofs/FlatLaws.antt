@@ -13,7 +13,7 @@ use Rattle.rules.specs.declared.answers.Group.the-variants.{Install, Boot}
 use Rattle.rules.specs.Limits.{limits}
 use Rattle.rules.specs.Bytes.{Bytes, flat}
 use Rattle.rules.specs.Commands.{COMMON, Op, component, isCondition, among, Allowed, anywhere, only, isAllowed}
-use Rattle.rules.specs.Manifest.{Seq, end, then, Cmd, one, sub, try, Alts, last, or, count, countCmd, countAlts, Section, Manifest, names}
+use Rattle.rules.specs.Manifest.{Seq, end, then, Cmd, one, sub, try, Alts, last, or, count, countCmd, countAlts, counts, Section, Manifest, names}
 use Rattle.rules.specs.Check.{check}
 use Rattle.rules.specs.Got.{got}
 use Rattle.rules.specs.Run.{indexAfter, coerceAfter, sectionsOf, chosen, each, withCommon, planOf}
@@ -201,10 +201,6 @@ module _ (g : Group) (n sec total : ℕ) (of : among sec (COMMON ∷ sectionsOf 
         ((omega arith, omega arith, omega arith), recs-alts x i t z (k + size s + 1) (good .1) h (omega arith) (omega arith) (omega arith) a (omega arith) az)
 
 -- the sequences of a group, each from a section of it or from common
-abbrev pub counts : List Seq → ℕ
-counts [] = 0
-counts (a ∷ xs) = count a + counts xs
-
 abbrev pub Plan : Group → ℕ → List Seq → Type 0
 Plan g n [] = Unit {0}
 Plan g n (a ∷ xs) = ((sec : ℕ) × (among sec (COMMON ∷ sectionsOf g) ≡ true) × GoodSeq a n sec) × Plan g n xs
