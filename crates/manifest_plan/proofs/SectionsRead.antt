@@ -19,7 +19,7 @@ use Rattle.rules.proofs.GotLaws.{both, split, split₂}
 use Rattle.rules.proofs.CheckLaws.{item-law, inBytes-law}
 use Rattle.check_manifest.specs.Sections.{sectionNo, placedOne, placed}
 use Rattle.run_slots.proofs.ParamsLaws.{zeros}
-use Rattle.manifest_accessors.specs.Sections.{keyOf}
+use Rattle.manifest_plan.specs.Plan.{keyOf}
 use Rattle.rules.proofs.ManifestParts.{common-parts, common-in, manifest-parts, held}
 use Rattle.rules_theorems.proofs.Reread.{reread}
 

@@ -44,7 +44,7 @@ getD-beside l i [] j h = refl
 getD-beside l i (a ∷ vs) j (inl h) = getD-beside (set l i a) (suc i) vs j (inl (omega arith)) ∙ getD-set-other l i j a 0 (λ e. omega arith)
 getD-beside l i (a ∷ vs) j (inr h) = getD-beside (set l i a) (suc i) vs j (inr (omega arith)) ∙ getD-set-other l i j a 0 (λ e. omega arith)
 
-getD-among : (l : List ℕ) (i : ℕ) (vs : List ℕ) (k : ℕ) → k < length vs → i + length vs ≤ length l → getD (sets l i vs) (i + k) 0 ≡ getD vs k 0
+pub getD-among : (l : List ℕ) (i : ℕ) (vs : List ℕ) (k : ℕ) → k < length vs → i + length vs ≤ length l → getD (sets l i vs) (i + k) 0 ≡ getD vs k 0
 getD-among l i [] k h f = absurd (omega arith)
 getD-among l i (a ∷ vs) zero h f =
     rw (add-zero i) (getD-beside (set l i a) (suc i) vs i (inl (omega arith)) ∙ getD-set-same l i a 0 (omega arith))

@@ -1,18 +1,18 @@
 use Prim.Native.Nat.{ℕ, zero, suc, _<_}
 use mathlib.Core.Path.{_≡_, refl}
-use mathlib.Core.Bool.{true, false, cond}
+use mathlib.Core.Bool.{false, cond}
 use native.Mathlib.Omega.{arith}
 use lib.Dec.{ltb, leb, eqb}
 use borrow.Author.Needs.{needs}
 use borrow.Author.Tests.{eq-eqb, ne-eqb}
 use Rattle.rules.specs.declared.answers.Group.{Group}
 use Rattle.rules.specs.declared.answers.Group.the-variants.{Install, Boot}
-use Rattle.rules.specs.Commands.{among, COMMON}
+use Rattle.rules.specs.Commands.{among}
 use Rattle.rules.specs.Limits.{sectionCount}
 use Rattle.rules.specs.Run.{sectionsOf}
-use Rattle.manifest_accessors.specs.Sections.{keyOf}
-use Rattle.manifest_accessors.proofs.sections.wanted.Statement.{statement}
-use Rattle.manifest_accessors.proofs.sections.wanted.Tie as tie
+use Rattle.manifest_plan.specs.Plan.{keyOf}
+use Rattle.manifest_plan.proofs.wanted.Statement.{statement}
+use Rattle.manifest_plan.proofs.wanted.Tie as tie
 
 in-install : (k : ℕ) → k < sectionCount → (k ≡ 0 → ⊥) → ltb k 3 ≡ among (keyOf k) (sectionsOf Install)
 in-install zero h d = absurd (d refl)
@@ -32,32 +32,21 @@ in-boot (suc (suc (suc (suc zero)))) h d = refl
 in-boot (suc (suc (suc (suc (suc zero))))) h d = refl
 in-boot (suc (suc (suc (suc (suc (suc k)))))) h d = absurd (omega arith)
 
-module _ (g : Group) (k to : ℕ) (d : to ≡ 0 → ⊥) where
-  common-law : k ≡ 0 → true ≡ cond (eqb to 0) false (among (keyOf k) (sectionsOf g))
-  common-law z = rw (ne-eqb to 0 d, z) (each g)
-    where
-      each : (g : Group) → true ≡ among COMMON (sectionsOf g)
-      each Install = refl
-      each Boot = refl
+module _ (g : Group) (k to : ℕ) (d : to ≡ 0 → ⊥) (h : (0 < k) × (k < sectionCount)) where
+  install-law : g ≡ Install → ltb k 3 ≡ cond (eqb to 0) false (among (keyOf k) (sectionsOf g))
+  install-law e = rw (ne-eqb to 0 d, e) (in-install k (h .1) (λ z. omega (arith, h .0)))
 
-  module _ (h : k < sectionCount) (z : k ≡ 0 → ⊥) where
-    install-law : g ≡ Install → ltb k 3 ≡ cond (eqb to 0) false (among (keyOf k) (sectionsOf g))
-    install-law e = rw (ne-eqb to 0 d, e) (in-install k h z)
-
-    boot-law : g ≡ Boot → leb 3 k ≡ cond (eqb to 0) false (among (keyOf k) (sectionsOf g))
-    boot-law e = rw (ne-eqb to 0 d, e) (in-boot k h z)
+  boot-law : g ≡ Boot → leb 3 k ≡ cond (eqb to 0) false (among (keyOf k) (sectionsOf g))
+  boot-law e = rw (ne-eqb to 0 d, e) (in-boot k (h .1) (λ z. omega (arith, h .0)))
 
 absent : tie.Need-returns
 absent c = rw (eq-eqb _ 0 (c .if1 .taken))
 
-common : tie.Need-returns-2
-common c = common-law (c .before .before .args .group) _ _ (c .before .if1 .left) (c .if2 .taken)
+install : tie.Need-returns-2
+install c = install-law _ _ _ (c .before .before .if1 .left) (c .before .before .before .pre) (c .enum-told .given .1)
 
-install : tie.Need-returns-3
-install c = install-law _ _ _ (c .before .before .before .if1 .left) (c .before .before .before .before .pre) (c .before .before .if2 .left) (c .enum-told .given .1)
-
-boot : tie.Need-returns-4
-boot c = boot-law _ _ _ (c .before .before .before .if1 .left) (c .before .before .before .before .pre) (c .before .before .if2 .left) (c .enum-told2 .given .1)
+boot : tie.Need-returns-3
+boot c = boot-law _ _ _ (c .before .before .if1 .left) (c .before .before .before .pre) (c .enum-told2 .given .1)
 
 pub wanted-spec : {M : Type 1} → statement M
-wanted-spec = tie.close (tie.spec absent common (λ c. search needs) (λ c. search needs) install boot)
+wanted-spec = tie.close (tie.spec absent (λ c. search needs) (λ c. search needs) install boot)

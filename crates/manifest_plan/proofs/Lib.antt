@@ -1,0 +1,3 @@
+pub mod SectionsRead
+pub mod StartLaws
+pub mod PlanLaws
