@@ -1,14 +1,14 @@
 -- The answer of a run, by the rule.
-use Prim.Native.Nat.{ℕ}
-use mathlib.Core.Path.{_≡_, ap, _∙_}
+use Prim.Native.Nat.{ℕ, _+_}
+use mathlib.Core.Path.{_≡_, refl, ap, _∙_}
 use mathlib.Core.List.{List}
 use native.Mathlib.Omega.{arith}
-use lib.ListN.{length, replicate, length-map}
+use lib.ListN.{length, replicate}
 use Rattle.rules.specs.declared.answers.Group.{Group}
 use Rattle.rules.specs.declared.answers.Refusal.{Refusal}
 use Rattle.rules.specs.Answers.{refusalOf, endOf}
-use Rattle.rules.specs.Limits.{memoryNumbers}
-use Rattle.rules.specs.Bytes.{Bytes, bytesAt}
+use Rattle.rules.specs.Limits.{memoryNumbers, planSequences}
+use Rattle.rules.specs.Bytes.{Bytes, put}
 use Rattle.rules.specs.Got.{refused}
 use Rattle.rules.specs.Manifest.{names}
 use Rattle.rules.specs.Check.{check}
@@ -25,7 +25,9 @@ use Rattle.run_ending.specs.Answer.{refusalIn, LastEvent, endingOf, Settles}
 use Rattle.run_commands.specs.Machine.{outAt}
 use Rattle.run_sections.specs.Sections.{SectionsJob, SectionsRan}
 use Rattle.manifest_accessors.specs.Accepted.{Accepted}
-use Rattle.manifest_accessors.proofs.AcceptedLaws.{known, named, refused-by}
+use Rattle.manifest_accessors.proofs.AcceptedLaws.{known, counted, named, refused-by}
+use Rattle.manifest_plan.specs.Plan.{startsOf}
+use Rattle.manifest_plan.proofs.PlanLaws.{plan-left}
 use Rattle.run_admission.proofs.FrameLaws.{trace-room, lent-start, state-start, settles-refused}
 use Rattle.run_admission.proofs.FrameLaws as Frame
 
@@ -42,13 +44,12 @@ module _ (s : Bytes) (number n : ℕ) (ids sections : List ℕ) (a : Accepted s 
         Settles (x .device) (runEnvelope s group x) (record { answer = Refused r 0; number = x .device .number }) (x .slots) (x .slots) (x .trace) (x .trace)
     refused-answer = Frame.refused-answer group (a .manifest .number) (names s (a .manifest)) x _ (runEnvelope s group x) is-run refusal stops
 
-    module _ (z : refusal ≡ 0) (memory : List ℕ) (f : Found (namesAt s ids n) (x .slots) (replicate memoryNumbers 0) memory) where
-      unfoldable whole : SectionsJob s sections (x .device .vendor) (x .device .class) (x .answers) (x .slots) memory (x .trace)
+    module _ (z : refusal ≡ 0) (memory : List ℕ) (f : Found (namesAt s ids n) (x .slots) (replicate memoryNumbers 0) memory)
+        (starts : List ℕ) (total : ℕ)
+        (p : (starts ≡ put (replicate planSequences 0) 0 (startsOf group sections)) × (total ≡ 0 + length (startsOf group sections))) where
+      unfoldable whole : SectionsJob s starts total (x .device .vendor) (x .device .class) (x .answers) (x .slots) memory (x .trace)
       whole =
           record {
-            manifest = a .manifest;
-            checks = a .checks;
-            places = a .places;
             ready =
                 record {
                   env = envOf (names s (a .manifest)) x;
@@ -56,15 +57,16 @@ module _ (s : Bytes) (number n : ℕ) (ids sections : List ℕ) (a : Accepted s 
                       (known s number n ids sections a .some-ids .1) memory (rw (named s number n ids sections a) at f) s;
                   inside = known s number n ids sections a .some-ids .0;
                 };
-            count = length-map (a .manifest .ids) (bytesAt s);
+            plan = planOf group (a .manifest);
+            left = rw (counted s number n ids sections a) (plan-left s number n ids sections a group (replicate planSequences 0) starts total refl p);
           }
 
-      pub job : SectionsJob s sections (x .device .vendor) (x .device .class) (x .answers) (x .slots) memory (x .trace)
+      pub job : SectionsJob s starts total (x .device .vendor) (x .device .class) (x .answers) (x .slots) memory (x .trace)
       job = whole
 
       module _ (r : Progress) (slots′ : Bytes) (memory′ : List ℕ) (trace′ : Bytes)
-          (d : (j : SectionsJob s sections (x .device .vendor) (x .device .class) (x .answers) (x .slots) memory (x .trace)) →
-          SectionsRan s (j .ready .env) (planOf group (j .manifest)) (x .slots) memory (x .trace) r slots′ memory′ trace′) where
+          (d : (j : SectionsJob s starts total (x .device .vendor) (x .device .class) (x .answers) (x .slots) memory (x .trace)) →
+          SectionsRan s (j .ready .env) (j .plan) (x .slots) memory (x .trace) r slots′ memory′ trace′) where
         ran : SectionsRan s (envOf (names s (a .manifest)) x) (planOf group (a .manifest)) (x .slots) memory (x .trace) r slots′ memory′ trace′
         unfolding whole
         ran = d whole

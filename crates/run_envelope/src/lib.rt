@@ -1,12 +1,14 @@
-// A run: the envelope is checked, the run is admitted, and the sections of the group are run.
+// A run: the envelope is checked, the run is admitted, and the sequences of the group's plan are run.
 ghost use Rattle.manifest_accessors.specs.Accepted.{Accepted};
 ghost use Rattle.run_envelope.specs.Envelope.{Runs};
 use check_envelope::check;
 use check_envelope::report::Checked;
+use manifest_plan::plan;
 use rules::answers::Group;
 use rules::answers::Refusal;
 use rules::controller::Controller;
 use rules::controller::MEMORY_NUMBERS;
+use rules::controller::PLAN_SEQUENCES;
 use rules::controller::Places;
 use rules::controller::SectionPlaces;
 use run_admission::Request;
@@ -40,10 +42,12 @@ fn run_checked(
     let group = request.group;
     let vendor = device.vendor;
     let class = device.class;
+    let mut starts = [0usize; PLAN_SEQUENCES];
+    let total = plan(group, sections, &mut starts);
     let done = run_sections(
         s,
-        group,
-        sections,
+        &starts,
+        total,
         &vendor,
         &class,
         answers,

@@ -4,12 +4,15 @@ use Rattle.run_envelope.proofs.OutcomeLaws.{refused-answer, job, last-e
 use Rattle.run_envelope.proofs.run_checked.Statement.{statement}
 use Rattle.run_envelope.proofs.run_checked.Tie as tie
 
--- the way back: to the start from where the run was admitted; to there from where the sections are to run, and from where they ran
+-- the way back: to the start from where the run was admitted; to there from the plan; to the plan from where it is to run; to where it ran
 abbrev start : tie.After-memory → tie.Start
 start c = c .before .before .before .before .before .before .before
 
-abbrev admitted : tie.After-run-sections-arg2 → tie.Else1
-admitted c = c .before .before .before .before .before .before .before
+abbrev planned : tie.After-run-sections-arg2 → tie.After-plan
+planned c = c .before .before .before .before .before .before
+
+abbrev admitted : tie.After-plan → tie.Else1
+admitted c = c .before .before .before .before
 
 abbrev ran-sections : tie.After-ended-arg → tie.After-run-sections
 ran-sections c = c .before .before .before .before .before
@@ -25,26 +28,29 @@ refused c =
 
 sections-requires : tie.Need-run-sections-requires
 sections-requires c κs =
-    let e = admitted c in
+    let p = planned c in
+    let e = admitted p in
     let at = e .before in
-    job _ _ _ _ _ (start (at .before) .pre) _ _ _ (at .admit .ensures .0) (e .if1 .left) _ (at .admit .ensures .1 (e .if1 .left))
+    job _ _ _ _ _ (start (at .before) .pre) _ _ _ (at .admit .ensures .0) (e .if1 .left) _ (at .admit .ensures .1 (e .if1 .left)) _ _ (p .plan .ensures)
 
 ended-requires : tie.Need-ended-requires
 ended-requires c κs =
     let r = ran-sections c in
-    let e = admitted (r .before) in
+    let p = planned (r .before) in
+    let e = admitted p in
     let at = e .before in
     last-event _ _ _ _ _ (start (at .before) .pre) _ _ _ (at .admit .ensures .0) (e .if1 .left) _ (at .admit .ensures .1 (e .if1 .left))
-    _ _ _ _ (r .run-sections .ensures)
+    _ _ (p .plan .ensures) _ _ _ _ (r .run-sections .ensures)
 
 ran : tie.Need-returns-2
 ran c =
     let ended = c .before in
     let r = ran-sections (ended .before) in
-    let e = admitted (r .before) in
+    let p = planned (r .before) in
+    let e = admitted p in
     let at = e .before in
     answered _ _ _ _ _ (start (at .before) .pre) _ _ _ (at .admit .ensures .0) (e .if1 .left) _ (at .admit .ensures .1 (e .if1 .left))
-    _ _ _ _ (r .run-sections .ensures) _ _ (ended .ended .ensures) (c .number-after .ensures)
+    _ _ (p .plan .ensures) _ _ _ _ (r .run-sections .ensures) _ _ (ended .ended .ensures) (c .number-after .ensures)
 
 pub run-checked-spec : {M : Type 1} → statement M
 run-checked-spec =
@@ -56,6 +62,7 @@ run-checked-spec =
     (λ c. search needs)
     (λ c. search needs)
     refused
+    (λ c κs. search needs)
     sections-requires
     ended-requires
     (λ c κs. search needs)
