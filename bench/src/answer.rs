@@ -74,6 +74,8 @@ pub enum Answer {
     Check(CheckAnswer),
     Newer(NewerAnswer),
     Translate {
+        /// What the test says of the program; where there is none, nothing.
+        tested: Option<bool>,
         answer: TranslateAnswer,
         room: Vec<u8>,
     },
@@ -109,7 +111,13 @@ pub fn answer(jobs: &impl Jobs, case: &Case) -> Answer {
         } => {
             let mut room = room.clone();
             let answer = jobs.translate(envelope, *group, &mut room);
-            Answer::Translate { answer, room }
+            let program = room.get(..answer.length).filter(|_| answer.refusal == 0);
+            let tested = program.map(|program| jobs.test_program(program));
+            Answer::Translate {
+                tested,
+                answer,
+                room,
+            }
         }
         Case::Run {
             envelope,

@@ -78,7 +78,7 @@ fn show_answer(answer: &Answer) -> String {
     let mut shown = match answer {
         Answer::Check(answer) => format!("{answer:?}"),
         Answer::Newer(answer) => format!("{answer:?}"),
-        Answer::Translate { answer, .. } => format!("{answer:?}"),
+        Answer::Translate { tested, answer, .. } => format!("{answer:?} tested {tested:?}"),
         Answer::Run { tested, answer, .. } => format!("{answer:?} tested {tested:?}"),
     };
     for (name, bytes) in answer.lent() {

@@ -11,7 +11,10 @@ pub fn show(case: &Case, answer: &Answer) -> Result<String, &'static str> {
     match (case, answer) {
         (_, Answer::Check(answer)) => Ok(checked(answer)),
         (_, Answer::Newer(part)) => Ok(format!("({}, {}, {})", part.second, part.from, part.to)),
-        (Case::Translate { room: lent, .. }, Answer::Translate { answer, room }) => {
+        (_, Answer::Translate { tested, .. }) if *tested == Some(false) => {
+            Err("a translated program that is not well formed")
+        }
+        (Case::Translate { room: lent, .. }, Answer::Translate { answer, room, .. }) => {
             translated(lent, answer, room)
         }
         (_, Answer::Run { tested, answer, .. })
