@@ -6,7 +6,7 @@
 
 #include "rounds.h"
 
-enum { ENVELOPES = 4, ENVELOPE_ROOM = 4096, PROGRAM_ROOM = 32768, SLOTS_ROOM = 4096, TRACE_BYTES = 2048 };
+enum { ENVELOPES = 4, ENVELOPE_ROOM = 4096, PROGRAM_ROOM = 49152, SLOTS_ROOM = 4096, TRACE_BYTES = 2048 };
 
 /* Room for any answer: which fields it has does not matter here. */
 typedef struct {

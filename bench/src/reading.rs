@@ -76,15 +76,11 @@ pub enum Group {
 impl Group {
     pub const BOTH: [Group; 2] = [Group::Install, Group::Boot];
 
+    /// The sections of the group, in the order in which they run.
     fn sections(self) -> &'static [Section] {
         match self {
-            Group::Install => &[Section::Common, Section::PayloadFetch, Section::Install],
-            Group::Boot => &[
-                Section::Common,
-                Section::Validate,
-                Section::Load,
-                Section::Run,
-            ],
+            Group::Install => &[Section::PayloadFetch, Section::Install],
+            Group::Boot => &[Section::Validate, Section::Load, Section::Run],
         }
     }
 }

@@ -163,17 +163,17 @@ fn block() -> Command {
     Command::try_each(vec![failing, vec![image_match()]])
 }
 
+/// One section, so that common runs once and 256 commands stand in the envelope.
 fn nested() -> Manifest {
     let common = vec![Command::set(image_parameters()), image_match()];
-    let validate = vec![block(); 21];
-    let sections = vec![
-        (model::VALIDATE_SECTION, validate),
-        (model::LOAD_SECTION, vec![copy()]),
-        (model::RUN_SECTION, start()),
-    ];
-    manifest(common, sections)
+    let mut run = vec![block(); 21];
+    run.push(image_match());
+    run.extend(start());
+    manifest(common, vec![(model::RUN_SECTION, run)])
 }
 
+/// Three sections, so that common runs three times: 212 commands in the
+/// envelope, 256 in a boot.
 fn flat() -> Manifest {
     let mut common = vec![Command::set(image_parameters())];
     let step = [
@@ -182,10 +182,10 @@ fn flat() -> Manifest {
         image_match(),
         Command::override_with(vec![Parameter::size(SIZE)]),
     ];
-    common.extend(step.iter().cycle().take(63).cloned());
+    common.extend(step.iter().cycle().take(21).cloned());
     let validate = step.iter().cycle().take(64).cloned().collect();
     let load = vec![copy(); 64];
-    let mut run = vec![image_match(); 63];
+    let mut run = vec![image_match(); 61];
     run.extend(start());
     let sections = vec![
         (model::VALIDATE_SECTION, validate),
@@ -217,7 +217,18 @@ mod tests {
     #[test]
     fn subjects_are_at_the_limits() {
         assert_eq!(encode(&full()).len(), limits::ENVELOPE_BYTES);
-        assert_eq!(nested().commands(), limits::COMMANDS);
-        assert_eq!(flat().commands(), limits::COMMANDS);
+        assert_eq!(nested().weight(), limits::COMMANDS);
+        assert_eq!(flat().weight(), limits::COMMANDS);
+    }
+
+    #[test]
+    fn boots_have_these_events() {
+        let events = |subject: &Subject| {
+            let mut lent = Lent::from(&subject.world);
+            let answer = Reading.run(&subject.envelope, Group::Boot, &subject.world, &mut lent);
+            answer.events
+        };
+        let counts: Vec<usize> = subjects().iter().map(events).collect();
+        assert_eq!(counts, [4, 53, 193, 256]);
     }
 }

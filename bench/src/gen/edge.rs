@@ -8,10 +8,8 @@ use crate::reading::limits;
 type Change = fn(&mut Rng, &mut Manifest);
 
 /// Each leads to a limit or one over it.
-const LIMITS: [Change; 11] = [
+const LIMITS: [Change; 9] = [
     long_sequence,
-    many_commands,
-    last_command,
     deep_sequence,
     uri_length,
     identifier_length,
@@ -21,6 +19,9 @@ const LIMITS: [Change; 11] = [
     parameter_count,
     envelope_length,
 ];
+
+/// Each leads to the limit of weight or just over it, in common or in a section.
+const WEIGHTS: [Change; 3] = [many_commands, heavy_common, last_command];
 
 /// Each puts one fault somewhere.
 const FAULTS: [Change; 14] = [
@@ -44,6 +45,19 @@ pub fn to_limit(rng: &mut Rng, manifest: &mut Manifest) {
     rng.pick(&LIMITS)(rng, manifest);
 }
 
+pub fn to_weight(rng: &mut Rng, manifest: &mut Manifest) {
+    rng.pick(&WEIGHTS)(rng, manifest);
+}
+
+/// Adds small commands to a good manifest, up to the limit of weight.
+pub fn fill_up(rng: &mut Rng, manifest: &mut Manifest) {
+    let wanted = rng.within(limits::COMMANDS - 20..=limits::COMMANDS);
+    lighten(rng, manifest);
+    if manifest.weight() <= wanted {
+        fill(rng, manifest, wanted);
+    }
+}
+
 pub fn to_fault(rng: &mut Rng, manifest: &mut Manifest) {
     rng.pick(&FAULTS)(rng, manifest);
 }
@@ -51,37 +65,98 @@ pub fn to_fault(rng: &mut Rng, manifest: &mut Manifest) {
 fn long_sequence(rng: &mut Rng, manifest: &mut Manifest) {
     let length = rng.pick(&[63, 64, 64, 65]);
     let components = manifest.components.len();
-    let sequence = any_sequence(rng, manifest).0;
+    let (sequence, depth) = any_sequence(rng, manifest);
     while sequence.len() < length {
-        sequence.push(small_command(rng, components));
+        sequence.push(small_command(rng, components, depth));
     }
 }
 
 fn many_commands(rng: &mut Rng, manifest: &mut Manifest) {
     let wanted = rng.pick(&[255, 256, 256, 257, 257, 258]);
+    lighten(rng, manifest);
     fill(rng, manifest, wanted);
 }
 
-/// Puts a command that may be wrong at the end of 255 or 256 others.
+/// Brings common alone to the limit or past it, and then the sections.
+fn heavy_common(rng: &mut Rng, manifest: &mut Manifest) {
+    lighten(rng, manifest);
+    if rng.percent(50) {
+        add_empty_sections(manifest);
+    }
+    for (_, sequence) in &mut manifest.sections {
+        sequence.truncate(rng.below(3));
+    }
+    let components = manifest.components.len();
+    let heaviest = limits::COMMANDS + rng.pick(&[0, 0, manifest.common_weight()]);
+    while manifest.weight_in_common() + manifest.common_weight() <= heaviest {
+        let common = manifest.common.get_or_insert_default();
+        grow(rng, common, components);
+    }
+    let wanted = rng.pick(&[255, 256, 256, 257]);
+    fill(rng, manifest, wanted);
+}
+
+/// Adds the sections that are absent, without commands.
+fn add_empty_sections(manifest: &mut Manifest) {
+    let sections = &mut manifest.sections;
+    for key in model::PAYLOAD_FETCH_SECTION..=model::RUN_SECTION {
+        if sections.iter().all(|(present, _)| *present != key) {
+            sections.push((key, Sequence::new()));
+        }
+    }
+    sections.sort_by_key(|(key, _)| *key);
+}
+
+/// Puts a command that may be wrong where the others weigh 255 or 256.
 fn last_command(rng: &mut Rng, manifest: &mut Manifest) {
     let sections = &mut manifest.sections;
     sections.retain(|(key, _)| *key != model::RUN_SECTION);
+    lighten(rng, manifest);
+    manifest
+        .sections
+        .push((model::RUN_SECTION, Sequence::new()));
     let others = rng.pick(&[limits::COMMANDS - 1, limits::COMMANDS]);
     fill(rng, manifest, others);
     let code = rng.pick(&[model::IMAGE_MATCH, model::FETCH, model::VENDOR, 13]);
-    let last = vec![Command::nil(code)];
-    manifest.sections.push((model::RUN_SECTION, last));
+    if let Some((_, last)) = manifest.sections.last_mut() {
+        last.push(Command::nil(code));
+    }
 }
 
+/// Takes away what a filled manifest has no room for: the long parameters of
+/// common, and in half of the cases some sections.
+fn lighten(rng: &mut Rng, manifest: &mut Manifest) {
+    if let Some(common) = &mut manifest.common {
+        common.truncate(rng.below(8));
+    }
+    if rng.percent(50) {
+        manifest.sections.truncate(rng.below(4));
+    }
+}
+
+/// Adds small commands up to this weight, where those of common weigh too much
+/// in sections alone.
 fn fill(rng: &mut Rng, manifest: &mut Manifest, wanted: usize) {
     let components = manifest.components.len();
-    while manifest.commands() < wanted {
-        let sequence = any_sequence(rng, manifest).0;
-        if sequence.len() < 63 {
-            sequence.push(small_command(rng, components));
-        } else if sequence.len() < 64 {
-            sequence.push(Command::sequence(Sequence::new()));
-        }
+    while manifest.weight() < wanted {
+        let room = manifest.weight() + manifest.common_weight() <= wanted;
+        let sections = manifest.sections.len();
+        let chosen = rng.below(if room { sections + 1 } else { sections });
+        let sequence = match manifest.sections.get_mut(chosen) {
+            Some((_, sequence)) => sequence,
+            None => manifest.common.get_or_insert_default(),
+        };
+        grow(rng, sequence, components);
+    }
+}
+
+/// Adds a small command to the sequence or to one inside it, where there is room.
+fn grow(rng: &mut Rng, sequence: &mut Sequence, components: usize) {
+    let (sequence, depth) = descend(rng, sequence, 1);
+    if sequence.len() < 63 {
+        sequence.push(small_command(rng, components, depth));
+    } else if sequence.len() < 64 && depth < limits::DEPTH {
+        sequence.push(Command::sequence(Sequence::new()));
     }
 }
 
@@ -296,10 +371,10 @@ fn unknown_section(rng: &mut Rng, manifest: &mut Manifest) {
 }
 
 /// A command of a few bytes that fails in no run.
-fn small_command(rng: &mut Rng, components: usize) -> Command {
+fn small_command(rng: &mut Rng, components: usize, depth: usize) -> Command {
     match rng.below(4) {
         0 => Command::set(vec![Parameter::coerce(rng.percent(50))]),
-        1 => Command::sequence(Sequence::new()),
+        1 if depth < limits::DEPTH => nest(rng, Sequence::new()),
         _ => Command::index(rng.below(components.max(1))),
     }
 }

@@ -19,18 +19,23 @@ pub fn envelope(rng: &mut Rng, good: usize) -> Envelope {
         return pack(&manifest, encode::encode(&manifest));
     }
     let bytes = match rng.below(20) {
-        0..=4 => {
+        0..=3 => {
             edge::to_limit(rng, &mut manifest);
             encode::encode(&manifest)
         }
-        5..=9 => {
+        4..=5 => {
+            edge::to_weight(rng, &mut manifest);
+            encode::encode(&manifest)
+        }
+        6..=9 => {
             edge::to_fault(rng, &mut manifest);
             encode::encode(&manifest)
         }
         10..=13 => with_quirk(rng, &manifest),
         14..=15 => {
             edge::to_fault(rng, &mut manifest);
-            edge::to_limit(rng, &mut manifest);
+            let to_edge = rng.pick(&[edge::to_limit, edge::to_weight]);
+            to_edge(rng, &mut manifest);
             with_quirk(rng, &manifest)
         }
         16..=18 => {

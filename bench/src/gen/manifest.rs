@@ -1,12 +1,19 @@
 use super::model::{self, Command, Identifier, Manifest, Parameter, Sequence};
-use super::{encode, pool, Rng};
+use super::{edge, encode, pool, Rng};
 use crate::reading::limits;
+
+/// In so many of 100 cases a manifest has as many commands as it may.
+const FULL: usize = 4;
 
 /// A manifest that check accepts.
 pub fn manifest(rng: &mut Rng) -> Manifest {
     loop {
-        let manifest = draft(rng);
-        if encode::encode(&manifest).len() <= limits::ENVELOPE_BYTES {
+        let mut manifest = draft(rng);
+        if rng.percent(FULL) {
+            edge::fill_up(rng, &mut manifest);
+        }
+        let light = manifest.weight() <= limits::COMMANDS;
+        if light && encode::encode(&manifest).len() <= limits::ENVELOPE_BYTES {
             return manifest;
         }
     }

@@ -72,13 +72,21 @@ pub const LOAD_SECTION: u32 = 11;
 pub const RUN_SECTION: u32 = 12;
 
 impl Manifest {
-    pub fn sequences(&self) -> impl Iterator<Item = &Sequence> {
-        let sections = self.sections.iter().map(|(_, sequence)| sequence);
-        self.common.iter().chain(sections)
+    /// What each command of common weighs, nested ones too: as many as there
+    /// are sections, at least 1.
+    pub fn common_weight(&self) -> usize {
+        self.sections.len().max(1)
     }
 
-    pub fn commands(&self) -> usize {
-        self.sequences().map(count).sum()
+    /// What all commands of common weigh.
+    pub fn weight_in_common(&self) -> usize {
+        self.common_weight() * self.common.as_ref().map_or(0, count)
+    }
+
+    /// What all commands weigh; those of sections weigh 1 each.
+    pub fn weight(&self) -> usize {
+        let sections = self.sections.iter().map(|(_, sequence)| count(sequence));
+        self.weight_in_common() + sections.sum::<usize>()
     }
 }
 

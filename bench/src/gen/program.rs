@@ -8,7 +8,7 @@ use super::envelope::envelope;
 use super::{model, pool, Rng};
 use crate::reading::{translate, Group};
 
-pub use limit::{of_bytes, of_records};
+pub use limit::{longest, of_bytes, of_records, LONGEST};
 pub use record::{Program, Record, UNCAUGHT};
 pub use written::entry;
 

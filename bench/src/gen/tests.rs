@@ -1,7 +1,10 @@
-use super::{Case, Generator, Job};
+use super::encode::encode;
+use super::manifest::manifest;
+use super::program::LONGEST;
+use super::{edge, Case, Generator, Job, Rng};
 use crate::answer::answer;
 use crate::jobs::Reading;
-use crate::reading::limits;
+use crate::reading::{check, limits};
 use crate::tally::{Reached, Tally};
 
 const CHECKED: [usize; 11] = [64, 65, 66, 67, 68, 69, 70, 71, 72, 73, 74];
@@ -67,5 +70,35 @@ fn the_limits_are_met() {
         }
     }
     assert_eq!(longest_envelope, limits::ENVELOPE_BYTES);
-    assert_eq!(longest_program, limits::PROGRAM_BYTES);
+    assert_eq!(longest_program, LONGEST);
+}
+
+/// The limit of bytes never decides: what is longer has too many records.
+#[test]
+fn the_longest_program_is_below_the_limit() {
+    assert_eq!((LONGEST, limits::PROGRAM_BYTES), (46_635, 49_152));
+}
+
+/// For each count of sections: accepted at the limit, and refused with 74 by
+/// common alone and by a section.
+#[test]
+fn weights_are_met() {
+    let mut rng = Rng::new(4);
+    let mut met = [[0; 3]; 6];
+    for _ in 0..4_000 {
+        let mut manifest = manifest(&mut rng);
+        edge::to_weight(&mut rng, &mut manifest);
+        let sections = &mut met[manifest.sections.len()];
+        match check(&encode(&manifest)).map_err(|refusal| refusal.number) {
+            Ok(_) => sections[0] += usize::from(manifest.weight() == limits::COMMANDS),
+            Err(74) if manifest.weight_in_common() > limits::COMMANDS => sections[1] += 1,
+            Err(74) => sections[2] += 1,
+            _ => {}
+        }
+    }
+    for (sections, counts) in met.iter().enumerate() {
+        let [accepted, by_common, by_section] = counts.map(|count| count > 20);
+        assert!(accepted && by_common, "{met:?}");
+        assert_eq!(by_section, sections > 0, "{met:?}");
+    }
 }

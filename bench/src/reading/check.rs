@@ -24,9 +24,14 @@ impl<'a> Manifest<'a> {
         self.sequences[section as usize]
     }
 
-    /// The sequences that a run of the group does.
+    /// The sequences that a run of the group does: common before each section
+    /// that is present, or once where there is none.
     pub(super) fn sequences(&self, group: Group) -> impl Iterator<Item = Sequence<'a>> + '_ {
-        let spans = group.sections().iter().filter_map(|&s| self.sequence(s));
+        let common = self.sequence(Section::Common);
+        let sections = || group.sections().iter().filter_map(|&s| self.sequence(s));
+        let alone = common.filter(|_| sections().next().is_none());
+        let repeated = sections().flat_map(move |section| common.into_iter().chain([section]));
+        let spans = alone.into_iter().chain(repeated);
         spans.map(|span| Sequence::new(Reader::within(self.envelope, span)))
     }
 }
@@ -54,16 +59,16 @@ fn authentication(reader: &mut Reader) -> Result<(), Refusal> {
 
 fn manifest<'a>(envelope: &'a [u8], mut reader: Reader<'a>) -> Result<Manifest<'a>, Refusal> {
     let span = reader.rest();
-    let entries = reader.map(3..=8)?;
+    let promised = reader.map(3..=8)? - 3;
     reader.key(1)?;
     let version = reader.number()?;
     Fault::WrongVersion.unless(version.number == VERSION, version.place)?;
     reader.key(2)?;
     let number = reader.number()?.number;
     reader.key(3)?;
-    let mut checker = Checker::new(envelope);
+    let mut checker = Checker::new(envelope, promised);
     checker.common(reader.enclosed()?)?;
-    checker.sections(&mut reader, entries - 3)?;
+    checker.sections(&mut reader, promised)?;
     reader.finish()?;
     Ok(Manifest {
         number,
@@ -77,15 +82,26 @@ fn manifest<'a>(envelope: &'a [u8], mut reader: Reader<'a>) -> Result<Manifest<'
 struct Checker<'a> {
     components: Components<'a>,
     sequences: [Option<Span>; Section::ALL.len()],
-    commands: usize,
+    common_weight: usize,
+    weight: usize,
 }
 
 impl<'a> Checker<'a> {
-    fn new(envelope: &'a [u8]) -> Self {
+    /// For a manifest whose head promises so many sections.
+    fn new(envelope: &'a [u8], promised: u32) -> Self {
         Checker {
             components: Components::new(envelope),
             sequences: Default::default(),
-            commands: 0,
+            common_weight: promised.max(1) as usize,
+            weight: 0,
+        }
+    }
+
+    /// What each command of the section weighs, nested ones too.
+    fn weight_in(&self, section: Section) -> usize {
+        match section {
+            Section::Common => self.common_weight,
+            _ => 1,
         }
     }
 
@@ -182,8 +198,8 @@ impl<'a> Checker<'a> {
         let code = reader.number()?;
         let entry = table::lookup(code.number).ok_or(Fault::UnlistedCommand.at(code.place))?;
         Fault::CommandNotAllowed.unless(entry.allowed_in(section), code.place)?;
-        self.commands += 1;
-        Fault::TooManyCommands.unless(self.commands <= limits::COMMANDS, code.place)?;
+        self.weight += self.weight_in(section);
+        Fault::TooManyCommands.unless(self.weight <= limits::COMMANDS, code.place)?;
         Ok(entry)
     }
 

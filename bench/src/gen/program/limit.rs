@@ -3,9 +3,18 @@ use super::written::{command, empty, entry, forward};
 use super::{model, pool, Rng};
 use crate::reading::limits;
 
+const START: usize = 11;
+const COMPONENT: usize = 4 + limits::IDENTIFIER_BYTES;
 const RECORD_HEAD: usize = 10;
 const LARGEST_RECORD: usize = RECORD_HEAD + 141;
 const TWO_RECORDS: usize = LARGEST_RECORD + RECORD_HEAD + 43;
+const JUMPS: usize = limits::RECORDS - limits::COMMANDS;
+
+/// The length of the longest well-formed program.
+pub const LONGEST: usize = START
+    + limits::COMPONENTS * COMPONENT
+    + limits::COMMANDS * LARGEST_RECORD
+    + JUMPS * RECORD_HEAD;
 
 /// 1,024 records or one more, 256 commands among them or one more.
 pub fn many_records(rng: &mut Rng) -> Program {
@@ -37,11 +46,41 @@ pub fn of_records(rng: &mut Rng, mut program: Program, count: usize, commands: u
     program
 }
 
-/// 32,768 bytes or one more.
+/// The longest program, others of many bytes, or ones at the limit of bytes,
+/// which have too many commands.
 pub fn many_bytes(rng: &mut Rng) -> Program {
-    let wanted = limits::PROGRAM_BYTES + rng.below(2);
     let program = empty(rng);
+    let wanted = match rng.below(4) {
+        0 => return longest(rng, program),
+        1 => rng.within(32_000..=38_000),
+        _ => limits::PROGRAM_BYTES + rng.below(2),
+    };
     of_bytes(rng, program, wanted)
+}
+
+/// The longest program of this group and number: as many of the largest
+/// records as there may be, and jumps among them.
+pub fn longest(rng: &mut Rng, program: Program) -> Program {
+    let identifiers = (0..limits::COMPONENTS as u8).map(|k| vec![k; limits::IDENTIFIER_BYTES]);
+    let mut kinds = [vec![true; limits::COMMANDS], vec![false; JUMPS]].concat();
+    rng.shuffle(&mut kinds);
+    let record = |(number, command): (usize, bool)| {
+        if command {
+            largest_record(rng)
+        } else {
+            Record::jump(number + 1)
+        }
+    };
+    Program {
+        identifiers: identifiers.collect(),
+        records: kinds.into_iter().enumerate().map(record).collect(),
+        ..program
+    }
+}
+
+fn largest_record(rng: &mut Rng) -> Record {
+    let argument = sized_argument(rng, LARGEST_RECORD - RECORD_HEAD);
+    command(rng, model::SET_PARAMETERS as u8, 0, argument)
 }
 
 /// The program with records up to this many bytes.
