@@ -1,7 +1,8 @@
-//! Cases at each limit of document 01 and for each of its rules, with what the
-//! answer must be one of.
+//! Cases at each limit of documents 01 and 02 and for each of their rules, with
+//! what the answer must be one of.
 
 mod admission;
+mod common;
 mod conditions;
 mod faults;
 mod heads;
@@ -19,6 +20,7 @@ mod table;
 #[cfg(test)]
 mod tests;
 mod values;
+mod weight;
 
 pub use reader::{own_heads, OwnHead};
 
@@ -47,6 +49,7 @@ impl Own {
 pub fn own() -> Vec<Own> {
     [
         limits::cases(),
+        weight::cases(),
         values::cases(),
         faults::cases(),
         table::cases(),
@@ -55,6 +58,7 @@ pub fn own() -> Vec<Own> {
         room::cases(),
         admission::cases(),
         conditions::cases(),
+        common::cases(),
         images::cases(),
         nesting::cases(),
         programs::cases(),

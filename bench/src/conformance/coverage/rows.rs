@@ -1,6 +1,6 @@
 //! The limits and rules that own cases must be there for.
 
-pub const LIMITS: [&str; 89] = [
+pub const LIMITS: [&str; 99] = [
     "envelope of 4,096 bytes",
     "envelope of 4,097 bytes",
     "no component",
@@ -18,9 +18,16 @@ pub const LIMITS: [&str; 89] = [
     "depth 5, an odd sequence",
     "64 commands in a sequence",
     "65 commands in a sequence",
-    "256 commands",
-    "257 commands",
-    "257 commands, the last wrong",
+    "no section: weight 256",
+    "no section: past 256",
+    "1 section: weight 256",
+    "1 section: past 256",
+    "2 sections: weight 256",
+    "2 sections: past 256",
+    "5 sections: weight 256",
+    "5 sections: past 256",
+    "past 256, the last wrong",
+    "weight by the map's head",
     "no alternative",
     "1 alternative",
     "4 alternatives",
@@ -71,8 +78,11 @@ pub const LIMITS: [&str; 89] = [
     "1,025 records",
     "256 commands in a program",
     "257 commands in a program",
-    "program of 32,768 bytes",
-    "program of 32,769 bytes",
+    "program of 32,768 or 32,769 bytes",
+    "longest program, 46,635 bytes",
+    "longest program and a jump",
+    "program of 49,152 bytes",
+    "program of 49,153 bytes",
     "no component in a program",
     "8 components in a program",
     "9 components in a program",
@@ -92,7 +102,7 @@ pub const LIMITS: [&str; 89] = [
     "head: number of 8 bytes",
 ];
 
-pub const RULES: [&str; 75] = [
+pub const RULES: [&str; 85] = [
     "E cut short",
     "head not shortest",
     "not CBOR",
@@ -129,6 +139,16 @@ pub const RULES: [&str; 75] = [
     "parameters by component",
     "sections of a group",
     "later sections",
+    "common before each section",
+    "common once where the group has no section",
+    "common before an empty section",
+    "common's repeat starts at index 0",
+    "common's repeat starts without coerce",
+    "common's repeat keeps parameters",
+    "common's repeat meets the section's slots",
+    "failure in common",
+    "targets in common's repeat",
+    "long common three times",
     "nested index comes back",
     "fetch",
     "failed fetch",

@@ -29,7 +29,7 @@ fn uri() -> Command {
     Command::set(vec![Parameter::uri(b"coap://x".to_vec())])
 }
 
-fn fetch() -> Sequence {
+pub fn fetch() -> Sequence {
     vec![uri(), nil(FETCH)]
 }
 

@@ -2,7 +2,6 @@
 
 use super::scene::{
     accepted, check, image, manifest, matches, nil, passes, refused, sample, COMMON, SAMPLE_ENDS,
-    SECTIONS,
 };
 use super::Own;
 use crate::gen::encode::{encode, pad};
@@ -20,8 +19,6 @@ pub fn cases() -> Vec<Own> {
         identifier_parts(),
         depth(),
         sequence_commands(),
-        commands(),
-        last_command(),
         timed(),
     ]
     .concat()
@@ -153,53 +150,12 @@ fn sequence_commands() -> Vec<Own> {
     cases
 }
 
-/// 64 commands in each of common and three sections, of which the last has
-/// fewer, and then a section of its own.
-fn filled(before: usize, last: Sequence) -> Manifest {
-    let full = |&key: &u32| (key, index_commands(64));
-    let mut sections: Vec<_> = SECTIONS[..3].iter().map(full).collect();
-    sections.push((model::VALIDATE_SECTION, index_commands(before - 3 * 64)));
-    sections.push((model::RUN_SECTION, last));
-    manifest(1, sections)
-}
-
-fn commands() -> Vec<Own> {
-    let nested = || vec![Command::sequence(vec![passes()])];
-    let inside = check(encode(&filled(254, nested())));
-    let mut cases = vec![Own::new("256 commands", Reached::Accepted, inside)];
-    cases.extend(accepted(
-        "256 commands",
-        &filled(255, vec![passes()]),
-        [0, 0],
-    ));
-    cases.extend(refused(
-        "257 commands",
-        74,
-        encode(&filled(256, vec![passes()])),
-    ));
-    cases.extend(refused("257 commands", 74, encode(&filled(255, nested()))));
-    cases
-}
-
-/// On the code of the 257th command the lowest number counts, before its argument.
-fn last_command() -> Vec<Own> {
-    let rows = [(13, 69), (model::FETCH, 71), (model::VENDOR, 74)];
-    let last = |(code, number)| {
-        let case = check(encode(&filled(256, vec![nil(code)])));
-        Own::new(
-            "257 commands, the last wrong",
-            Reached::Refused(number),
-            case,
-        )
-    };
-    rows.into_iter().map(last).collect()
-}
-
-/// The envelopes that are timed: 4,096 bytes of commands, and 256 of them.
+/// The envelopes that are timed: 4,096 bytes of commands, 256 of them, and a
+/// boot of 256.
 fn timed() -> Vec<Own> {
     let rows = [
         "envelope of 4,096 bytes",
-        "256 commands",
+        "1 section: weight 256",
         "trace full of events",
     ];
     let mut cases = Vec::new();

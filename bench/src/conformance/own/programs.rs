@@ -3,7 +3,7 @@
 use super::scene::run_program;
 use super::setting::{Setting, NUMBER};
 use super::Own;
-use crate::gen::program::{entry, of_bytes, of_records, Program, Record, UNCAUGHT};
+use crate::gen::program::{entry, longest, of_bytes, of_records, Program, Record, UNCAUGHT};
 use crate::gen::{model, pool, Rng};
 use crate::reading::{limits, Group};
 use crate::tally::Reached;
@@ -85,15 +85,26 @@ fn most_records() -> Vec<Own> {
     cases
 }
 
+/// No well-formed program is at the limit of bytes: those there have too many
+/// commands.
 fn most_bytes() -> Vec<Own> {
     let mut rng = Rng::new(2);
-    let mut filled = |group, bytes| of_bytes(&mut rng, empty(group), bytes);
+    let mut cases = Vec::new();
+    for group in Group::BOTH {
+        let longest = longest(&mut rng, empty(group));
+        let mut more = longest.clone();
+        more.records.push(Record::jump(limits::RECORDS + 1));
+        cases.push(good("longest program, 46,635 bytes", 0, &longest));
+        cases.push(bad("longest program and a jump", &more));
+    }
+    let mut filled = |bytes| of_bytes(&mut rng, empty(Group::Boot), bytes);
+    let (old, over) = (filled(32_768), filled(32_769));
+    cases.push(good("program of 32,768 or 32,769 bytes", 0, &old));
+    cases.push(good("program of 32,768 or 32,769 bytes", 0, &over));
     let most = limits::PROGRAM_BYTES;
-    let (at, over) = (filled(Group::Boot, most), filled(Group::Boot, most + 1));
-    vec![
-        good("program of 32,768 bytes", 0, &at),
-        bad("program of 32,769 bytes", &over),
-    ]
+    cases.push(bad("program of 49,152 bytes", &filled(most)));
+    cases.push(bad("program of 49,153 bytes", &filled(most + 1)));
+    cases
 }
 
 /// Identifiers are not read as CBOR.

@@ -1,7 +1,11 @@
+use super::common::{choices, with_sections};
+use super::scene::{run, setting};
 use super::{own, Own};
 use crate::answer::{answer, Answer};
+use crate::gen::encode::encode;
 use crate::gen::Case;
 use crate::jobs::Reading;
+use crate::reading::Group;
 
 /// The cases for a limit or rule.
 fn of(shows: &str) -> Vec<Own> {
@@ -58,14 +62,53 @@ fn depth_is_told_at_the_array_head() {
     }
 }
 
-/// The last command is the envelope's end.
+/// The command that is too many is the only condition.
 #[test]
 fn a_command_too_many_is_told_at_its_code() {
-    for (envelope, place) in refusals("257 commands") {
-        assert_eq!(place, envelope.len() - 18);
+    let condition = [&[0x01, 0x50], &[1; 16][..]].concat();
+    for (shows, count) in [
+        ("no section: past 256", 2),
+        ("1 section: past 256", 6),
+        ("2 sections: past 256", 5),
+        ("5 sections: past 256", 5),
+    ] {
+        let refusals = refusals(shows);
+        assert_eq!(refusals.len(), count, "{shows}");
+        for (envelope, place) in refusals {
+            assert!(envelope[place..].starts_with(&condition), "{shows}");
+        }
     }
-    for (envelope, place) in refusals("257 commands, the last wrong") {
-        assert_eq!(place, envelope.len() - 2);
+}
+
+/// It has nil for an argument, and in a section it is the envelope's end.
+#[test]
+fn a_wrong_command_too_many_is_told_at_its_code() {
+    for (envelope, place) in refusals("past 256, the last wrong") {
+        assert_eq!(envelope[place + 1], 0xf6);
+        let nils = envelope.iter().filter(|&&byte| byte == 0xf6);
+        assert_eq!(nils.count(), 2);
+    }
+}
+
+/// Common has one command and each section two.
+#[test]
+fn common_runs_before_each_section() {
+    for keys in choices() {
+        let manifest = with_sections(&keys);
+        for group in Group::BOTH {
+            let case = run(encode(&manifest), group, &setting(&manifest, group));
+            let Answer::Run { answer, trace, .. } = answer(&Reading, &case) else {
+                panic!("a run");
+            };
+            let of_group = |key: &&u32| (**key < 10) == (group == Group::Install);
+            let present = keys.iter().filter(of_group).count();
+            let codes: Vec<u8> = trace.chunks(8).map(|event| event[2]).collect();
+            let wanted = match present {
+                0 => vec![1],
+                _ => [1, 12, 1].repeat(present),
+            };
+            assert_eq!(codes[..answer.events], wanted, "{keys:?} {group:?}");
+        }
     }
 }
 
@@ -81,8 +124,10 @@ fn a_trace_is_full() {
 #[test]
 fn programs_are_as_long_as_they_say() {
     for (shows, bytes) in [
-        ("program of 32,768 bytes", 32_768),
-        ("program of 32,769 bytes", 32_769),
+        ("longest program, 46,635 bytes", 46_635),
+        ("longest program and a jump", 46_645),
+        ("program of 49,152 bytes", 49_152),
+        ("program of 49,153 bytes", 49_153),
     ] {
         assert!(programs(shows).iter().all(|program| program.len() == bytes));
     }
