@@ -11,12 +11,14 @@ A case and its answer stand on lines of the same number, '#' begins a comment li
                                                           or of any but newer: refused NUMBER PLACE
 
 DEVICE is VENDOR:CLASS:SEQUENCE:EVENT-OPEN, SLOTS are IDENTIFIER:CAPACITY:PRESENT:SIZE:DIGEST with commas between, HOST the
-host's answers, TRACE is LENGTH:BYTE. With --examples an envelope may be @N, the example of that number in that file.
+host's answers, TRACE is LENGTH:BYTE. With --examples an envelope may be @N, the example of that number in that file. With
+--document-02 the form is that of document 02's vectors: BYTE is in hex, and newer is answered with part WHICH START END. A file
+whose name ends in gz is unpacked.
 
 The crate is copied to the work folder, which lies outside the repository. The chosen cases become tables there, each proved by
 one refl, as in proofs/BenchSheet.antt. A table that is not proved is tried again row by row. Status 0: every case agrees.
 """
-import argparse, collections, pathlib, re, shutil, subprocess, sys, time
+import argparse, collections, gzip, pathlib, re, shutil, subprocess, sys, time
 
 REPOSITORY = pathlib.Path(__file__).resolve().parent.parent
 SPECS, PROOFS = 'Rattle.rules.specs', 'Rattle.rules.proofs'
@@ -196,7 +198,18 @@ class Copy:
 
 
 def read(path):
-    return [line for line in pathlib.Path(path).read_text().splitlines() if line and not line.startswith('#')]
+    with gzip.open(path, 'rt') if path.endswith('.gz') else open(path) as text:
+        return [line for line in text.read().splitlines() if line and not line.startswith('#')]
+
+
+# The form of document 02's vectors, in that of document 01's.
+def first_case(case):
+    start, _, byte = case.rpartition(':')
+    return f'{start}:{int(byte, 16)}' if case.startswith(('run ', 'program ')) else case
+
+
+def first_answer(answer):
+    return '({}, {}, {})'.format(*answer.split(' ')[1:]) if answer.startswith('part ') else answer
 
 
 def main():
@@ -205,6 +218,7 @@ def main():
     options.add_argument('answers')
     options.add_argument('work', help='a folder for the throw-away copy')
     options.add_argument('--examples', help='a file of examples: number, name and bytes on each line')
+    options.add_argument('--document-02', action='store_true', help="the form of document 02's vectors")
     options.add_argument('--rows', type=int, default=40, help='the most rows of a table (40)')
     which = options.add_mutually_exclusive_group()
     which.add_argument('--count', type=int, help='so many cases, in turn from each kind and number (else all)')
@@ -214,6 +228,8 @@ def main():
     examples = {'@' + number: data for number, _, data in map(str.split, read(args.examples))} if args.examples else {}
     cases = [' '.join(examples.get(field, field) for field in case.split(' ')) for case in read(args.cases)]
     answers = read(args.answers)
+    if args.document_02:
+        cases, answers = list(map(first_case, cases)), list(map(first_answer, answers))
     if len(cases) != len(answers):
         raise SystemExit(f'{len(cases)} cases and {len(answers)} answers')
     outcomes = list(map(outcome, cases, answers))

@@ -4,6 +4,7 @@ mod coverage;
 mod examples;
 pub mod form;
 mod head;
+mod moved;
 pub mod own;
 mod sheet;
 #[cfg(test)]
@@ -15,15 +16,20 @@ use crate::answer::{answer, Answer};
 use crate::gen::Case;
 use crate::jobs::Reading;
 use crate::tally::Reached;
-use crate::vectors::{pairs, parse, show};
+use crate::vectors::{parse, show, Form, Written};
 use form::Asked;
+use moved::Reason;
 use own::{Own, OwnHead};
 
 /// Where a case comes from.
 #[derive(Clone, Copy, Debug)]
 pub enum Origin {
-    Vectors,
-    LeftOut,
+    /// Vectors of document 02, with their answers.
+    Stage,
+    /// Vectors of document 01 whose answers still hold.
+    Older,
+    /// Vectors of document 01 that a request moved.
+    Moved,
     Examples,
     Sheet,
     Own,
@@ -35,7 +41,7 @@ pub struct Collection {
     pub stdin: Vec<u8>,
     pub stdout: String,
     pub coverage: Coverage,
-    counts: [usize; 5],
+    counts: [usize; 6],
 }
 
 impl Collection {
@@ -46,13 +52,19 @@ impl Collection {
         Ok(collection)
     }
 
-    /// The vectors, then the cases of this repository.
-    pub fn with_vectors(cases: &str, answers: &str) -> Result<Self, String> {
+    /// The vectors of the stage, the older ones, then the cases of this
+    /// repository.
+    pub fn with_vectors(stage: &Written, older: &Written) -> Result<Self, String> {
         let mut collection = Collection::default();
-        for (text, line) in pairs(cases, answers)? {
-            let case = parse(text).ok_or(format!("not a case: {text}"))?;
-            if !collection.add_written(Origin::Vectors, &case, line)? {
-                collection.counts[Origin::LeftOut as usize] += 1;
+        for (text, line) in stage.pairs()? {
+            let case = parsed(text, Form::Document02)?;
+            collection.add_written(Origin::Stage, &case, &Form::Document02.shown(line))?;
+        }
+        for (number, (text, line)) in (1..).zip(older.pairs()?) {
+            let case = parsed(text, Form::Document01)?;
+            match moved::moved(number) {
+                None => collection.add_written(Origin::Older, &case, line)?,
+                Some(reason) => collection.add_moved(&case, line, reason)?,
             }
         }
         collection.add_repository()?;
@@ -84,7 +96,7 @@ impl Collection {
             self.add_written(Origin::Examples, &case, line)?;
         }
         for (text, line) in sheet::sheet() {
-            let case = parse(&text).ok_or(format!("not a case: {text}"))?;
+            let case = parsed(&text, Form::Document01)?;
             self.add_written(Origin::Sheet, &case, &line)?;
         }
         own::own().iter().try_for_each(|own| self.add_own(own))?;
@@ -92,14 +104,24 @@ impl Collection {
         heads.iter().try_for_each(|own| self.add_head(own))
     }
 
-    /// Adds a case whose answer is written, if the form takes it.
-    fn add_written(&mut self, origin: Origin, case: &Case, line: &str) -> Result<bool, String> {
+    /// Adds a case whose answer is written.
+    fn add_written(&mut self, origin: Origin, case: &Case, line: &str) -> Result<(), String> {
         let answer = answer(&Reading, case);
         let found = show(case, &answer)?;
         if found != line {
             return Err(format!("{case:?}\nwritten: {line}\nreading: {found}"));
         }
-        Ok(self.put(origin, case, &answer, line))
+        self.put(origin, case, &answer, line)
+    }
+
+    /// Adds a case whose written answer must no longer hold, with the one that does.
+    fn add_moved(&mut self, case: &Case, line: &str, reason: Reason) -> Result<(), String> {
+        let answer = answer(&Reading, case);
+        let found = show(case, &answer)?;
+        if found == line || !reason.explains(&found) {
+            return Err(format!("{case:?}\nnot moved by {reason:?}: {found}"));
+        }
+        self.put(Origin::Moved, case, &answer, &found)
     }
 
     fn add_own(&mut self, own: &Own) -> Result<(), String> {
@@ -113,9 +135,7 @@ impl Collection {
             ));
         }
         let line = show(&own.case, &answer)?;
-        if !self.put(Origin::Own, &own.case, &answer, &line) {
-            return Err(format!("{}: not in the form", own.shows));
-        }
+        self.put(Origin::Own, &own.case, &answer, &line)?;
         self.coverage.show(own.shows);
         Ok(())
     }
@@ -137,13 +157,17 @@ impl Collection {
         Ok(())
     }
 
-    fn put(&mut self, origin: Origin, case: &Case, answer: &Answer, line: &str) -> bool {
-        let Some(bytes) = form::encode(case) else {
-            return false;
-        };
+    fn put(
+        &mut self,
+        origin: Origin,
+        case: &Case,
+        answer: &Answer,
+        line: &str,
+    ) -> Result<(), String> {
+        let bytes = form::encode(case).ok_or(format!("{case:?}\nnot in the form"))?;
         self.write(origin, bytes, line);
         self.coverage.add(case, answer);
-        true
+        Ok(())
     }
 
     fn write(&mut self, origin: Origin, bytes: Vec<u8>, line: &str) {
@@ -152,4 +176,8 @@ impl Collection {
         self.stdout.push('\n');
         self.counts[origin as usize] += 1;
     }
+}
+
+fn parsed(text: &str, form: Form) -> Result<Case, String> {
+    parse(text, form).ok_or(format!("not a case: {text}"))
 }

@@ -1,7 +1,7 @@
 //! A plain reading of the manifest rules, and generated inputs that hold the
 //! library against it.
 //!
-//! - `vectors CASES ANSWERS` answers the written cases with the reading.
+//! - `vectors 01|02 CASES ANSWERS` answers the written cases with the reading.
 //! - `cases VECTORS OUT` writes the cases and answers of the program `conformance`.
 //! - `compare N SEED` has the library and the reading answer generated inputs.
 //! - `time` times both.

@@ -1,7 +1,7 @@
 //! The examples of source document 004 with their written answers.
 
 use crate::gen::Case;
-use crate::vectors;
+use crate::vectors::{self, Form};
 
 const EXAMPLES: &str = include_str!("../../../tools/examples-004.txt");
 const CASES: &str = include_str!("../../../tools/examples-004-cases.txt");
@@ -13,7 +13,8 @@ pub fn examples() -> Result<Vec<(Case, &'static str)>, String> {
     }
     let pairs = vectors::pairs(CASES, ANSWERS)?;
     let parse = |(case, answer): (&str, _)| {
-        let case = vectors::parse(&filled_in(case)).ok_or(format!("not a case: {case}"))?;
+        let parsed = vectors::parse(&filled_in(case), Form::Document01);
+        let case = parsed.ok_or(format!("not a case: {case}"))?;
         Ok((case, answer))
     };
     pairs.into_iter().map(parse).collect()

@@ -5,6 +5,7 @@ use super::{Collection, Coverage, Origin};
 use crate::gen::{Case, World};
 use crate::hex;
 use crate::reading::{Device, Group};
+use crate::vectors::{parse, Form, Written};
 
 fn encoded(case: &Case) -> Option<String> {
     encode(case).map(|bytes| hex::encode(&bytes))
@@ -139,10 +140,54 @@ fn the_repository_covers_everything_alone() {
     assert!(!Coverage::default().missing().is_empty());
 }
 
+fn written(cases: &str, answers: &str) -> Written {
+    Written {
+        cases: cases.into(),
+        answers: answers.into(),
+    }
+}
+
 #[test]
 fn a_wrong_answer_is_an_error() {
-    assert!(Collection::with_vectors("check -", "refused 65 0").is_ok());
-    assert!(Collection::with_vectors("check -", "refused 65 1").is_err());
-    assert!(Collection::with_vectors("check -", "").is_err());
-    assert!(Collection::with_vectors("chekc -", "refused 65 0").is_err());
+    let none = Written::default();
+    for (cases, answers, good) in [
+        ("check -", "refused 65 0", true),
+        ("check -", "refused 65 1", false),
+        ("check -", "", false),
+        ("chekc -", "refused 65 0", false),
+    ] {
+        let vectors = written(cases, answers);
+        assert_eq!(Collection::with_vectors(&vectors, &none).is_ok(), good);
+        assert_eq!(Collection::with_vectors(&none, &vectors).is_ok(), good);
+    }
+}
+
+#[test]
+fn each_document_has_its_form() {
+    let none = Written::default();
+    let first = written("newer - -", "(0, 0, 0)");
+    let second = written("newer - -", "part 0 0 0");
+    assert!(Collection::with_vectors(&second, &first).is_ok());
+    assert!(Collection::with_vectors(&none, &second).is_err());
+    let zeros = "00".repeat(16);
+    let case = format!("program - 1 {zeros}:{zeros}:0:0 - - 3:10");
+    let trace = |form| match parse(&case, form) {
+        Some(Case::RunProgram { world, .. }) => Some(world.trace),
+        _ => None,
+    };
+    assert_eq!(trace(Form::Document01), Some(vec![10; 3]));
+    assert_eq!(trace(Form::Document02), Some(vec![16; 3]));
+}
+
+/// The first vector that a request moved must have another answer.
+#[test]
+fn a_moved_answer_must_have_moved() {
+    let none = Written::default();
+    let to_the_first = |answer: &str| {
+        let cases = "check -\n".repeat(7);
+        let answers = "refused 65 0\n".repeat(6) + answer;
+        Collection::with_vectors(&none, &written(&cases, &answers))
+    };
+    assert!(to_the_first("refused 65 0").is_err());
+    assert!(to_the_first("refused 65 1").is_err());
 }

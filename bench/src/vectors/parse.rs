@@ -1,9 +1,10 @@
+use super::Form;
 use crate::gen::{Case, Slot, World};
 use crate::hex;
 use crate::reading::{Device, Group};
 
 /// A case that is written as text.
-pub fn parse(text: &str) -> Option<Case> {
+pub fn parse(text: &str, form: Form) -> Option<Case> {
     let fields: Vec<&str> = text.split(' ').collect();
     Some(match fields[..] {
         ["check", envelope] => Case::Check {
@@ -21,17 +22,17 @@ pub fn parse(text: &str) -> Option<Case> {
         ["run", envelope, install, ref lent @ ..] => Case::Run {
             envelope: hex::decode(envelope)?,
             group: group(install)?,
-            world: world(lent)?,
+            world: world(lent, form)?,
         },
         ["program", program, ref lent @ ..] => Case::RunProgram {
             program: hex::decode(program)?,
-            world: world(lent)?,
+            world: world(lent, form)?,
         },
         _ => return None,
     })
 }
 
-fn world(fields: &[&str]) -> Option<World> {
+fn world(fields: &[&str], form: Form) -> Option<World> {
     let [verdict, device, slots, answers, trace] = fields else {
         return None;
     };
@@ -40,7 +41,7 @@ fn world(fields: &[&str]) -> Option<World> {
         device: self::device(device)?,
         slots: self::slots(slots)?,
         answers: hex::decode(answers)?,
-        trace: self::trace(trace)?,
+        trace: self::trace(trace, form)?,
     })
 }
 
@@ -99,7 +100,12 @@ fn slot(text: &str) -> Option<Vec<u8>> {
     Some(slot.encode())
 }
 
-fn trace(text: &str) -> Option<Vec<u8>> {
+fn trace(text: &str, form: Form) -> Option<Vec<u8>> {
     let (length, byte) = text.split_once(':')?;
-    Some(vec![byte.parse().ok()?; length.parse().ok()?])
+    let base = match form {
+        Form::Document01 => 10,
+        Form::Document02 => 16,
+    };
+    let fill = u8::from_str_radix(byte, base).ok()?;
+    Some(vec![fill; length.parse().ok()?])
 }
