@@ -1,19 +1,9 @@
-// The sections of a group: sized, and written one after the other.
-ghost use mathlib.Core.Path.{_≡_};
-ghost use mathlib.Core.Bool.{true};
+// The plan of a group: its sequences sized, and written one after the other.
 ghost use Rattle.rules.specs.Lent.{was};
-ghost use Rattle.rules.specs.Limits.{limits};
-ghost use Rattle.rules.specs.Run.{planOf};
-ghost use Rattle.translate_size.specs.Size.{SequenceHere};
-ghost use Rattle.translate_sequence.specs.Write.{SequenceJob};
-ghost use Rattle.translate_sections.specs.Sections.{SectionsHere, SectionsSized, SectionsJob, startOf};
-ghost use Rattle.translate_sections.specs.Sections.{SectionSizes, SectionWrites, SectionsWrite};
+ghost use Rattle.translate_sections.specs.Plan.{PlanHere, PlanSized, PlanJob, PlanWrites};
 use manifest_accessors::arguments::COERCE_FALSE;
-use manifest_accessors::sections::wanted;
-use rules::answers::Group;
 use rules::controller::Controller;
-use rules::controller::SECTIONS;
-use rules::controller::SectionPlaces;
+use rules::controller::PlanStarts;
 use rules::program_format::NO_TARGET;
 use rules_tables::Table;
 use translate_record::record::WriteState;
@@ -21,25 +11,10 @@ use translate_sequence::write::write_sequence;
 use translate_size::sizes::Size;
 use translate_size::sizes::size_sequence;
 
-// The size of the sequence at `from`; nothing where it is not wanted.
-fn size_section(s: &[u8], table: &Table, wanted: bool, from: usize) -> Size
-    requires { ⌜ (wanted ≡ true → SequenceHere (now s) (now table) (limits .depth) from) ⌝ }
-    ensures { λ r. ⌜ SectionSizes s table wanted from r ⌝ }
-{
-    if !wanted {
-        return Size {
-            next: from,
-            records: 0,
-            arguments: 0,
-        };
-    }
-    size_sequence(s, table, Controller::DEPTH, from)
-}
-
-// The size of the group's sections, from the places that check reported.
-pub fn size_sections(s: &[u8], table: &Table, group: Group, sections: &SectionPlaces) -> Size
-    requires { ⌜ SectionsHere (now s) (now table) (now sections) ⌝ }
-    ensures { λ r. ⌜ ((j : SectionsHere (was s) (was table) (was sections)) → SectionsSized (planOf group (j .manifest)) r) ⌝ }
+// The size of the plan, from where its sequences start.
+pub fn size_plan(s: &[u8], table: &Table, starts: &PlanStarts, total: usize) -> Size
+    requires { ⌜ PlanHere (now s) (now table) (now starts) total ⌝ }
+    ensures { λ r. ⌜ ((j : PlanHere (was s) (was table) (was starts) total) → PlanSized (j .plan) r) ⌝ }
 {
     let mut now = Size {
         next: 0,
@@ -47,10 +22,8 @@ pub fn size_sections(s: &[u8], table: &Table, group: Group, sections: &SectionPl
         arguments: 0,
     };
     let mut k = 0;
-    while k < SECTIONS {
-        let from = sections[2 * k];
-        let to = sections[2 * k + 1];
-        let r = size_section(s, table, wanted(group, k, to), from);
+    while k < total {
+        let r = size_sequence(s, table, Controller::DEPTH, starts[k]);
         now = Size {
             next: 0,
             records: now.records + r.records,
@@ -61,63 +34,41 @@ pub fn size_sections(s: &[u8], table: &Table, group: Group, sections: &SectionPl
     now
 }
 
-// The sequence at `from`, written from the state on; nothing where it is not wanted.
-fn write_section(
+// The records of the plan, written from `to` on. Each sequence starts with index 0, also where common is repeated.
+pub fn write_plan(
     s: &[u8],
     table: &Table,
-    wanted: bool,
-    from: usize,
-    state: WriteState,
-    room: &mut [u8],
-) -> WriteState
-    requires { ⌜ (wanted ≡ true → SequenceJob (now s) (now table) (limits .depth) (startOf from state) (now room)) ⌝ }
-    ensures { λ r. ⌜ SectionWrites s table wanted from state room r ⌝ }
-{
-    if !wanted {
-        return state;
-    }
-    write_sequence(
-        s,
-        table,
-        Controller::DEPTH,
-        false,
-        NO_TARGET,
-        0,
-        WriteState {
-            next: from,
-            index: 0,
-            coerce: COERCE_FALSE,
-            n: state.n,
-            to: state.to,
-        },
-        room,
-    )
-}
-
-// The records of the group's sections, written from `to` on.
-pub fn write_sections(
-    s: &[u8],
-    table: &Table,
-    group: Group,
-    sections: &SectionPlaces,
+    starts: &PlanStarts,
+    total: usize,
     to: usize,
     room: &mut [u8],
 )
-    requires { ⌜ SectionsJob (now s) (now table) group (now sections) to (now room) ⌝ }
-    ensures { λ _. ⌜ SectionsWrite s table group sections to room ⌝ }
+    requires { ⌜ PlanJob (now s) (now table) (now starts) total to (now room) ⌝ }
+    ensures { λ _. ⌜ PlanWrites s table starts total to room ⌝ }
 {
-    let mut now = WriteState {
-        next: 0,
-        index: 0,
-        coerce: COERCE_FALSE,
-        n: 0,
-        to,
-    };
+    let mut n = 0;
+    let mut at = to;
     let mut k = 0;
-    while k < SECTIONS {
-        let from = sections[2 * k];
-        let end = sections[2 * k + 1];
-        now = write_section(s, table, wanted(group, k, end), from, now, room);
+    while k < total {
+        let start = WriteState {
+            next: starts[k],
+            index: 0,
+            coerce: COERCE_FALSE,
+            n,
+            to: at,
+        };
+        let r = write_sequence(
+            s,
+            table,
+            Controller::DEPTH,
+            false,
+            NO_TARGET,
+            0,
+            start,
+            room,
+        );
+        n = r.n;
+        at = r.to;
         k += 1;
     }
 }
