@@ -6,15 +6,17 @@ ghost use Rattle.manifest_accessors.specs.Accepted.{Accepted};
 ghost use Rattle.translate.specs.Translate.{Translates};
 use check_envelope::check;
 use check_envelope::report::Checked;
+use manifest_plan::plan;
 use rules::answers::Group;
 use rules::answers::Refusal;
+use rules::controller::PLAN_SEQUENCES;
 use rules::controller::Places;
 use rules::controller::SectionPlaces;
 use rules::program_format::RECORD_BYTES;
 use rules::program_format::START_BYTES;
 use rules_tables::tables;
-use translate_sections::size_sections;
-use translate_sections::write_sections;
+use translate_sections::size_plan;
+use translate_sections::write_plan;
 use translate_start::names::size_names;
 use translate_start::names::write_names;
 use translate_start::start::put_start;
@@ -39,7 +41,9 @@ fn translate_checked(
     ensures { λ r. ⌜ Translates (Rule.translate (was s) group (length (was room))) r (was room) (left room) ⌝ }
 {
     let table = tables();
-    let size = size_sections(s, &table, group, sections);
+    let mut starts = [0usize; PLAN_SEQUENCES];
+    let total = plan(group, sections, &mut starts);
+    let size = size_plan(s, &table, &starts, total);
     let names = size_names(ids, n);
     let length = START_BYTES + names + RECORD_BYTES * size.records + size.arguments;
     if room.len() < length {
@@ -47,7 +51,7 @@ fn translate_checked(
     }
     put_start(room, group, number, n, size.records);
     let at = write_names(s, ids, n, room, START_BYTES);
-    write_sections(s, &table, group, sections, at, room);
+    write_plan(s, &table, &starts, total, at, room);
     Translated::Program(length)
 }
 
