@@ -23,7 +23,7 @@ use Rattle.run_actions.specs.declared.Progress.{Progress}
 use Rattle.run_slot_search.specs.Search.{namesAt, Found}
 use Rattle.run_ending.specs.Answer.{refusalIn, LastEvent, endingOf, Settles}
 use Rattle.run_commands.specs.Machine.{outAt}
-use Rattle.run_sections.specs.Sections.{SectionsJob, SectionsRan}
+use Rattle.run_plan.specs.Plan.{PlanJob, PlanRan}
 use Rattle.manifest_accessors.specs.Accepted.{Accepted}
 use Rattle.manifest_accessors.proofs.AcceptedLaws.{known, counted, named, refused-by}
 use Rattle.manifest_plan.specs.Plan.{startsOf}
@@ -47,7 +47,7 @@ module _ (s : Bytes) (number n : ℕ) (ids sections : List ℕ) (a : Accepted s 
     module _ (z : refusal ≡ 0) (memory : List ℕ) (f : Found (namesAt s ids n) (x .slots) (replicate memoryNumbers 0) memory)
         (starts : List ℕ) (total : ℕ)
         (p : (starts ≡ put (replicate planSequences 0) 0 (startsOf group sections)) × (total ≡ 0 + length (startsOf group sections))) where
-      unfoldable whole : SectionsJob s starts total (x .device .vendor) (x .device .class) (x .answers) (x .slots) memory (x .trace)
+      unfoldable whole : PlanJob s starts total (x .device .vendor) (x .device .class) (x .answers) (x .slots) memory (x .trace)
       whole =
           record {
             ready =
@@ -61,13 +61,13 @@ module _ (s : Bytes) (number n : ℕ) (ids sections : List ℕ) (a : Accepted s 
             left = rw (counted s number n ids sections a) (plan-left s number n ids sections a group (replicate planSequences 0) starts total refl p);
           }
 
-      pub job : SectionsJob s starts total (x .device .vendor) (x .device .class) (x .answers) (x .slots) memory (x .trace)
+      pub job : PlanJob s starts total (x .device .vendor) (x .device .class) (x .answers) (x .slots) memory (x .trace)
       job = whole
 
       module _ (r : Progress) (slots′ : Bytes) (memory′ : List ℕ) (trace′ : Bytes)
-          (d : (j : SectionsJob s starts total (x .device .vendor) (x .device .class) (x .answers) (x .slots) memory (x .trace)) →
-          SectionsRan s (j .ready .env) (j .plan) (x .slots) memory (x .trace) r slots′ memory′ trace′) where
-        ran : SectionsRan s (envOf (names s (a .manifest)) x) (planOf group (a .manifest)) (x .slots) memory (x .trace) r slots′ memory′ trace′
+          (d : (j : PlanJob s starts total (x .device .vendor) (x .device .class) (x .answers) (x .slots) memory (x .trace)) →
+          PlanRan s (j .ready .env) (j .plan) (x .slots) memory (x .trace) r slots′ memory′ trace′) where
+        ran : PlanRan s (envOf (names s (a .manifest)) x) (planOf group (a .manifest)) (x .slots) memory (x .trace) r slots′ memory′ trace′
         unfolding whole
         ran = d whole
 

@@ -18,7 +18,7 @@ use run_ending::Outcome;
 use run_ending::ended;
 use run_ending::number_after;
 use run_ending::refused;
-use run_sections::run_sections;
+use run_plan::run_plan;
 
 // The run of an envelope that check has accepted, by what check reported.
 fn run_checked(
@@ -44,7 +44,7 @@ fn run_checked(
     let class = device.class;
     let mut starts = [0usize; PLAN_SEQUENCES];
     let total = plan(group, sections, &mut starts);
-    let done = run_sections(
+    let done = run_plan(
         s,
         &starts,
         total,

@@ -33,7 +33,7 @@ use Rattle.translate.specs.declared.Translated.the-variants.{Refused, Pr
 use Rattle.translate_size.specs.Size.{most}
 use Rattle.translate_argument.specs.Argument.{Filled}
 use Rattle.translate_record.specs.Record.{written}
-use Rattle.translate_sections.specs.Plan.{PlanHere, PlanSized, PlanJob}
+use Rattle.translate_plan.specs.Plan.{PlanHere, PlanSized, PlanJob}
 use Rattle.translate_start.specs.Start.{startBytes}
 use Rattle.translate.specs.Translate.{Translates}
 use Rattle.rules.proofs.BytesLaws.{length-part}

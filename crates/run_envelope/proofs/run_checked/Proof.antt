@@ -8,14 +8,14 @@ use Rattle.run_envelope.proofs.run_checked.Tie as tie
 abbrev start : tie.After-memory → tie.Start
 start c = c .before .before .before .before .before .before .before
 
-abbrev planned : tie.After-run-sections-arg2 → tie.After-plan
+abbrev planned : tie.After-run-plan-arg2 → tie.After-plan
 planned c = c .before .before .before .before .before .before
 
 abbrev admitted : tie.After-plan → tie.Else1
 admitted c = c .before .before .before .before
 
-abbrev ran-sections : tie.After-ended-arg → tie.After-run-sections
-ran-sections c = c .before .before .before .before .before
+abbrev ran-plan : tie.After-ended-arg → tie.After-run-plan
+ran-plan c = c .before .before .before .before .before
 
 admit-requires : tie.Need-admit-requires
 admit-requires c κs = let a = start c .pre in (few _ _ _ _ _ a, inside _ _ _ _ _ a)
@@ -26,8 +26,8 @@ refused c =
     rw (c .refused .ensures)
     (refused-answer _ _ _ _ _ (start (at .before) .pre) _ _ _ (at .admit .ensures .0) (c .before .before .if1 .taken) _ (c .before .of .ensures))
 
-sections-requires : tie.Need-run-sections-requires
-sections-requires c κs =
+plan-requires : tie.Need-run-plan-requires
+plan-requires c κs =
     let p = planned c in
     let e = admitted p in
     let at = e .before in
@@ -35,22 +35,22 @@ sections-requires c κs =
 
 ended-requires : tie.Need-ended-requires
 ended-requires c κs =
-    let r = ran-sections c in
+    let r = ran-plan c in
     let p = planned (r .before) in
     let e = admitted p in
     let at = e .before in
     last-event _ _ _ _ _ (start (at .before) .pre) _ _ _ (at .admit .ensures .0) (e .if1 .left) _ (at .admit .ensures .1 (e .if1 .left))
-    _ _ (p .plan .ensures) _ _ _ _ (r .run-sections .ensures)
+    _ _ (p .plan .ensures) _ _ _ _ (r .run-plan .ensures)
 
 ran : tie.Need-returns-2
 ran c =
     let ended = c .before in
-    let r = ran-sections (ended .before) in
+    let r = ran-plan (ended .before) in
     let p = planned (r .before) in
     let e = admitted p in
     let at = e .before in
     answered _ _ _ _ _ (start (at .before) .pre) _ _ _ (at .admit .ensures .0) (e .if1 .left) _ (at .admit .ensures .1 (e .if1 .left))
-    _ _ (p .plan .ensures) _ _ _ _ (r .run-sections .ensures) _ _ (ended .ended .ensures) (c .number-after .ensures)
+    _ _ (p .plan .ensures) _ _ _ _ (r .run-plan .ensures) _ _ (ended .ended .ensures) (c .number-after .ensures)
 
 pub run-checked-spec : {M : Type 1} → statement M
 run-checked-spec =
@@ -63,7 +63,7 @@ run-checked-spec =
     (λ c. search needs)
     refused
     (λ c κs. search needs)
-    sections-requires
+    plan-requires
     ended-requires
     (λ c κs. search needs)
     (λ c. search needs)

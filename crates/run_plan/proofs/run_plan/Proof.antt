@@ -3,15 +3,15 @@ use Prim.Native.Nat.{_-_}
 use lib.ListN.{length}
 use native.Mathlib.Omega.{arith}
 use borrow.Author.Needs.{needs}
-use Rattle.run_sections.specs.Sections.{SectionsJob}
-use Rattle.run_sections.proofs.SectionsLaws.{Going, going-starts, turn-inside, turn-job, turn-stops, turn-goes, all-done}
-use Rattle.run_sections.proofs.run_sections.Statement.{statement}
-use Rattle.run_sections.proofs.run_sections.Tie as tie
+use Rattle.run_plan.specs.Plan.{PlanJob}
+use Rattle.run_plan.proofs.PlanLaws.{Going, going-starts, turn-inside, turn-job, turn-stops, turn-goes, all-done}
+use Rattle.run_plan.proofs.run_plan.Statement.{statement}
+use Rattle.run_plan.proofs.run_plan.Tie as tie
 
 abbrev Inv-loop : tie.InvT-loop
 Inv-loop s starts total vendor class answers slots₀ memory₀ trace₀ level now₀ k₀ slots memory trace now k =
     (length slots ≡ length slots₀) × (length trace ≡ length trace₀)
-    × ((j : SectionsJob s starts total vendor class answers slots₀ memory₀ trace₀) →
+    × ((j : PlanJob s starts total vendor class answers slots₀ memory₀ trace₀) →
     Going s vendor class answers starts total (j .ready .env) (j .plan) slots₀ memory₀ trace₀ slots memory trace now k)
 
 abbrev μ-loop : tie.MeasureT-loop
@@ -60,8 +60,8 @@ again c =
 done : tie.Need-returns-2 Inv-loop μ-loop
 done c j = all-done _ _ _ _ _ _ _ _ _ _ _ _ _ _ _ _ (c .before .loop .inv .2 j) (c .loop-test .left)
 
-pub run-sections-spec : {M : Type 1} → statement M
-run-sections-spec =
+pub run-plan-spec : {M : Type 1} → statement M
+run-plan-spec =
     tie.close
     (tie.spec
     Inv-loop

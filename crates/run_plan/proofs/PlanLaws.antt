@@ -20,7 +20,7 @@ use Rattle.run_actions.specs.declared.Progress.{Progress}
 use Rattle.run_commands.specs.Machine.{stateAt}
 use Rattle.run_leaf.specs.declared.Run.{Run}
 use Rattle.run_sequence.specs.Cycle.{SequenceJob, SequenceRan}
-use Rattle.run_sections.specs.Sections.{startOf, SectionsJob, SectionsRan}
+use Rattle.run_plan.specs.Plan.{startOf, PlanJob, PlanRan}
 use Rattle.run_commands.proofs.LentLaws.{Moves, moves-seq}
 use Rattle.run_sequence.proofs.Keeping.{Kept, ready-of, kept-of, kept-after, events-after}
 use Rattle.manifest_plan.proofs.PlanLaws.{First, plan-first, plan-ends, sequence-at}
@@ -69,7 +69,7 @@ module _ (s vendor class answers : Bytes) (starts : List ℕ) (total : ℕ) (env
     pub goes : runAll env plan (stateAt s (length (env .ids)) memory₀ slots₀ trace₀ 0 0) ≡ runAll env rest (stateBy slots memory trace run)
 
   module _ (slots : Bytes) (memory : List ℕ) (trace : Bytes) (run : Progress) (k : ℕ) (l : Going slots memory trace run k) where
-    pub all-done : total ≤ k → SectionsRan s env plan slots₀ memory₀ trace₀ run slots memory trace
+    pub all-done : total ≤ k → PlanRan s env plan slots₀ memory₀ trace₀ run slots memory trace
     unfolding runAll
     all-done h =
         let e : l .rest ≡ [] = plan-ends s (length (env .ids)) starts total k (l .commands) (l .rest) (l .left) h in
@@ -101,7 +101,7 @@ module _ (s vendor class answers : Bytes) (starts : List ℕ) (total : ℕ) (env
         first : runAll env plan (stateAt s (length (env .ids)) memory₀ slots₀ trace₀ 0 0) ≡ runAll env (its .seq ∷ its .others) (stateBy slots memory trace run)
         first = l .goes ∙ ap (λ (xs : List Seq). runAll env xs (stateBy slots memory trace run)) (its .all)
 
-        pub turn-stops : (r .end ≡ endNumber Finished → ⊥) → SectionsRan s env plan slots₀ memory₀ trace₀ r slots′ memory′ trace′
+        pub turn-stops : (r .end ≡ endNumber Finished → ⊥) → PlanRan s env plan slots₀ memory₀ trace₀ r slots′ memory′ trace′
         turn-stops n =
             record {
               goes = sym (first ∙ all-stops env (its .seq) _ _ _ _ (done .goes) (not-finished (r .end) n));
@@ -124,7 +124,7 @@ module _ (s vendor class answers : Bytes) (starts : List ℕ) (total : ℕ) (env
             }
 
 pub going-starts : (s vendor class answers : Bytes) (starts : List ℕ) (total : ℕ) (slots : Bytes) (memory : List ℕ) (trace : Bytes) →
-    (j : SectionsJob s starts total vendor class answers slots memory trace) →
+    (j : PlanJob s starts total vendor class answers slots memory trace) →
     Going s vendor class answers starts total (j .ready .env) (j .plan) slots memory trace slots memory trace (record { events = 0; used = 0; end = endNumber Finished }) 0
 going-starts s vendor class answers starts total slots memory trace j =
     record {

@@ -3,10 +3,10 @@ use mathlib.Core.Path.{_≡_, refl}
 use native.Mathlib.Omega.{arith}
 use lib.ListN.{length}
 use borrow.Author.Needs.{needs}
-use Rattle.translate_sections.specs.Plan.{PlanJob}
-use Rattle.translate_sections.proofs.PlanLaws.{Writing, writing-starts, writing-done, writing-job, writing-on}
-use Rattle.translate_sections.proofs.write_plan.Statement.{statement}
-use Rattle.translate_sections.proofs.write_plan.Tie as tie
+use Rattle.translate_plan.specs.Plan.{PlanJob}
+use Rattle.translate_plan.proofs.PlanLaws.{Writing, writing-starts, writing-done, writing-job, writing-on}
+use Rattle.translate_plan.proofs.write_plan.Statement.{statement}
+use Rattle.translate_plan.proofs.write_plan.Tie as tie
 
 abbrev Inv-loop : tie.InvT-loop
 Inv-loop s table starts total to room₀ n₀ at₀ k₀ room n at k =

@@ -1,6 +1,6 @@
 // The plan of a group: its sequences sized, and written one after the other.
 ghost use Rattle.rules.specs.Lent.{was};
-ghost use Rattle.translate_sections.specs.Plan.{PlanHere, PlanSized, PlanJob, PlanWrites};
+ghost use Rattle.translate_plan.specs.Plan.{PlanHere, PlanSized, PlanJob, PlanWrites};
 use manifest_accessors::arguments::COERCE_FALSE;
 use rules::controller::Controller;
 use rules::controller::PlanStarts;

@@ -1,6 +1,6 @@
 // The sequences of a group's plan, one after the other.
 ghost use mathlib.Core.Path.{_≡_};
-ghost use Rattle.run_sections.specs.Sections.{startOf, SectionsJob, SectionsRuns};
+ghost use Rattle.run_plan.specs.Plan.{startOf, PlanJob, PlanRuns};
 use manifest_accessors::arguments::COERCE_FALSE;
 use rules::answers::End;
 use rules::controller::Controller;
@@ -27,7 +27,7 @@ fn start_of(from: usize, now: Progress) -> Run
 }
 
 // The sequences of a plan, by their `total` starts, until one does not finish.
-pub fn run_sections(
+pub fn run_plan(
     s: &[u8],
     starts: &PlanStarts,
     total: usize,
@@ -38,8 +38,8 @@ pub fn run_sections(
     memory: &mut Memory,
     trace: &mut [u8],
 ) -> Progress
-    requires { ⌜ SectionsJob (now s) (now starts) total (now vendor) (now class) (now answers) (now slots) (now memory) (now trace) ⌝ }
-    ensures { λ r. ⌜ SectionsRuns s starts total vendor class answers slots memory trace r ⌝ }
+    requires { ⌜ PlanJob (now s) (now starts) total (now vendor) (now class) (now answers) (now slots) (now memory) (now trace) ⌝ }
+    ensures { λ r. ⌜ PlanRuns s starts total vendor class answers slots memory trace r ⌝ }
 {
     let level = Level {
         depth: Controller::DEPTH,

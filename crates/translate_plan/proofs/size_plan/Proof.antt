@@ -1,10 +1,10 @@
 use Prim.Native.Nat.{_-_}
 use native.Mathlib.Omega.{arith}
 use borrow.Author.Needs.{needs}
-use Rattle.translate_sections.specs.Plan.{PlanHere}
-use Rattle.translate_sections.proofs.PlanLaws.{Sizing, sizing-starts, sizing-done, sizing-job, sizing-on, sizing-adds}
-use Rattle.translate_sections.proofs.size_plan.Statement.{statement}
-use Rattle.translate_sections.proofs.size_plan.Tie as tie
+use Rattle.translate_plan.specs.Plan.{PlanHere}
+use Rattle.translate_plan.proofs.PlanLaws.{Sizing, sizing-starts, sizing-done, sizing-job, sizing-on, sizing-adds}
+use Rattle.translate_plan.proofs.size_plan.Statement.{statement}
+use Rattle.translate_plan.proofs.size_plan.Tie as tie
 
 abbrev Inv-loop : tie.InvT-loop
 Inv-loop s table starts total now₀ k₀ now k = (j : PlanHere s table starts total) → Sizing s table starts total j k now

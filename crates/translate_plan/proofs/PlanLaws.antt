@@ -21,7 +21,7 @@ use Rattle.translate_record.specs.declared.record.WriteState.{WriteState}
 use Rattle.translate_size.specs.Size.{most, SequenceHere, SequenceSized}
 use Rattle.translate_record.specs.Record.{written, Wrote}
 use Rattle.translate_sequence.specs.Write.{SequenceJob, SequenceWrote}
-use Rattle.translate_sections.specs.Plan.{PlanHere, PlanSized, PlanJob}
+use Rattle.translate_plan.specs.Plan.{PlanHere, PlanSized, PlanJob}
 use Rattle.translate_sequence.proofs.WriteLaws.{bytes-seq, wrote-none, wrote-then, same-room}
 
 size-first : (a : Seq) (xs : List Seq) → (sizeAll (a ∷ xs) ≡ size a + sizeAll xs) × (argSizeAll (a ∷ xs) ≡ argSize a + argSizeAll xs)
