@@ -44,7 +44,7 @@ mutual
   size-alts (last s) n sec g = omega (arith, size-seq s n sec g)
   size-alts (or s a) n sec g = omega (arith, size-seq s n sec (g .0), size-alts a n sec (g .1))
 
-nonJumps-append : (xs ys : List Rec) → nonJumps (xs ++ ys) ≡ nonJumps xs + nonJumps ys
+pub nonJumps-append : (xs ys : List Rec) → nonJumps (xs ++ ys) ≡ nonJumps xs + nonJumps ys
 nonJumps-append [] ys = omega arith
 nonJumps-append (does op i p t ∷ xs) ys = omega (arith, nonJumps-append xs ys)
 nonJumps-append (jump t ∷ xs) ys = nonJumps-append xs ys

@@ -10,3 +10,4 @@ pub mod Demand3
 pub mod SlotLaws
 pub mod Effects
 pub mod ProgramFaults
+pub mod ProgramLength

@@ -22,7 +22,7 @@ use Rattle.rules.specs.ProgramRun.{exec, runProgram}
 use Rattle.rules.specs.Slots.{answerBytes, slotNames, goodSlots}
 use Rattle.rules.specs.Step.{Env, State, Out}
 use Rattle.rules.specs.Run.{Input, Ran, mayStart, numberFits, admit, runOf}
-use Rattle.rules.specs.ProgramFormat.{NONE, mark, START, NAME, JUMP, codeFrom, groupFrom, componentsFrom, recordsFrom, startSize, lengthFrom}
+use Rattle.rules.specs.ProgramFormat.{NONE, mark, START, NAME, JUMP, codeFrom, groupFrom, numberFrom, componentsFrom, recordsFrom, startSize, lengthFrom}
 use Rattle.rules.specs.ProgramFormat.{nameSize, componentFrom, placeFrom, targetFrom, argumentFrom, recordSize, sourceBytes, sizeBytes}
 
 abbrev pub Only97 : {A : Type 0} → Got A → Type 0
@@ -102,18 +102,50 @@ ids97 (suc k) p =
     need97 (leb nameSize (length p) && marked NAME p && leb 1 (getD p lengthFrom 0) && leb (getD p lengthFrom 0) (limits .identifier) && leb (nameSize + getD p lengthFrom 0) (length p)) _
     (then97 (idsIn k (drop (getD p lengthFrom 0) (drop nameSize p))) _ (ids97 k (drop (getD p lengthFrom 0) (drop nameSize p))) λ a. tt)
 
-pub program97 : (p : Bytes) → Only97 (programIn p)
+-- the program test but for the size: 'Well formed: all this holds for the lengths and ranges above', 'at most 256 non-jumps, 1,024 records',
+-- 'nothing left over'. ProgramLength shows that the size adds nothing to it
+unfoldable pub wellFormed : Bytes → Got Program
+wellFormed p = do
+  _ ← need (leb startSize (length p) && marked START p)
+  let comps = getD p componentsFrom 0
+  let total = num (part p recordsFrom 2)
+  g ← found (groupIn (getD p groupFrom 0)) BadProgram 0
+  _ ← need (leb 1 comps && leb comps (limits .components) && leb total (limits .records))
+  (ids, p₁) ← idsIn comps (drop startSize p)
+  _ ← need (not (repeats ids))
+  (rs, p₂) ← recordsIn g comps total total 0 p₁
+  _ ← need (leb (nonJumps rs) (limits .commands))
+  _ ← need (same p₂ [])
+  got (record { group = g; number = num (part p numberFrom 4); ids = ids; records = rs })
+
+-- the size is tested first
+pub size-fits : (p : Bytes) → leb (length p) (limits .program) ≡ true → programIn p ≡ wellFormed p
+unfolding programIn wellFormed
+size-fits p e = rw e
+
+pub size-over : (p : Bytes) → leb (length p) (limits .program) ≡ false → programIn p ≡ refused BadProgram 0
 unfolding programIn
-program97 p =
+size-over p e = rw e
+
+pub formed97 : (p : Bytes) → Only97 (wellFormed p)
+unfolding wellFormed
+formed97 p =
     let comps : ℕ = getD p componentsFrom 0 in
     let total : ℕ = num (part p recordsFrom 2) in
-    need97 (leb (length p) (limits .program) && leb startSize (length p) && marked START p) _
+    need97 (leb startSize (length p) && marked START p) _
     (then97 (found (groupIn (getD p groupFrom 0)) BadProgram 0) _ (found97 (groupIn (getD p groupFrom 0))) λ g.
     need97 (leb 1 comps && leb comps (limits .components) && leb total (limits .records)) _
     (then97 (idsIn comps (drop startSize p)) _ (ids97 comps (drop startSize p)) λ a.
     need97 (not (repeats (a .0))) _
     (then97 (recordsIn g comps total total 0 (a .1)) _ (records97 g comps total total 0 (a .1)) λ b.
     need97 (leb (nonJumps (b .0)) (limits .commands)) _ (need97 (same (b .1) []) _ tt))))
+
+pub program97 : (p : Bytes) → Only97 (programIn p)
+program97 p = go (leb (length p) (limits .program)) refl
+  where
+    go : (t : Bool) → leb (length p) (limits .program) ≡ t → Only97 (programIn p)
+    go true e = rw (size-fits p e) (formed97 p)
+    go false e = rw (size-over p e) (refl, refl)
 
 -- a run's own tests have numbers below 97
 abbrev Below97 : {A : Type 0} → Got A → Type 0
