@@ -1,4 +1,4 @@
--- A manifest: its number, its components and its sections.
+-- A manifest: its number, its components, its sections, and the order in which each group runs.
 use Prim.Native.Nat.{ℕ, _+_, _*_}
 use mathlib.Core.Bool.{cond}
 use mathlib.Core.List.{List, [], _++_}
@@ -10,6 +10,7 @@ use Rattle.text.specs.Text.{ascii, newline, least}
 use Rattle.text_pieces.specs.Pieces.{between, labelled, coded, lines}
 use Rattle.text_names.specs.Words.{sectionKey, sectionWords}
 use Rattle.depot_identifiers.specs.Identifier.{identifierText}
+use Rattle.depot_order.specs.Order.{groupsText}
 use Rattle.depot_show.specs.Shown.{sequenceShown}
 
 -- component k, whose identifier stands from `from` to `to`
@@ -37,3 +38,4 @@ sectionsText s places = lines (sectionAt s places) sectionCount
 unfoldable pub partsText : Bytes → ℕ → ℕ → List ℕ → List ℕ → Bytes
 partsText s number components ids sections =
     labelled (ascii "number ") number ++ newline ++ componentsText s ids (least components (limits .components)) ++ sectionsText s sections
+    ++ groupsText sections

@@ -6,6 +6,7 @@ ghost use Rattle.text.specs.Text.{Writes};
 ghost use Rattle.depot_show.specs.Manifest.{componentText, componentsText, sectionText, sectionsText, partsText};
 use depot_identifiers::put_identifier_at;
 use depot_items::line::NEWLINE;
+use depot_order::put_groups;
 use rules::controller::Controller;
 use rules::controller::Places;
 use rules::controller::SECTIONS;
@@ -78,7 +79,8 @@ fn put_sections(room: &mut [u8], at: usize, s: &[u8], sections: &SectionPlaces) 
     to
 }
 
-// The manifest of an envelope by its number and the places of its identifiers and sections, as check reports them.
+// The manifest of an envelope by its number and the places of its identifiers and sections, as check reports them, and the order in which
+// each group runs.
 pub fn put_parts(
     room: &mut [u8],
     at: usize,
@@ -93,5 +95,6 @@ pub fn put_parts(
     let a = put_labelled(room, at, b"number ", number);
     let b = put_byte(room, a, NEWLINE);
     let c = put_components(room, b, s, least(components, Controller::COMPONENTS), ids);
-    put_sections(room, c, s, sections)
+    let d = put_sections(room, c, s, sections);
+    put_groups(room, d, sections)
 }
