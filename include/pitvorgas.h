@@ -5,9 +5,9 @@
  *
  * Every function is proved: whatever its slices hold and however long they are, and whatever its numbers and bools are, it ends, reads and
  * writes only what it is lent, and gives what its comment says. "The rule" is the definition of that name in crates/rules/specs, which is
- * document 01, "Manifest rules for gate controllers", as definitions. The contracts stand over the functions of the same names in
- * crates/pitvorgas/src/lib.rt, the structs in crates/pitvorgas_answers/src/lib.rt (`CheckAnswer` is `pitvorgas_check_answer`); the numbers
- * in the answers are those that crates/rules/specs/Answers.antt gives each refusal and end.
+ * document 01, "Manifest rules for gate controllers", with T-01 of document 02, as definitions. The contracts stand over the functions
+ * of the same names in crates/pitvorgas/src/lib.rt, the structs in crates/pitvorgas_answers/src/lib.rt (`CheckAnswer` is
+ * `pitvorgas_check_answer`); the numbers in the answers are those that crates/rules/specs/Answers.antt gives each refusal and end.
  *
  * The proofs do not cover, and a caller must not make, a call with
  *   - a null pointer, even with length 0, or a pointer to fewer bytes than the length says;
@@ -34,7 +34,7 @@ extern "C" {
 #define PITVORGAS_VERSION_PATCH 1
 #define PITVORGAS_VERSION "0.6.1"
 
-/* Limits of document 01. */
+/* Limits of document 01; that of a program's bytes is of 02, T-01. */
 enum {
     PITVORGAS_ENVELOPE_BYTES = 4096,
     PITVORGAS_COMPONENTS = 8,
@@ -43,7 +43,7 @@ enum {
     PITVORGAS_SECTIONS = 6,          /* common's sequence and sections 8 to 12 */
     PITVORGAS_SEQUENCE_COMMANDS = 64,
     PITVORGAS_DEPTH = 4,      /* sequences one in another */
-    PITVORGAS_COMMANDS = 256, /* of an envelope, and of a program those that are no jumps */
+    PITVORGAS_COMMANDS = 256, /* of an envelope as 74 weighs them, and of a program those that are no jumps */
     PITVORGAS_ALTERNATIVES = 4,
     PITVORGAS_PARAMETERS = 5,
     PITVORGAS_URI_BYTES = 96,
@@ -52,7 +52,7 @@ enum {
     PITVORGAS_SLOTS = 8,
     PITVORGAS_TRACE_BYTES = 2048, /* the least that a run asks for, and enough for any run */
     PITVORGAS_RECORDS = 1024,     /* command records, jumps included */
-    PITVORGAS_PROGRAM_BYTES = 32768
+    PITVORGAS_PROGRAM_BYTES = 49152
 };
 
 /* The largest sequence number of a manifest, and the largest number in it: over what an enum of C has. */
@@ -95,7 +95,8 @@ enum {
     PITVORGAS_SECTION_RUN = 12
 };
 
-/* Groups: of a program, in its start. As an argument (`boot`) a group is a bool. */
+/* Groups: of a program, in its start. As an argument (`boot`) a group is a bool. Install does sections 8 and 9 and boot sections 10, 11 and
+ * 12, those that are there, and common's sequence before each of them; where the group has none, common's sequence once. */
 enum {
     PITVORGAS_GROUP_INSTALL = 0,
     PITVORGAS_GROUP_BOOT = 1
@@ -113,7 +114,7 @@ enum {
     PITVORGAS_NOT_ALLOWED = 71,
     PITVORGAS_NO_SUCH_COMPONENT = 72,
     PITVORGAS_TOO_DEEP = 73,
-    PITVORGAS_TOO_MANY_COMMANDS = 74,
+    PITVORGAS_TOO_MANY_COMMANDS = 74, /* one of common weighs as many as the manifest's head promises sections, at least 1; others 1 */
     PITVORGAS_NOT_VERIFIED = 80,
     PITVORGAS_EVENT_OPEN = 81,
     PITVORGAS_WRONG_NUMBER = 82,
@@ -164,7 +165,8 @@ enum {
     PITVORGAS_ANSWER_BYTES = 37
 };
 
-/* An event, 8 bytes. The trace has at least 2,048: event k stands at 8 k, bytes beyond the last event keep their values. */
+/* An event, 8 bytes. The trace has at least 2,048: event k stands at 8 k, bytes beyond the last event keep their values. A command of
+ * common has an event each time that it is done, always with the same place. */
 enum {
     PITVORGAS_EVENT_MARK = 0x5354, /* in 2, at 0 */
     PITVORGAS_EVENT_CODE = 2,
@@ -174,7 +176,8 @@ enum {
     PITVORGAS_EVENT_BYTES = 8
 };
 
-/* A program, at most 32,768 bytes: a start, a record for each component, and the command records, numbered from 0. */
+/* A program, at most 49,152 bytes: a start, a record for each component, and the command records, numbered from 0, in the order of the run:
+ * those of common stand before those of each section. */
 enum {
     PITVORGAS_RECORD_MARK = 0x5350, /* in 2, at 0 of each of them */
     PITVORGAS_RECORD_CODE = 2,      /* the start's, a component's, or that of a command or jump */

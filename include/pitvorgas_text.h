@@ -1,5 +1,5 @@
-/* The words for the numbers of pitvorgas.h, in those of document 01; "unknown" for any other number. tools/header compares them with the
- * rules' own. A program that calls none of these functions has none of the words. */
+/* The words for the numbers of pitvorgas.h, in those of document 01, for 74 of 02; "unknown" for any other number. tools/header compares
+ * them with the rules' own. A program that calls none of these functions has none of the words. */
 #ifndef PITVORGAS_TEXT_H
 #define PITVORGAS_TEXT_H
 
@@ -18,7 +18,7 @@ static inline const char *pitvorgas_refusal_text(size_t number) {
     case PITVORGAS_NOT_ALLOWED: return "command not allowed there";
     case PITVORGAS_NO_SUCH_COMPONENT: return "index or source not below the count";
     case PITVORGAS_TOO_DEEP: return "depth over 4";
-    case PITVORGAS_TOO_MANY_COMMANDS: return "257th command";
+    case PITVORGAS_TOO_MANY_COMMANDS: return "commands past 256, common's counted for each section";
     case PITVORGAS_NOT_VERIFIED: return "signature verdict is no";
     case PITVORGAS_EVENT_OPEN: return "install while an event is open";
     case PITVORGAS_WRONG_NUMBER: return "install: number not above the device's; boot: not equal";

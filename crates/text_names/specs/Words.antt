@@ -61,7 +61,7 @@ sectionKey j = cond (eqb j 0) COMMON (j + (PAYLOAD_FETCH - 1))
 unfoldable pub sectionWords : ℕ → Bytes
 sectionWords n = wordOf n sections
 
--- "Refusal numbers"
+-- "Refusal numbers"; of 74 as 02, T-01, has it
 unfoldable pub refusals : List Row
 refusals =
     refusalNumber R.EnvelopeTooLong means "envelope over 4,096 bytes"
@@ -74,7 +74,7 @@ refusals =
     ∷ refusalNumber R.NotAllowed means "command not allowed there"
     ∷ refusalNumber R.NoSuchComponent means "index or source not below the count"
     ∷ refusalNumber R.TooDeep means "depth over 4"
-    ∷ refusalNumber R.TooManyCommands means "257th command"
+    ∷ refusalNumber R.TooManyCommands means "commands past 256, common's counted for each section"
     ∷ refusalNumber R.NotVerified means "signature verdict is no"
     ∷ refusalNumber R.EventOpen means "install while an event is open"
     ∷ refusalNumber R.WrongNumber means "install: number not above the device's; boot: not equal"

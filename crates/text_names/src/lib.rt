@@ -175,7 +175,7 @@ pub fn put_refusal(room: &mut [u8], at: usize, number: usize) -> usize
           command not allowed there|\
           index or source not below the count|\
           depth over 4|\
-          257th command|\
+          commands past 256, common's counted for each section|\
           signature verdict is no|\
           install while an event is open|\
           install: number not above the device's; boot: not equal|\
