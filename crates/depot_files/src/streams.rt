@@ -15,7 +15,8 @@ pub struct Streams {
     pub err: i32,
 }
 
-// Room for any text: that of a program of 32,768 bytes has some hundred thousand.
+// Room for a text: that of the longest program that is well formed, of 46,635 bytes, has some hundred thousand. A longer one, of a file
+// that is refused, is cut.
 pub fn page() -> [u8; 262144]
     ensures { λ r. ⌜ 262144 ≡ length r ⌝ }
 {

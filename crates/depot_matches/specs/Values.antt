@@ -28,7 +28,7 @@ recordIs e s =
 unfoldable pub argumentIn : Bytes → Bytes
 argumentIn s = part s ProgramFormat·recordSize (twoAt s argumentFrom)
 
--- the argument of the event's record
+-- the argument of the event's record; where common stands again, its records have the same arguments again
 unfoldable pub argumentOf : Bytes → Event → Bytes
 argumentOf p e =
     cond (ltb (length p) startSize) []
