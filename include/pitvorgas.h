@@ -30,9 +30,9 @@ extern "C" {
 #endif
 
 #define PITVORGAS_VERSION_MAJOR 0
-#define PITVORGAS_VERSION_MINOR 6
-#define PITVORGAS_VERSION_PATCH 1
-#define PITVORGAS_VERSION "0.6.1"
+#define PITVORGAS_VERSION_MINOR 7
+#define PITVORGAS_VERSION_PATCH 0
+#define PITVORGAS_VERSION "0.7.0"
 
 /* Limits of document 01; that of a program's bytes is of 02, T-01. */
 enum {

@@ -3,7 +3,7 @@ use mathlib.Core.List.{_++_}
 use Rattle.text.specs.Text.{Bytes, ascii}
 
 unfoldable pub versionText : Bytes
-versionText = ascii "depot 0.6.1\n"
+versionText = ascii "depot 0.7.0\n"
 
 unfoldable pub helpText : Bytes
 helpText =

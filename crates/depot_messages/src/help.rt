@@ -6,7 +6,7 @@ use text::put;
 pub(crate) fn put_version(room: &mut [u8], at: usize) -> usize
     ensures { λ r. ⌜ Writes versionText at room r ⌝ }
 {
-    put(room, at, b"depot 0.6.1\n")
+    put(room, at, b"depot 0.7.0\n")
 }
 
 pub(crate) fn put_help(room: &mut [u8], at: usize) -> usize
