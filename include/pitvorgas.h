@@ -260,11 +260,11 @@ struct pitvorgas_run_answer {
 
 /* Bytes of stack, at most, with all that is called and the return address, on x86-64 (tools/stack measures them on the library):
  *
- *     pitvorgas_check          2,560
- *     pitvorgas_newer          2,624
- *     pitvorgas_translate      4,472
+ *     pitvorgas_check          2,656
+ *     pitvorgas_newer          2,720
+ *     pitvorgas_translate      4,296
  *     pitvorgas_test_program     504
- *     pitvorgas_run            3,944
+ *     pitvorgas_run            3,832
  *     pitvorgas_run_program    1,336
  *
  * Reentrancy: the library has no static data and keeps no state, so calls may go on at once, in threads or in interrupts that come in the
