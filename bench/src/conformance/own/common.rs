@@ -96,19 +96,32 @@ fn in_both(
         (Group::Boot, [10, 11]),
         (Group::Boot, [11, 12]),
     ] {
-        let [first, second] = sections.clone();
-        let rows = vec![
-            (COMMON, common.clone()),
-            (keys[0], first),
-            (keys[1], second),
-        ];
-        let manifest = manifest(2, rows);
-        let mut setting = setting(&manifest, group);
-        change(&mut setting);
-        let envelope = encode(&manifest);
-        cases.extend(ran(shows, &envelope, group, &setting, Reached::End(end)));
+        let of = (group, keys);
+        cases.extend(pair(shows, of, &common, &sections, end, &change));
     }
     cases
+}
+
+/// A run of common and two sections, under these keys of the group.
+fn pair(
+    shows: &'static str,
+    (group, keys): (Group, [u32; 2]),
+    common: &Sequence,
+    sections: &[Sequence; 2],
+    end: usize,
+    change: &impl Fn(&mut Setting),
+) -> Vec<Own> {
+    let [first, second] = sections.clone();
+    let rows = vec![
+        (COMMON, common.clone()),
+        (keys[0], first),
+        (keys[1], second),
+    ];
+    let manifest = manifest(2, rows);
+    let mut setting = setting(&manifest, group);
+    change(&mut setting);
+    let envelope = encode(&manifest);
+    ran(shows, &envelope, group, &setting, Reached::End(end))
 }
 
 fn plain(shows: &'static str, common: Sequence, sections: [Sequence; 2], end: usize) -> Vec<Own> {
@@ -189,20 +202,10 @@ fn slots() -> Vec<Own> {
     let shows = "common's repeat meets the section's slots";
     let from_other = || vec![Command::set(vec![Parameter::source(1)]), nil(model::COPY)];
     let moved = |common: Sequence, end, change: fn(&mut Setting)| {
-        let mut cases = Vec::new();
-        for (group, keys) in [(Group::Install, [8, 9]), (Group::Boot, [11, 12])] {
-            let rows = vec![
-                (COMMON, common.clone()),
-                (keys[0], from_other()),
-                (keys[1], vec![]),
-            ];
-            let manifest = manifest(2, rows);
-            let mut setting = setting(&manifest, group);
-            change(&mut setting);
-            let envelope = encode(&manifest);
-            cases.extend(ran(shows, &envelope, group, &setting, Reached::End(end)));
-        }
-        cases
+        let pairs = [(Group::Install, [8, 9]), (Group::Boot, [11, 12])];
+        let sections = [from_other(), vec![]];
+        let ran = |of| pair(shows, of, &common, &sections, end, &change);
+        pairs.map(ran).concat()
     };
     let matched = vec![Command::set(image()), matches()];
     let tried = Command::try_each(vec![vec![matches()], vec![passes()]]);
