@@ -7,10 +7,7 @@ use native.Mathlib.Nat.{add-zero, add-suc, suc-add}
 use lib.ListN.{length, set, length-append}
 use lib.Seq.{set-comm, length-sets}
 use Rattle.rules.specs.Bytes.{Bytes, put, flat}
-
-pub put-append : (s : Bytes) (at : ℕ) (a b : Bytes) → put (put s at a) (at + length a) b ≡ put s at (a ++ b)
-put-append s at [] b = rw (add-zero at)
-put-append s at (x ∷ a) b = rw (add-suc at (length a), ← suc-add at (length a)) (put-append (set s at x) (suc at) a b)
+use Rattle.rules.proofs.BytesLaws.{put-append}
 
 set-before : (s : Bytes) (i j x : ℕ) (a : Bytes) → i < j → set (put s j a) i x ≡ put (set s i x) j a
 set-before s i j x [] l = refl

@@ -10,13 +10,13 @@ use Rattle.rules.specs.Limits.{limits, sectionCount}
 use Rattle.rules.specs.Bytes.{Bytes, span}
 use Rattle.rules.specs.Got.{Got, refused, got, _>>=_}
 use Rattle.rules.specs.Cbor.{NUMBER, BYTES, item}
-use Rattle.rules.specs.Commands.{COMMON, PAYLOAD_FETCH, RUN}
+use Rattle.rules.specs.Commands.{COMMON, PAYLOAD_FETCH, RUN, sectionNo}
 use Rattle.rules.specs.Manifest.{Seq, count, Section, countAll}
 use Rattle.rules.specs.Check.{Read, key, inBytes, sequenceAt, sectionAt, sectionsAt, commonSeq}
 use Rattle.cbor_reading.specs.declared.Reading.{Reading}
 use Rattle.cbor_reading.specs.Reading.{fault, ends, reading}
 use Rattle.check_command.specs.Command as Q
-use Rattle.check_manifest.specs.Sections.{sectionNo, placedOne, Placed}
+use Rattle.check_manifest.specs.Sections.{placedOne, Placed}
 use Rattle.cbor_reading.proofs.ReadingLaws.{Stopped, reading-went}
 use Rattle.check_sequence.proofs.SequenceLaws.{read}
 use Rattle.check_manifest.proofs.InBytesLaws.{stopped-bind, in-stop, in-bad, in-over, in-got}

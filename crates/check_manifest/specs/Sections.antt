@@ -1,21 +1,16 @@
 -- The places of sections, as check keeps them in an array.
-use Prim.Native.Nat.{ℕ, _+_, _-_, _*_}
+use Prim.Native.Nat.{ℕ, _+_, _*_}
 use mathlib.Core.Path.{_≡_}
 use mathlib.Core.List.{List, [], _∷_}
-use mathlib.Core.Bool.{cond}
-use lib.Dec.{eqb}
 use lib.ListN.{set}
 use Rattle.rules.specs.Lent.{Lent, was, left}
-use Rattle.rules.specs.Commands.{COMMON, PAYLOAD_FETCH}
+use Rattle.rules.specs.Commands.{sectionNo}
 use Rattle.rules.specs.Got.{Got, refused, got}
 use Rattle.rules.specs.Manifest.{Section}
 use Rattle.cbor_reading.specs.declared.Reading.{Reading}
 use Rattle.cbor_reading.specs.Reading.{reading}
 
--- the number of a section in the array: 0 for common's sequence, 1 to 5 for sections 8 to 12
-abbrev pub sectionNo : ℕ → ℕ
-sectionNo k = cond (eqb k COMMON) 0 (k - (PAYLOAD_FETCH - 1))
-
+-- the places of a section stand at its number
 abbrev pub placedOne : Section → List ℕ → List ℕ
 placedOne x a = set (set a (2 * sectionNo (x .key)) (x .place .from)) (2 * sectionNo (x .key) + 1) (x .place .to)
 

@@ -1,16 +1,30 @@
 -- Names told one after the other, and the line of a group.
-use Prim.Native.Nat.{ℕ}
+use Prim.Native.Nat.{ℕ, _+_, _-_, _≤_, _<_}
 use mathlib.Core.Path.{_≡_, refl, sym, _∙_}
 use mathlib.Core.Bool.{Bool, true, false, cond}
 use mathlib.Core.List.{List, [], _∷_, _++_, append-assoc, append-nil}
+use native.Mathlib.Omega.{arith}
+use lib.Dec.{eqb}
+use borrow.Author.Tests.{ne-eqb}
 use Rattle.rules.specs.declared.answers.Group.{Group}
-use Rattle.rules.specs.Commands.{COMMON}
+use Rattle.rules.specs.Commands.{COMMON, PAYLOAD_FETCH, sectionNo}
 use Rattle.rules.specs.Run.{sectionsOf, each, withCommon}
 use Rattle.text.specs.Text.{Bytes, Wrote, newline}
 use Rattle.text.proofs.TextLaws.{wrote-none, wrote-then}
 use Rattle.text_names.specs.Words.{sectionWords}
 use Rattle.depot_order.specs.declared.Told.{Told}
 use Rattle.depot_order.specs.Order.{endOf, one, present, parting, names, someAfter, orderText, groupText, groupLine, Tells}
+
+-- keys below that of payload fetch are common's, and the others are counted from there
+pub low-number : (key : ℕ) → key < PAYLOAD_FETCH → sectionNo key ≡ 0
+low-number key h = go (eqb key COMMON)
+  where
+    go : (b : Bool) → cond b 0 (key - (PAYLOAD_FETCH - 1)) ≡ 0
+    go true = refl
+    go false = omega arith
+
+pub high-number : (key : ℕ) → PAYLOAD_FETCH ≤ key → sectionNo key ≡ key - PAYLOAD_FETCH + 1
+high-number key h = rw (ne-eqb key COMMON (λ e. omega arith)) (omega arith)
 
 some-stays : (keys : List ℕ) → someAfter true keys ≡ true
 unfolding someAfter

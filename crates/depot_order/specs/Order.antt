@@ -1,22 +1,22 @@
 -- The order in which a group runs, by the places of the sections that check reported.
-use Prim.Native.Nat.{ℕ, _+_, _-_, _*_}
+use Prim.Native.Nat.{ℕ, _+_, _*_}
 use mathlib.Core.Path.{_≡_}
 use mathlib.Core.Bool.{Bool, true, false, cond}
 use mathlib.Core.List.{List, [], _∷_, _++_}
-use lib.Dec.{eqb, ltb}
+use lib.Dec.{eqb}
 use lib.ListN.{getD}
 use Rattle.rules.specs.declared.answers.Group.{Group}
 use Rattle.rules.specs.declared.answers.Group.the-variants.{Install, Boot}
 use Rattle.rules.specs.Bytes.{Bytes}
-use Rattle.rules.specs.Commands.{COMMON, PAYLOAD_FETCH}
+use Rattle.rules.specs.Commands.{COMMON, sectionNo}
 use Rattle.rules.specs.Run.{sectionsOf, withCommon}
 use Rattle.text.specs.Text.{Wrote, ascii, newline}
 use Rattle.text_names.specs.Words.{sectionWords}
 use Rattle.depot_order.specs.declared.Told.{Told}
 
--- where the section under a key ends; common's sequence is the first of the places, and the others follow from payload fetch on
+-- where the section under a key ends: its places stand at its number
 unfoldable pub endOf : List ℕ → ℕ → ℕ
-endOf places key = getD places (2 * cond (ltb key PAYLOAD_FETCH) 0 (key - PAYLOAD_FETCH + 1) + 1) 0
+endOf places key = getD places (2 * sectionNo key + 1) 0
 
 -- a section by its key, if it is there: one that is not ends at 0
 abbrev pub one : ℕ → ℕ → List ℕ

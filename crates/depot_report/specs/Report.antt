@@ -4,9 +4,10 @@ use mathlib.Core.Bool.{cond}
 use mathlib.Core.List.{List, [], _++_}
 use lib.Dec.{eqb}
 use lib.ListN.{getD}
+use Rattle.rules.specs.Commands.{sectionKey}
 use Rattle.rules.specs.Limits.{limits, sectionCount}
 use Rattle.text.specs.Text.{Bytes, ascii, least}
-use Rattle.text_names.specs.Words.{sectionKey, sectionWords}
+use Rattle.text_names.specs.Words.{sectionWords}
 use Rattle.text_pieces.specs.Pieces.{between, labelled, lines}
 use Rattle.depot_identifiers.specs.Identifier.{identifierText}
 use Rattle.depot_refusals.specs.Refusals.{refusedText}

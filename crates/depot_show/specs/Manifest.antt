@@ -5,10 +5,11 @@ use mathlib.Core.List.{List, [], _++_}
 use lib.Dec.{eqb}
 use lib.ListN.{getD}
 use Rattle.rules.specs.Bytes.{Bytes}
+use Rattle.rules.specs.Commands.{sectionKey}
 use Rattle.rules.specs.Limits.{limits, sectionCount}
 use Rattle.text.specs.Text.{ascii, newline, least}
 use Rattle.text_pieces.specs.Pieces.{between, labelled, coded, lines}
-use Rattle.text_names.specs.Words.{sectionKey, sectionWords}
+use Rattle.text_names.specs.Words.{sectionWords}
 use Rattle.depot_identifiers.specs.Identifier.{identifierText}
 use Rattle.depot_order.specs.Order.{groupsText}
 use Rattle.depot_show.specs.Shown.{sequenceShown}

@@ -2,26 +2,24 @@
 use Prim.Native.Nat.{ℕ, zero, suc, _+_, _-_, _*_, _≤_, _<_}
 use mathlib.Core.Path.{_≡_, refl, sym, ap, _∙_}
 use mathlib.Core.List.{List, [], _∷_, _++_}
-use mathlib.Core.Bool.{Bool, true, false, cond}
+use mathlib.Core.Bool.{Bool, true, false}
 use native.Mathlib.Omega.{arith}
 use native.Mathlib.Nat.{add-zero}
 use lib.Dec.{eqb}
 use lib.ListN.{length, getD}
 use borrow.Author.Tests.{eqb-true, eqb-false, ne-eqb}
 use Rattle.rules.specs.declared.answers.Group.{Group}
-use Rattle.rules.specs.declared.answers.Group.the-variants.{Install, Boot}
 use Rattle.rules.specs.Bytes.{Bytes, put}
 use Rattle.rules.specs.Limits.{limits, sectionCount, planSequences}
-use Rattle.rules.specs.Commands.{COMMON, PAYLOAD_FETCH, among}
+use Rattle.rules.specs.Commands.{COMMON, PAYLOAD_FETCH, among, sectionKey, sectionNo}
 use Rattle.rules.specs.Manifest.{Seq, count, counts, Section}
 use Rattle.rules.specs.Run.{sectionsOf, chosen, each, withCommon, planOf}
-use Rattle.rules_theorems.proofs.FlatLaws.{plan-law}
-use Rattle.check_manifest.specs.Sections.{sectionNo}
+use Rattle.rules_theorems.proofs.FlatLaws.{not-common, plan-law}
 use Rattle.run_slots.proofs.ParamsLaws.{getD-among}
 use Rattle.manifest_accessors.specs.Accepted.{Accepted}
 use Rattle.manifest_accessors.specs.Places.{SequenceAt}
 use Rattle.manifest_accessors.proofs.AcceptedLaws.{known}
-use Rattle.manifest_plan.specs.Plan.{keyOf, does, startAt, sectionStarts, startsOf}
+use Rattle.manifest_plan.specs.Plan.{sectionStarts, startsOf}
 use Rattle.manifest_plan.specs.Standing.{Stand, Stands, Left}
 use Rattle.manifest_plan.proofs.SectionsRead.{ReadAll, Rest, Here, rest-start, rest-end, rest-none, rest-some}
 use Rattle.manifest_plan.proofs.StartLaws.{few-starts}
@@ -45,12 +43,6 @@ module _ (s : Bytes) (n : ℕ) where
   stands-with cs (p ∷ ps) c [] x y = absurd y
   stands-with cs (p ∷ ps) c (a ∷ xs) x y = stands-each cs (p ∷ ps) c (a ∷ xs) x y
 
-  stands-length : (ps : List ℕ) (xs : List Seq) → Stands s n ps xs → length ps ≡ length xs
-  stands-length [] [] x = refl
-  stands-length [] (a ∷ xs) x = absurd x
-  stands-length (p ∷ ps) [] x = absurd x
-  stands-length (p ∷ ps) (a ∷ xs) x = ap suc (stands-length ps xs (x .1))
-
   module _ (places : List ℕ) where
     stand : (k : ℕ) (rest : List Section) (x : Here s n places k rest) → Stand s n (getD places (2 * k) 0) (x .section .seq)
     stand k rest x =
@@ -69,7 +61,7 @@ module _ (s : Bytes) (n : ℕ) where
         go (λ (xs : List Section) (x : Rest s n places (k + 1) xs). sections-stand group left (k + 1) xs (omega arith) x) (eqb (getD places (2 * k + 1) 0) 0) refl
       where
         here : ((xs : List Section) → Rest s n places (k + 1) xs → Stands s n (sectionStarts group places left (k + 1)) (chosen (sectionsOf group) xs)) →
-            Here s n places k rest → eqb (getD places (2 * k + 1) 0) 0 ≡ false → (b : Bool) → among (keyOf k) (sectionsOf group) ≡ b →
+            Here s n places k rest → eqb (getD places (2 * k + 1) 0) 0 ≡ false → (b : Bool) → among (sectionKey k) (sectionsOf group) ≡ b →
             Stands s n (sectionStarts group places (suc left) k) (chosen (sectionsOf group) rest)
         here later x e true a = rw (e, a, x .all, x .key, a) (stand k rest x, later (x .others) (x .left))
         here later x e false a = rw (e, a, x .all, x .key, a) (later (x .others) (x .left))
@@ -77,7 +69,7 @@ module _ (s : Bytes) (n : ℕ) where
         go : ((xs : List Section) → Rest s n places (k + 1) xs → Stands s n (sectionStarts group places left (k + 1)) (chosen (sectionsOf group) xs)) →
             (b : Bool) → eqb (getD places (2 * k + 1) 0) 0 ≡ b → Stands s n (sectionStarts group places (suc left) k) (chosen (sectionsOf group) rest)
         go later true e = rw e (later rest (rest-none s n places k rest (eqb-true _ 0 e) r))
-        go later false e = here later (rest-some s n places k rest (omega arith) (eqb-false _ 0 e) r) e (among (keyOf k) (sectionsOf group)) refl
+        go later false e = here later (rest-some s n places k rest (omega arith) (eqb-false _ 0 e) r) e (among (sectionKey k) (sectionsOf group)) refl
 
     -- sections after common's sequence are not common's
     no-common : (k : ℕ) (rest : List Section) → 0 < k → ReadAll s n k rest → chosen (COMMON ∷ []) rest ≡ []
@@ -86,12 +78,8 @@ module _ (s : Bytes) (n : ℕ) where
       where
         other : x .key ≡ COMMON → ⊥
         other e =
-            let z : x .key ≡ PAYLOAD_FETCH - 1 + sectionNo (x .key) = r .0 .named ∙ rw (ne-eqb (sectionNo (x .key)) 0 (λ q. omega (arith, r .0 .low))) in
+            let z : x .key ≡ sectionNo (x .key) + (PAYLOAD_FETCH - 1) = r .0 .named ∙ rw (ne-eqb (sectionNo (x .key)) 0 (λ q. omega (arith, r .0 .low))) in
             omega (arith, r .0 .low)
-
-    not-common : (group : Group) → among COMMON (sectionsOf group) ≡ false
-    not-common Install = refl
-    not-common Boot = refl
 
     plan-stands : (group : Group) (sections : List Section) → Rest s n places 0 sections →
         Stands s n (startsOf group places) (withCommon (chosen (COMMON ∷ []) sections) (chosen (sectionsOf group) sections))
@@ -104,7 +92,7 @@ module _ (s : Bytes) (n : ℕ) where
         here : Here s n places 0 sections → eqb (getD places 1 0) 0 ≡ false →
             Stands s n (startsOf group places) (withCommon (chosen (COMMON ∷ []) sections) (chosen (sectionsOf group) sections))
         here x e =
-            rw (e, x .all, x .key, not-common group, no-common 1 (x .others) (omega arith) (x .left .read))
+            rw (e, x .all, x .key, not-common group COMMON refl, no-common 1 (x .others) (omega arith) (x .left .read))
             (stands-with (getD places 0 0 ∷ []) (sectionStarts group places (sectionCount - 1) 1) (x .section .seq ∷ []) (chosen (sectionsOf group) (x .others))
             (stand 0 sections x, tt) (after (x .others) (x .left)))
 

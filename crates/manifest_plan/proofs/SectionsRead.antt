@@ -12,14 +12,13 @@ use Rattle.rules.specs.Limits.{limits, sectionCount, sectionPlaces}
 use Rattle.rules.specs.Bytes.{Bytes}
 use Rattle.rules.specs.Got.{got}
 use Rattle.rules.specs.Cbor.{NUMBER, item}
-use Rattle.rules.specs.Commands.{COMMON, PAYLOAD_FETCH, RUN}
+use Rattle.rules.specs.Commands.{COMMON, PAYLOAD_FETCH, RUN, sectionKey, sectionNo}
 use Rattle.rules.specs.Manifest.{count, Section, countAll, Manifest}
 use Rattle.rules.specs.Check.{commonWeight, key, inBytes, sequenceAt, sectionAt, commonSeq, sectionsAt, check}
 use Rattle.rules.proofs.GotLaws.{both, split, split₂}
 use Rattle.rules.proofs.CheckLaws.{item-law, inBytes-law}
-use Rattle.check_manifest.specs.Sections.{sectionNo, placedOne, placed}
+use Rattle.check_manifest.specs.Sections.{placedOne, placed}
 use Rattle.run_slots.proofs.ParamsLaws.{zeros}
-use Rattle.manifest_plan.specs.Plan.{keyOf}
 use Rattle.rules.proofs.ManifestParts.{common-parts, common-in, manifest-parts, held}
 use Rattle.rules_theorems.proofs.Reread.{reread}
 
@@ -31,7 +30,7 @@ pub record SectionRead (s : Bytes) (n least : ℕ) (x : Section) : Type 0 where
   pub fits : x .place .to ≤ length s
   pub low : least ≤ sectionNo (x .key)
   pub high : sectionNo (x .key) < sectionCount
-  pub named : x .key ≡ keyOf (sectionNo (x .key))
+  pub named : x .key ≡ sectionKey (sectionNo (x .key))
 
 -- sections whose numbers ascend from `low` on
 abbrev pub ReadAll : Bytes → ℕ → ℕ → List Section → Type 0
@@ -69,7 +68,7 @@ module _ (s : Bytes) where
         fits = i .fits;
       })
 
-  numbered : (n k e : ℕ) (x : Section) (low : ℕ) → e ≤ length s → Sequenced n k e x → low ≤ sectionNo k → sectionNo k < sectionCount → k ≡ keyOf (sectionNo k) →
+  numbered : (n k e : ℕ) (x : Section) (low : ℕ) → e ≤ length s → Sequenced n k e x → low ≤ sectionNo k → sectionNo k < sectionCount → k ≡ sectionKey (sectionNo k) →
       SectionRead s n low x
   numbered n k e x low l r a b c =
       record {
@@ -84,7 +83,7 @@ module _ (s : Bytes) where
   number-of : (k : ℕ) → PAYLOAD_FETCH ≤ k → sectionNo k ≡ k - (PAYLOAD_FETCH - 1)
   number-of k h = rw (ne-eqb k COMMON (λ e. omega arith))
 
-  key-of : (k : ℕ) → PAYLOAD_FETCH ≤ k → k ≡ keyOf (sectionNo k)
+  key-of : (k : ℕ) → PAYLOAD_FETCH ≤ k → k ≡ sectionKey (sectionNo k)
   key-of k h = rw (number-of k h, ne-eqb (k - (PAYLOAD_FETCH - 1)) 0 (λ e. omega arith)) (omega arith)
 
   sections-read : (n k low m e at : ℕ) (xs : List Section) (q : ℕ) → e ≤ length s → PAYLOAD_FETCH ≤ low → sectionsAt s n k low m e at ≡ got (xs, q) → ReadAll s n (low - (PAYLOAD_FETCH - 1)) xs
@@ -212,7 +211,7 @@ module _ (s : Bytes) (n : ℕ) where
       pub others : List Section
       pub all : rest ≡ section ∷ others
       pub from : getD places (2 * k) 0 ≡ section .place .from
-      pub key : section .key ≡ keyOf k
+      pub key : section .key ≡ sectionKey k
       pub read : SectionRead s n k section
       pub left : Rest s n places (k + 1) others
 

@@ -12,10 +12,10 @@ use Rattle.rules.specs.declared.answers.Group.{Group}
 use Rattle.rules.specs.declared.answers.Group.the-variants.{Install, Boot}
 use Rattle.rules.specs.Bytes.{put}
 use Rattle.rules.specs.Limits.{sectionCount, planSequences}
-use Rattle.rules.specs.Commands.{among}
+use Rattle.rules.specs.Commands.{among, sectionKey}
 use Rattle.rules.specs.Run.{sectionsOf, each, withCommon}
 use Rattle.rules.proofs.BytesLaws.{put-append}
-use Rattle.manifest_plan.specs.Plan.{keyOf, does, startAt, sectionStarts, turn, startsOf}
+use Rattle.manifest_plan.specs.Plan.{does, startAt, sectionStarts, turn, startsOf}
 
 length-one : (places : List ℕ) (k : ℕ) → length (startAt places k) ≤ 1
 length-one places k = go (eqb (getD places (2 * k + 1) 0) 0)
@@ -44,11 +44,11 @@ module _ (group : Group) (places : List ℕ) where
   -- how many of the `left` sections from number k on are the group's
   abbrev most : ℕ → ℕ → ℕ
   most zero k = 0
-  most (suc left) k = cond (among (keyOf k) (sectionsOf group)) 1 0 + most left (k + 1)
+  most (suc left) k = cond (among (sectionKey k) (sectionsOf group)) 1 0 + most left (k + 1)
 
   length-most : (left k : ℕ) → length (sectionStarts group places left k) ≤ most left k
   length-most zero k = omega arith
-  length-most (suc left) k = go (eqb (getD places (2 * k + 1) 0) 0) (among (keyOf k) (sectionsOf group)) (sectionStarts group places left (k + 1)) (length-most left (k + 1))
+  length-most (suc left) k = go (eqb (getD places (2 * k + 1) 0) 0) (among (sectionKey k) (sectionsOf group)) (sectionStarts group places left (k + 1)) (length-most left (k + 1))
     where
       go : (a b : Bool) (rest : List ℕ) → length rest ≤ most left (k + 1) → length (cond (cond a false b) (getD places (2 * k) 0 ∷ rest) rest) ≤ cond b 1 0 + most left (k + 1)
       go true true rest h = omega arith
@@ -63,7 +63,7 @@ three Boot places = omega arith
 there : (group : Group) (places : List ℕ) (k : ℕ) → does group places k ≡ true → startAt places k ≡ getD places (2 * k) 0 ∷ []
 there group places k = go (eqb (getD places (2 * k + 1) 0) 0)
   where
-    go : (b : Bool) → cond b false (among (keyOf k) (sectionsOf group)) ≡ true → cond b [] (getD places (2 * k) 0 ∷ []) ≡ getD places (2 * k) 0 ∷ []
+    go : (b : Bool) → cond b false (among (sectionKey k) (sectionsOf group)) ≡ true → cond b [] (getD places (2 * k) 0 ∷ []) ≡ getD places (2 * k) 0 ∷ []
     go true q = let z : _≡_ {A = ℕ} 0 1 = cc in absurd (omega arith)
     go false q = refl
 

@@ -9,16 +9,12 @@ use Rattle.rules.specs.declared.answers.Group.{Group}
 use Rattle.rules.specs.Lent.{Lent, was, left}
 use Rattle.rules.specs.Bytes.{put}
 use Rattle.rules.specs.Limits.{sectionCount}
-use Rattle.rules.specs.Commands.{COMMON, PAYLOAD_FETCH, among}
+use Rattle.rules.specs.Commands.{sectionKey, among}
 use Rattle.rules.specs.Run.{sectionsOf, withCommon}
-
--- the key of the section of number k in the array: that of common for its sequence, which is number 0
-abbrev pub keyOf : ℕ → ℕ
-keyOf k = cond (eqb k 0) COMMON (PAYLOAD_FETCH - 1 + k)
 
 -- whether section k is there, and the group's
 abbrev pub does : Group → List ℕ → ℕ → Bool
-does group places k = cond (eqb (getD places (2 * k + 1) 0) 0) false (among (keyOf k) (sectionsOf group))
+does group places k = cond (eqb (getD places (2 * k + 1) 0) 0) false (among (sectionKey k) (sectionsOf group))
 
 -- where section k starts, if it is there
 abbrev pub startAt : List ℕ → ℕ → List ℕ

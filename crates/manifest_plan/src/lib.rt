@@ -5,10 +5,10 @@ ghost use mathlib.Core.Bool.{false, cond};
 ghost use lib.Dec.{eqb};
 ghost use lib.ListN.{length};
 ghost use Rattle.rules.specs.Lent.{was};
-ghost use Rattle.rules.specs.Commands.{among};
+ghost use Rattle.rules.specs.Commands.{among, sectionKey};
 ghost use Rattle.rules.specs.Limits.{sectionCount, planSequences};
 ghost use Rattle.rules.specs.Run.{sectionsOf};
-ghost use Rattle.manifest_plan.specs.Plan.{keyOf, startAt, turn, startsOf, Puts};
+ghost use Rattle.manifest_plan.specs.Plan.{startAt, turn, startsOf, Puts};
 use rules::answers::Group;
 use rules::codes::PAYLOAD_FETCH;
 use rules::codes::VALIDATE;
@@ -24,7 +24,7 @@ const FIRST_OF_BOOT: usize = VALIDATE - PAYLOAD_FETCH + 1;
 // Whether the group does the section of number k, which ends at `to`; 0 is the end of none.
 fn wanted(group: Group, k: usize, to: usize) -> bool
     requires { ⌜ (0 < k) × (k < sectionCount) ⌝ }
-    ensures { λ r. ⌜ r ≡ cond (eqb to 0) false (among (keyOf k) (sectionsOf group)) ⌝ }
+    ensures { λ r. ⌜ r ≡ cond (eqb to 0) false (among (sectionKey k) (sectionsOf group)) ⌝ }
 {
     if to == 0 {
         return false;

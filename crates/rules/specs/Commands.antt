@@ -1,5 +1,5 @@
 -- Commands, parameters, and the command table (01, What a manifest may hold).
-use Rattle.rules.specs.Base.{ℕ, List, [], _∷_, Bool, true, false, _||_, Option, some, none, eqb, Parameter, Coerce, Uri, Source, Digest, Size}
+use Rattle.rules.specs.Base.{ℕ, _+_, _-_, List, [], _∷_, Bool, true, false, cond, _||_, Option, some, none, eqb, Parameter, Coerce, Uri, Source, Digest, Size}
 use Rattle.rules.specs.Bytes.{Bytes}
 
 -- the parameters of a component; of a command, those that it gives
@@ -154,6 +154,13 @@ RUN = 12
 -- all of them, in the order of a manifest
 abbrev pub allSections : List ℕ
 allSections = COMMON ∷ PAYLOAD_FETCH ∷ INSTALL ∷ VALIDATE ∷ LOAD ∷ RUN ∷ []
+
+-- sections by number, common's sequence first: the key of section j, and the number of the section under a key
+abbrev pub sectionKey : ℕ → ℕ
+sectionKey j = cond (eqb j 0) COMMON (j + (PAYLOAD_FETCH - 1))
+
+abbrev pub sectionNo : ℕ → ℕ
+sectionNo key = cond (eqb key COMMON) 0 (key - (PAYLOAD_FETCH - 1))
 
 -- the command table's column Allowed: 'anywhere', or the keys of sections
 pub data Allowed : Type 0 where

@@ -261,7 +261,7 @@ with-law g n c [] p q = (p, omega arith, omega arith)
 with-law g n c (s ∷ ss) p q = each-law g n c (s ∷ ss) p q
 
 -- common's own sequence is of no group's sections
-not-common : (g : Group) (k : ℕ) → k ≡ COMMON → among k (sectionsOf g) ≡ false
+pub not-common : (g : Group) (k : ℕ) → k ≡ COMMON → among k (sectionsOf g) ≡ false
 not-common Install k e = rw e
 not-common Boot k e = rw e
 

@@ -1,8 +1,7 @@
 -- What check has read of a sequence does not depend on what stood before it, nor on what its commands weigh: read again after commands that
 -- weigh m′, with commands that weigh w′ each, it is the same as long as the sum stays within the limit (02, T-01: common, repeated).
 use Prim.Native.Nat.{ℕ, zero, suc, _+_, _-_, _*_, _/_, _%_, _≤_}
-use mathlib.Core.Path.{_≡_, refl}
-use mathlib.Core.Bool.{true}
+use mathlib.Core.Path.{_≡_}
 use native.Mathlib.Omega.{arith}
 use native.Mathlib.Nat.{mul-add, mul-le-mul-left}
 use lib.Dec.{leb, eqb}

@@ -1,5 +1,5 @@
 -- The words for codes, keys and numbers of document 01.
-use Prim.Native.Nat.{ℕ, _+_, _-_}
+use Prim.Native.Nat.{ℕ}
 use mathlib.Core.Bool.{cond}
 use mathlib.Core.List.{List, [], _∷_, _++_, map}
 use lib.Dec.{eqb}
@@ -53,10 +53,6 @@ sections =
     ∷ LOAD means "load"
     ∷ RUN means "run"
     ∷ []
-
--- the key of section j, in the order of a manifest's sections: common, and those from payload fetch on
-abbrev pub sectionKey : ℕ → ℕ
-sectionKey j = cond (eqb j 0) COMMON (j + (PAYLOAD_FETCH - 1))
 
 unfoldable pub sectionWords : ℕ → Bytes
 sectionWords n = wordOf n sections

@@ -1,10 +1,11 @@
 // The words for codes, keys and numbers of document 01, in lent room. Each table is a list of numbers, and the words in the same order.
 ghost use mathlib.Core.Path.{_≡_};
 ghost use Prim.Native.Nat.{_<_};
+ghost use Rattle.rules.specs.Commands.{sectionKey};
 ghost use Rattle.rules.specs.Limits.{sectionCount};
 ghost use Rattle.text.specs.Text.{Writes};
 ghost use Rattle.text_rows.specs.Rows.{wide};
-ghost use Rattle.text_names.specs.Words.{commandWords, parameterWords, sectionKey, sectionWords, refusalWords, endWords, resultWords};
+ghost use Rattle.text_names.specs.Words.{commandWords, parameterWords, sectionWords, refusalWords, endWords, resultWords};
 use rules::answers::End;
 use rules::answers::Failure;
 use rules::answers::Refusal;

@@ -37,7 +37,7 @@ use Rattle.translate_plan.specs.Plan.{PlanHere, PlanSized, PlanJob}
 use Rattle.translate_start.specs.Start.{startBytes}
 use Rattle.translate.specs.Translate.{Translates}
 use Rattle.rules.proofs.BytesLaws.{length-part}
-use Rattle.byte_buffer.proofs.PutLaws.{put-append}
+use Rattle.rules.proofs.BytesLaws.{put-append}
 use Rattle.translate_argument.proofs.FillLaws.{filled-length}
 
 id-short : (ids : List Bytes) (k : ℕ) → GoodIds ids → k < length ids → length (getD ids k []) ≤ limits .identifier

@@ -10,7 +10,7 @@ use Rattle.rules.specs.Bytes.{Bytes, put}
 use Rattle.rules.specs.ProgramFormat.{entrySize}
 use Rattle.rules.specs.Program.{entry}
 use Rattle.run_slots.specs.Params.{optional}
-use Rattle.byte_buffer.proofs.PutLaws.{put-append}
+use Rattle.rules.proofs.BytesLaws.{put-append}
 use Rattle.translate_argument.specs.Argument.{Filled}
 
 -- what is put after bytes that were put

@@ -32,7 +32,7 @@ use Rattle.translate_record.specs.declared.record.WriteState.{WriteState}
 use Rattle.translate_size.specs.Size.{most, SequenceHere, CommandHere}
 use Rattle.translate_record.specs.Record.{written, LeafJob, Wrote, CommandWrote, JumpWrote}
 use Rattle.translate_sequence.specs.Write.{SequenceJob, CommandJob, SequenceWrote}
-use Rattle.byte_buffer.proofs.PutLaws.{put-append}
+use Rattle.rules.proofs.BytesLaws.{put-append}
 
 pub written-append : (a b : List Rec) → written (a ++ b) ≡ written a ++ written b
 unfolding written

@@ -11,7 +11,7 @@ use Rattle.run_slot_search.specs.Search.{namesAt}
 use Rattle.run_slot_search.proofs.SearchLaws.{leftAt, left-turn, left-end, left-all}
 use Rattle.translate_argument.specs.Argument.{Filled}
 use Rattle.rules.proofs.BytesLaws.{length-part}
-use Rattle.byte_buffer.proofs.PutLaws.{put-append}
+use Rattle.rules.proofs.BytesLaws.{put-append}
 
 module _ (s : Bytes) (a : List ℕ) (n : ℕ) where
   abbrev pub named : Bytes
