@@ -48,7 +48,7 @@ pub record Agreed (s : Bytes) (group : Group) (verdict : Bool) (device : Control
       (r.program ≡ r.envelope) × (pslots' ≡ eslots') × (ptrace' ≡ etrace')
 
 -- the same of lent memory, by what it was and how it is left
-abbrev pub Agrees : Lent → Group → Bool → Controller → Lent → Lent → Lent → Lent → Lent → Lent → Agreement → Type 0
+abbrev pub Agrees : Bytes → Group → Bool → Controller → Bytes → Lent → Lent → Lent → Lent → Lent → Agreement → Type 0
 Agrees s group verdict device answers room pslots ptrace eslots etrace r =
-    Agreed (was s) group verdict device (was answers) (was room) (left room)
+    Agreed s group verdict device answers (was room) (left room)
     (was pslots) (left pslots) (was ptrace) (left ptrace) (was eslots) (left eslots) (was etrace) (left etrace) r

@@ -9,7 +9,7 @@ use run_envelope::run;
 use translate::{Translated, translate};
 
 // What each of the three jobs answered. Where the translation was refused, no program was run, and its answer is that refusal.
-#[derive(Drop)]
+#[derive(Clone, Copy)]
 pub struct Agreement {
     pub translated: Translated,
     pub program: Outcome,
@@ -29,7 +29,7 @@ pub fn agree(
     eslots: &mut [u8],
     etrace: &mut [u8],
 ) -> Agreement
-    ensures { Agrees s group verdict device answers room pslots ptrace eslots etrace result }
+    ensures { Agrees s.now group verdict device answers.now room pslots ptrace eslots etrace result }
 {
     let envelope = run(s, group, verdict, device, eslots, answers, etrace);
     let translated = translate(s, group, room);

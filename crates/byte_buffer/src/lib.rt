@@ -1,6 +1,5 @@
 // Lent bytes: big-endian numbers read and put, parts compared and copied.
 ghost use Rattle.std.specs.Prelude.{◌≡◌, ◌+◌, ◌≤◌, ◌<◌, length};
-ghost use Rattle.rules.specs.Lent.{was, left};
 ghost use Rattle.rules.specs.Bytes.{part, put, two_at, four_at, be2, be4, same};
 
 // One byte.
@@ -13,14 +12,14 @@ pub fn wide(x: u8) -> usize
 // Two bytes, and four.
 pub fn two(s: &[u8], at: usize) -> usize
     requires { at + 2 ≤ length s.now }
-    ensures { (result ≡ two_at (was s) at) × (result < 65536) }
+    ensures { (result ≡ two_at s.now at) × (result < 65536) }
 {
     wide(s[at]) * 256 + wide(s[at + 1])
 }
 
 pub fn four(s: &[u8], at: usize) -> usize
     requires { at + 4 ≤ length s.now }
-    ensures { (result ≡ four_at (was s) at) × (result < 4294967296) }
+    ensures { (result ≡ four_at s.now at) × (result < 4294967296) }
 {
     two(s, at) * 65536 + two(s, at + 2)
 }
@@ -28,7 +27,7 @@ pub fn four(s: &[u8], at: usize) -> usize
 // The number n in two bytes, and in four, over those of `room` from `at` on.
 pub fn put_u16(room: &mut [u8], at: usize, n: usize)
     requires { at + 2 ≤ length room.old }
-    ensures { left room ≡ put (was room) at (be2 n) }
+    ensures { room.new ≡ put room.old at (be2 n) }
 {
     room[at] = (n / 256 % 256) as u8;
     room[at + 1] = (n % 256) as u8;
@@ -36,7 +35,7 @@ pub fn put_u16(room: &mut [u8], at: usize, n: usize)
 
 pub fn put_u32(room: &mut [u8], at: usize, n: usize)
     requires { at + 4 ≤ length room.old }
-    ensures { left room ≡ put (was room) at (be4 n) }
+    ensures { room.new ≡ put room.old at (be4 n) }
 {
     room[at] = (n / 16777216 % 256) as u8;
     room[at + 1] = (n / 65536 % 256) as u8;
@@ -46,7 +45,7 @@ pub fn put_u32(room: &mut [u8], at: usize, n: usize)
 // Whether the n bytes of a from i on are those of b from j on. It always goes through all of them, which is faster than an early exit.
 pub fn equal(a: &[u8], i: usize, b: &[u8], j: usize, n: usize) -> bool
     requires { (i + n ≤ length a.now) × (j + n ≤ length b.now) }
-    ensures { result ≡ same (part (was a) i n) (part (was b) j n) }
+    ensures { result ≡ same (part a.now i n) (part b.now j n) }
 {
     let mut same = true;
     let mut k = 0;
@@ -62,7 +61,7 @@ pub fn equal(a: &[u8], i: usize, b: &[u8], j: usize, n: usize) -> bool
 // The n bytes of s from `from` on, put over those of `room` from `to` on.
 pub fn copy(s: &[u8], from: usize, n: usize, room: &mut [u8], to: usize)
     requires { (from + n ≤ length s.now) × (to + n ≤ length room.old) }
-    ensures { left room ≡ put (was room) to (part (was s) from n) }
+    ensures { room.new ≡ put room.old to (part s.now from n) }
 {
     let mut i = 0;
     while i < n {
@@ -73,7 +72,7 @@ pub fn copy(s: &[u8], from: usize, n: usize, room: &mut [u8], to: usize)
 
 // Whether a is b.
 pub fn is(a: &[u8], b: &[u8]) -> bool
-    ensures { result ≡ same (was a) (was b) }
+    ensures { result ≡ same a.now b.now }
 {
     if a.len() != b.len() {
         return false;

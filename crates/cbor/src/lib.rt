@@ -1,6 +1,5 @@
 // Items of CBOR, as a manifest may use it: a head whose content lies in its container.
 ghost use Rattle.std.specs.Prelude.{◌≡◌, ℕ, ◌+◌, ◌≤◌, length};
-ghost use Rattle.rules.specs.Lent.{was};
 ghost use Rattle.rules.specs.Cbor.{whole, item, one_of, after};
 ghost use Rattle.cbor_heads.specs.Answer.{head_means};
 ghost use Rattle.cbor.specs.Answer.{item_means};
@@ -25,7 +24,7 @@ pub const TRUE: usize = cbor_heads::TRUE;
 pub const NIL: usize = cbor_heads::NIL;
 
 // An item's head, or the place of refusal 65 or 66.
-#[derive(Drop)]
+#[derive(Clone, Copy)]
 pub enum ItemRead {
     Item(Head),
     NotCbor(usize),
@@ -48,7 +47,7 @@ pub fn content(kind: usize, num: usize) -> usize
 // The head of an item whose bytes lie in the container.
 fn read_whole(s: &[u8], end: usize, at: usize) -> HeadRead
     requires { end ≤ length s.now }
-    ensures { head_means result ≡ whole (was s) end at }
+    ensures { head_means result ≡ whole s.now end at }
 {
     match read_head(s, end, at) {
         HeadRead::NotCbor(p) => HeadRead::NotCbor(p),
@@ -65,7 +64,7 @@ fn read_whole(s: &[u8], end: usize, at: usize) -> HeadRead
 // The item at `at`, of a wanted kind, whose number, length or count is from lo to hi.
 pub fn read_item(s: &[u8], end: usize, at: usize, kind: usize, lo: usize, hi: usize) -> ItemRead
     requires { end ≤ length s.now }
-    ensures { item_means result ≡ item kind lo hi (was s) end at }
+    ensures { item_means result ≡ item kind lo hi s.now end at }
 {
     match read_whole(s, end, at) {
         HeadRead::NotCbor(p) => ItemRead::NotCbor(p),
@@ -89,7 +88,7 @@ pub fn read_item(s: &[u8], end: usize, at: usize, kind: usize, lo: usize, hi: us
 // The item at `at`, of either kind, whatever its number.
 pub fn read_one_of(s: &[u8], end: usize, at: usize, kind: usize, other: usize) -> ItemRead
     requires { end ≤ length s.now }
-    ensures { item_means result ≡ one_of kind other (was s) end at }
+    ensures { item_means result ≡ one_of kind other s.now end at }
 {
     match read_whole(s, end, at) {
         HeadRead::NotCbor(p) => ItemRead::NotCbor(p),

@@ -1,6 +1,5 @@
 // Heads of CBOR, as a manifest may use it: definite lengths, shortest heads, numbers to 2^32-1.
 ghost use Rattle.std.specs.Prelude.{◌≡◌, ◌%◌, ◌≤◌, ◌<◌, length, get_or};
-ghost use Rattle.rules.specs.Lent.{was};
 ghost use Rattle.rules.specs.declared.answers.Refusal.TheVariants.{NotCbor};
 ghost use Rattle.rules.specs.Got.{refused, got};
 ghost use Rattle.rules.specs.Cbor.{head};
@@ -26,7 +25,7 @@ pub const TRUE: usize = 21;
 pub const NIL: usize = 22;
 
 // A head: its kind, its number (0 for false, true and nil) and the place after it.
-#[derive(Drop)]
+#[derive(Clone, Copy)]
 pub struct Head {
     pub kind: usize,
     pub num: usize,
@@ -34,7 +33,7 @@ pub struct Head {
 }
 
 // A head, or the place of refusal 65.
-#[derive(Drop)]
+#[derive(Clone, Copy)]
 pub enum HeadRead {
     Head(Head),
     NotCbor(usize),
@@ -53,7 +52,7 @@ fn shortest(kind: usize, num: usize, next: usize, least: usize, at: usize) -> He
 // A head whose number is in the 1, 2 or 4 bytes after its first byte.
 fn long_head(s: &[u8], end: usize, at: usize, first: usize) -> HeadRead
     requires { (at < end) × (end ≤ length s.now) × (first ≡ get_or s.now at 0) × (24 ≤ first % 32) }
-    ensures { head_means result ≡ head (was s) end at }
+    ensures { head_means result ≡ head s.now end at }
 {
     let kind = first / 32;
     if kind == 1 {
@@ -89,7 +88,7 @@ fn long_head(s: &[u8], end: usize, at: usize, first: usize) -> HeadRead
 // The head at `at`, in a container that ends at `end`.
 pub fn read_head(s: &[u8], end: usize, at: usize) -> HeadRead
     requires { end ≤ length s.now }
-    ensures { head_means result ≡ head (was s) end at }
+    ensures { head_means result ≡ head s.now end at }
 {
     if end <= at {
         return HeadRead::NotCbor(at);

@@ -1,7 +1,6 @@
 // A reader over a lent envelope: the envelope and a place in it, held together. Of a string it reads the head alone. The borrow checker covers no
 // function over such a struct, so each is proved by hand; the work is done by a function of a slice and a number, which is covered.
 ghost use Rattle.std.specs.Prelude.{◌≡◌, ◌-◌, length};
-ghost use Rattle.rules.specs.Lent.{was};
 ghost use Rattle.rules.specs.Cbor.{head};
 ghost use Rattle.cbor_reader.specs.Read.{read_of, head_here, moved};
 
@@ -17,7 +16,7 @@ pub struct Reader<'a> {
 
 // refusal is 0: the head's kind (one of cbor_heads's), its number (0 for false, true and nil) and the place after it. Else refusal is 65, next is
 // the place where it was refused, and the rest is 0.
-#[derive(Drop)]
+#[derive(Clone, Copy)]
 pub struct Read {
     pub refusal: usize,
     pub kind: usize,
@@ -27,7 +26,7 @@ pub struct Read {
 
 // The head at a place of an envelope.
 fn head_of(s: &[u8], at: usize) -> Read
-    ensures { result ≡ read_of (head (was s) (length (was s)) at) }
+    ensures { result ≡ read_of (head s.now (length s.now) at) }
 {
     match cbor_heads::read_head(s, s.len(), at) {
         HeadRead::Head(h) => Read {
@@ -47,7 +46,7 @@ fn head_of(s: &[u8], at: usize) -> Read
 
 // How many bytes there are from a place on.
 fn left_of(s: &[u8], at: usize) -> usize
-    ensures { result ≡ length (was s) - at }
+    ensures { result ≡ length s.now - at }
 {
     let end = s.len();
     if end < at {
@@ -88,7 +87,7 @@ pub fn read_head<'s, 'a>(r: &'s mut Reader<'a>) -> Read
 
 // The same for a caller that has no reader, and so needs no proof by hand: one head at a place of an envelope.
 pub fn head_at(envelope: &[u8], at: usize) -> Read
-    ensures { result ≡ read_of (head (was envelope) (length (was envelope)) at) }
+    ensures { result ≡ read_of (head envelope.now (length envelope.now) at) }
 {
     let mut r = new(envelope, at);
     read_head(&mut r)
@@ -96,7 +95,7 @@ pub fn head_at(envelope: &[u8], at: usize) -> Read
 
 // How many bytes of an envelope are left from a place on.
 pub fn left_at(envelope: &[u8], at: usize) -> usize
-    ensures { result ≡ length (was envelope) - at }
+    ensures { result ≡ length envelope.now - at }
 {
     left(new(envelope, at))
 }

@@ -1,6 +1,5 @@
 // What a reader of check answers. All fields have one width, so that it costs little to hand back.
 ghost use Rattle.std.specs.Prelude.{◌≡◌, ◌≤◌, length};
-ghost use Rattle.rules.specs.Lent.{was};
 ghost use Rattle.rules.specs.Cbor as Cbor;
 ghost use Rattle.cbor_reading.specs.Reading.{fault, head_reading};
 
@@ -10,7 +9,7 @@ use cbor_short::{is_short, number_fits};
 use rules::answers::Refusal;
 
 // refusal is 0: what was read ends before `at`, and `value` is its number or count. Else refusal is the refusal's number, and `at` its place.
-#[derive(Drop)]
+#[derive(Clone, Copy)]
 pub struct Reading {
     pub refusal: usize,
     pub at: usize,
@@ -30,7 +29,7 @@ pub fn refuse(r: Refusal, at: usize) -> Reading
 // The head of an item of a wanted kind and range, of any width.
 fn any_item(s: &[u8], end: usize, at: usize, kind: usize, lo: usize, hi: usize) -> Reading
     requires { end ≤ length s.now }
-    ensures { result ≡ head_reading (Cbor.item kind lo hi (was s) end at) }
+    ensures { result ≡ head_reading (Cbor.item kind lo hi s.now end at) }
 {
     match read_item(s, end, at, kind, lo, hi) {
         ItemRead::Item(h) => Reading {
@@ -46,7 +45,7 @@ fn any_item(s: &[u8], end: usize, at: usize, kind: usize, lo: usize, hi: usize) 
 // The head of an item of a wanted kind and range: the place after the head, and its number. Most heads have one byte: these come first.
 pub fn item(s: &[u8], end: usize, at: usize, kind: usize, lo: usize, hi: usize) -> Reading
     requires { end ≤ length s.now }
-    ensures { result ≡ head_reading (Cbor.item kind lo hi (was s) end at) }
+    ensures { result ≡ head_reading (Cbor.item kind lo hi s.now end at) }
 {
     if at < end {
         let first = wide(s[at]);
@@ -68,7 +67,7 @@ pub fn item(s: &[u8], end: usize, at: usize, kind: usize, lo: usize, hi: usize) 
 // The head of nil.
 pub fn nil(s: &[u8], end: usize, at: usize) -> Reading
     requires { end ≤ length s.now }
-    ensures { result ≡ head_reading (Cbor.item Cbor.NIL 0 0 (was s) end at) }
+    ensures { result ≡ head_reading (Cbor.item Cbor.NIL 0 0 s.now end at) }
 {
     if at < end {
         if s[at] == 0xf6 {
@@ -85,7 +84,7 @@ pub fn nil(s: &[u8], end: usize, at: usize) -> Reading
 // The head of an item of either kind.
 pub fn one_of(s: &[u8], end: usize, at: usize, kind: usize, other: usize) -> Reading
     requires { end ≤ length s.now }
-    ensures { result ≡ head_reading (Cbor.one_of kind other (was s) end at) }
+    ensures { result ≡ head_reading (Cbor.one_of kind other s.now end at) }
 {
     match read_one_of(s, end, at, kind, other) {
         ItemRead::Item(h) => Reading {

@@ -1,6 +1,5 @@
 // The arguments of commands, by their places.
 ghost use Rattle.std.specs.Prelude.{◌≡◌, ◌⊎◌, ◌≤◌, length};
-ghost use Rattle.rules.specs.Lent.{was};
 ghost use Rattle.rules.specs.declared.tables.Parameter.TheVariants.{Source};
 ghost use Rattle.rules.specs.Tables.{by_number};
 ghost use Rattle.rules.specs.Cbor.{BYTES, TEXT};
@@ -19,7 +18,7 @@ use rules_tables::Table;
 // A number: the place after it, and its value.
 pub fn number(s: &[u8], end: usize, at: usize) -> Reading
     requires { end ≤ length s.now }
-    ensures { result ≡ reading (λ k. k) (Check.number (was s) end at) }
+    ensures { result ≡ reading (λ k. k) (Check.number s.now end at) }
 {
     item(s, end, at, cbor::NUMBER, 0, Controller::LARGEST_NUMBER)
 }
@@ -38,7 +37,7 @@ fn place(r: Reading) -> Reading
 // A string of lo to hi bytes.
 fn string(s: &[u8], kind: usize, lo: usize, hi: usize, end: usize, at: usize) -> Reading
     requires { (end ≤ length s.now) × ((kind ≡ BYTES) ⊎ (kind ≡ TEXT)) }
-    ensures { result ≡ item_reading (Cbor.item kind lo hi (was s) end at) }
+    ensures { result ≡ item_reading (Cbor.item kind lo hi s.now end at) }
 {
     let h = item(s, end, at, kind, lo, hi);
     let refusal = h.refusal;
@@ -55,7 +54,7 @@ fn string(s: &[u8], kind: usize, lo: usize, hi: usize, end: usize, at: usize) ->
 // The index of a component.
 fn component(s: &[u8], components: usize, end: usize, at: usize) -> Reading
     requires { end ≤ length s.now }
-    ensures { result ≡ after (Check.parameter (was s) components Source end at) }
+    ensures { result ≡ after (Check.parameter s.now components Source end at) }
 {
     let k = number(s, end, at);
     let refusal = k.refusal;
@@ -72,7 +71,7 @@ fn component(s: &[u8], components: usize, end: usize, at: usize) -> Reading
 // A parameter's value.
 fn parameter(s: &[u8], components: usize, what: Parameter, end: usize, at: usize) -> Reading
     requires { end ≤ length s.now }
-    ensures { result ≡ after (Check.parameter (was s) components what end at) }
+    ensures { result ≡ after (Check.parameter s.now components what end at) }
 {
     match what {
         Parameter::Coerce => place(one_of(s, end, at, cbor::FALSE, cbor::TRUE)),
@@ -96,7 +95,7 @@ fn entries(
     at: usize,
 ) -> Reading
     requires { (end ≤ length s.now) × (table.now ≡ by_number) }
-    ensures { result ≡ after (Check.entries (was s) components count 0 Check.nothing end at) }
+    ensures { result ≡ after (Check.entries s.now components count 0 Check.nothing end at) }
 {
     let mut p = at;
     let mut low = 0;
@@ -140,7 +139,7 @@ pub fn read_argument(
     at: usize,
 ) -> Reading
     requires { (end ≤ length s.now) × (table.now ≡ by_number) }
-    ensures { result ≡ reading (λ k. k) (argument_start (was s) components argument end at) }
+    ensures { result ≡ reading (λ k. k) (argument_start s.now components argument end at) }
 {
     match argument {
         Argument::Sixteen => {

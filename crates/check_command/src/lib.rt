@@ -1,6 +1,5 @@
 // The head of a command: its code, whether it may stand there, and what stands before the sequences that it holds.
 ghost use Rattle.std.specs.Prelude.{◌≡◌, ◌/◌, ◌%◌, ◌≤◌, ◌<◌, eqb, length};
-ghost use Rattle.rules.specs.Lent.{was};
 ghost use Rattle.rules.specs.Limits.{section_count};
 ghost use Rattle.rules.specs.Tables.{by_number, weight_of};
 ghost use Rattle.cbor_reading.specs.Reading.{reading};
@@ -43,7 +42,7 @@ pub fn open_command(
     at: usize,
 ) -> Reading
     requires { (end ≤ length s.now) × (table.now ≡ by_number) × Section section × (weight < section_count) }
-    ensures { result ≡ reading (λ k. k) (command_start (was s) components section weight commands end at) }
+    ensures { result ≡ reading (λ k. k) (command_start s.now components section weight commands end at) }
 {
     let c = number(s, end, at);
     let refusal = c.refusal;

@@ -1,6 +1,5 @@
 // Check: an envelope is checked against the rules of document 01.
 ghost use Rattle.std.specs.Prelude.{◌≡◌};
-ghost use Rattle.rules.specs.Lent.{was};
 ghost use Rattle.rules.specs.Check as Check;
 ghost use Rattle.check_envelope.specs.Report.{report_of, numbers_in, numbers_of};
 
@@ -17,7 +16,7 @@ pub mod report;
 
 // Checks an envelope: what it holds and where, or the first fault.
 pub fn check(s: &[u8]) -> Report
-    ensures { (result ≡ report_of (Check.check (was s))) × (numbers_in result ≡ numbers_of (Check.check (was s))) }
+    ensures { (result ≡ report_of (Check.check s.now)) × (numbers_in result ≡ numbers_of (Check.check s.now)) }
 {
     let end = s.len();
     if Controller::ENVELOPE_BYTES < end {

@@ -1,6 +1,5 @@
 // The envelope around the manifest.
 ghost use Rattle.std.specs.Prelude.{◌≡◌, ◌≤◌, length};
-ghost use Rattle.rules.specs.Lent.{was};
 ghost use Rattle.rules.specs.Check as Check;
 ghost use Rattle.cbor_reading.specs.Reading.{head_reading, place_reading};
 ghost use Rattle.check_envelope.specs.Outer.{manifest_head};
@@ -20,7 +19,7 @@ const ENTRIES: usize = 2;
 // Nil or a byte string: the place after it.
 fn unread(s: &[u8], end: usize, at: usize) -> Reading
     requires { end ≤ length s.now }
-    ensures { result ≡ place_reading (Check.unread (was s) end at) }
+    ensures { result ≡ place_reading (Check.unread s.now end at) }
 {
     match cbor::read_one_of(s, end, at, cbor::NIL, cbor::BYTES) {
         ItemRead::Item(h) => {
@@ -46,7 +45,7 @@ fn unread(s: &[u8], end: usize, at: usize) -> Reading
 // The byte string that holds the manifest: where its bytes start, and how many they are.
 pub(crate) fn read_outer(s: &[u8], end: usize) -> Reading
     requires { end ≤ length s.now }
-    ensures { result ≡ head_reading (manifest_head (was s) end) }
+    ensures { result ≡ head_reading (manifest_head s.now end) }
 {
     let h = item(s, end, 0, cbor::MAP, ENTRIES, ENTRIES);
     let refusal = h.refusal;

@@ -5,20 +5,20 @@ ghost use Rattle.check_envelope.specs.Report.{refused_report};
 use rules::answers::Refusal;
 use rules::controller::{PLACES, Places, SECTION_PLACES, SectionPlaces};
 
-#[derive(Drop)]
+#[derive(Clone, Copy)]
 pub struct Place {
     pub from: usize,
     pub to: usize,
 }
 
-#[derive(Drop)]
+#[derive(Clone, Copy)]
 pub enum Checked {
     Accepted,
     Refused(Refusal, usize),
 }
 
 // The places are those in the envelope: the first byte, and the one after the last. On a refusal all but the answer is 0.
-#[derive(Drop)]
+#[derive(Clone, Copy)]
 pub struct Report {
     pub answer: Checked,
     pub number: usize,

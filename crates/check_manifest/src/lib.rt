@@ -1,6 +1,5 @@
 // The manifest: its start, common, and the sections.
 ghost use Rattle.std.specs.Prelude.{◌≡◌, ◌≤◌, ◌<◌, length};
-ghost use Rattle.rules.specs.Lent.{was};
 ghost use Rattle.rules.specs.Limits.{section_count};
 ghost use Rattle.rules.specs.Tables.{by_number};
 ghost use Rattle.rules.specs.Check as Check;
@@ -33,7 +32,7 @@ const MOST_ENTRIES: usize = REQUIRED + SECTIONS - 1;
 // The key of the component list in common.
 const LIST_KEY: usize = 2;
 
-#[derive(Drop)]
+#[derive(Clone, Copy)]
 struct Front {
     refusal: usize,
     at: usize,
@@ -44,7 +43,7 @@ struct Front {
 // The version under its key, which is 1: the place after it.
 fn version(s: &[u8], end: usize, at: usize) -> Reading
     requires { end ≤ length s.now }
-    ensures { result ≡ place_reading (Check.version_at (was s) end at) }
+    ensures { result ≡ place_reading (Check.version_at s.now end at) }
 {
     let k = item(s, end, at, cbor::NUMBER, VERSION_KEY, VERSION_KEY);
     let refusal = k.refusal;
@@ -71,7 +70,7 @@ fn version(s: &[u8], end: usize, at: usize) -> Reading
 // The sequence number under its key, and the key of common after it.
 fn numbered(s: &[u8], end: usize, at: usize) -> Reading
     requires { end ≤ length s.now }
-    ensures { result ≡ reading (λ n. n) (Check.numbered_at (was s) end at) }
+    ensures { result ≡ reading (λ n. n) (Check.numbered_at s.now end at) }
 {
     let k = item(s, end, at, cbor::NUMBER, NUMBER_KEY, NUMBER_KEY);
     let refusal = k.refusal;
@@ -98,7 +97,7 @@ fn numbered(s: &[u8], end: usize, at: usize) -> Reading
 // The manifest up to common: how many entries it has, and its sequence number.
 fn read_front(s: &[u8], end: usize, at: usize) -> Front
     requires { end ≤ length s.now }
-    ensures { result ≡ front_of (Check.front_at (was s) end at) }
+    ensures { result ≡ front_of (Check.front_at s.now end at) }
 {
     let h = item(s, end, at, cbor::MAP, REQUIRED, MOST_ENTRIES);
     let refusal = h.refusal;
@@ -141,7 +140,7 @@ fn read_front(s: &[u8], end: usize, at: usize) -> Front
 // The component list in its byte string.
 fn component_list(s: &[u8], end: usize, at: usize, ids: &mut Places) -> Reading
     requires { end ≤ length s.now }
-    ensures { ListRead (Check.in_bytes (was s) (Check.components (was s)) end at) ids result }
+    ensures { ListRead (Check.in_bytes s.now (Check.components s.now) end at) ids result }
 {
     let b = item(s, end, at, cbor::BYTES, 0, Controller::LARGEST_NUMBER);
     let refusal = b.refusal;
@@ -162,7 +161,7 @@ fn component_list(s: &[u8], end: usize, at: usize, ids: &mut Places) -> Reading
     r
 }
 
-#[derive(Drop)]
+#[derive(Clone, Copy)]
 struct Common {
     refusal: usize,
     at: usize,
@@ -206,7 +205,7 @@ fn read_common(
     places: &mut SectionPlaces,
 ) -> Common
     requires { (end ≤ length s.now) × (table.now ≡ by_number) × (weight < section_count) }
-    ensures { CommonRead weight (Check.common_in (was s) weight end at) ids places result }
+    ensures { CommonRead weight (Check.common_in s.now weight end at) ids places result }
 {
     let b = item(s, end, at, cbor::BYTES, 0, Controller::LARGEST_NUMBER);
     let refusal = b.refusal;
@@ -249,7 +248,7 @@ fn read_common(
 }
 
 // On a refusal all but its number and place is 0.
-#[derive(Drop)]
+#[derive(Clone, Copy)]
 pub struct Body {
     pub refusal: usize,
     pub at: usize,
@@ -279,7 +278,7 @@ fn refused(refusal: usize, at: usize) -> Body
 // The manifest: its number, how many components it has, and where common, the identifiers and the sections stand.
 pub fn read_body(s: &[u8], table: &Table, end: usize, at: usize) -> Body
     requires { (end ≤ length s.now) × (table.now ≡ by_number) }
-    ensures { result ≡ body_of (Check.manifest_at (was s) end at) }
+    ensures { result ≡ body_of (Check.manifest_at s.now end at) }
 {
     let f = read_front(s, end, at);
     let refusal = f.refusal;

@@ -1,6 +1,5 @@
 // Sections: sequences in byte strings under ascending keys.
 ghost use Rattle.std.specs.Prelude.{◌≡◌, ◌+◌, ◌*◌, ◌≤◌, ◌<◌, length};
-ghost use Rattle.rules.specs.Lent.{was};
 ghost use Rattle.rules.specs.Limits.{section_count};
 ghost use Rattle.rules.specs.Commands.{PAYLOAD_FETCH, section_no};
 ghost use Rattle.rules.specs.Tables.{by_number};
@@ -47,7 +46,7 @@ fn section(
     places: &mut SectionPlaces,
 ) -> Reading
     requires { (end ≤ length s.now) × (table.now ≡ by_number) × Section key × (weight < section_count) }
-    ensures { SectionRead (λ x. commands + weight * count x.seq) (Check.section_at (was s) components key weight commands end at) places result }
+    ensures { SectionRead (λ x. commands + weight * count x.seq) (Check.section_at s.now components key weight commands end at) places result }
 {
     let b = item(s, end, at, cbor::BYTES, 0, Controller::LARGEST_NUMBER);
     let refusal = b.refusal;
@@ -93,7 +92,7 @@ pub(crate) fn sections(
     places: &mut SectionPlaces,
 ) -> Reading
     requires { (end ≤ length s.now) × (table.now ≡ by_number) }
-    ensures { SectionsRead (λ xs. commands + count_all xs) (Check.sections_at (was s) components k PAYLOAD_FETCH commands end at) places result }
+    ensures { SectionsRead (λ xs. commands + count_all xs) (Check.sections_at s.now components k PAYLOAD_FETCH commands end at) places result }
 {
     let mut p = at;
     let mut low = codes::PAYLOAD_FETCH;
@@ -135,7 +134,7 @@ pub(crate) fn common_sequence(
     places: &mut SectionPlaces,
 ) -> Reading
     requires { (end ≤ length s.now) × (table.now ≡ by_number) × (k ≤ 1) × (weight < section_count) }
-    ensures { SectionsRead (λ xs. weight * count_all xs) (Check.common_seq (was s) components weight k end at) places result }
+    ensures { SectionsRead (λ xs. weight * count_all xs) (Check.common_seq s.now components weight k end at) places result }
 {
     if k == 0 {
         return Reading {

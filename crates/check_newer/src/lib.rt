@@ -1,6 +1,5 @@
 // Newer: which of two envelopes has the newer manifest, and where it stands.
 ghost use Rattle.std.specs.Prelude.{◌≡◌};
-ghost use Rattle.rules.specs.Lent.{was};
 ghost use Rattle.rules.specs.Check as Check;
 ghost use Rattle.rules.specs.Newer as Rule;
 ghost use Rattle.check_newer.specs.Newer.{Handed, part_in, newest_of};
@@ -9,7 +8,7 @@ use check_envelope::check;
 use check_envelope::report::Checked;
 
 // The rank is 0 where the envelope is refused, and else one more than the sequence number.
-#[derive(Drop)]
+#[derive(Clone, Copy)]
 struct Part {
     rank: usize,
     from: usize,
@@ -17,7 +16,7 @@ struct Part {
 }
 
 fn part_in(s: &[u8]) -> Part
-    ensures { result ≡ part_in (Check.check (was s)) }
+    ensures { result ≡ part_in (Check.check s.now) }
 {
     let r = check(s);
     let answer = r.answer;
@@ -39,7 +38,7 @@ fn part_in(s: &[u8]) -> Part
 }
 
 // A place in the second envelope where `second` is 1, and in the first where it is 0.
-#[derive(Drop)]
+#[derive(Clone, Copy)]
 pub struct Newest {
     pub second: usize,
     pub from: usize,
@@ -47,7 +46,7 @@ pub struct Newest {
 }
 
 pub fn choose(a: &[u8], b: &[u8]) -> Newest
-    ensures { result ≡ newest_of (Rule.newer (was a) (was b)) }
+    ensures { result ≡ newest_of (Rule.newer a.now b.now) }
 {
     let x = part_in(a);
     let y = part_in(b);
@@ -67,7 +66,7 @@ pub fn choose(a: &[u8], b: &[u8]) -> Newest
 
 // The manifest of the newer of two envelopes, a part of that envelope itself. The first wins a tie, and one that is refused is passed over.
 pub fn newer<'a>(a: &'a [u8], b: &'a [u8]) -> &'a [u8]
-    ensures { Handed (Rule.newer (was a) (was b)) a.entry b.entry result }
+    ensures { Handed (Rule.newer a.now b.now) a.entry b.entry result }
 {
     let n = choose(a, b);
     let from = n.from;

@@ -1,6 +1,5 @@
 // Sequences hold commands and commands hold sequences.
 ghost use Rattle.std.specs.Prelude.{◌≡◌, ◌+◌, ◌*◌, ◌≤◌, ◌<◌, length};
-ghost use Rattle.rules.specs.Lent.{was};
 ghost use Rattle.rules.specs.Limits.{section_count};
 ghost use Rattle.rules.specs.Tables.{by_number};
 ghost use Rattle.rules.specs.Manifest.{count, count_cmd};
@@ -29,7 +28,7 @@ pub fn check_sequence(
     at: usize,
 ) -> Reading
     requires { (end ≤ length s.now) × (table.now ≡ by_number) × Section section × (weight < section_count) }
-    ensures { result ≡ reading (λ a. commands + weight * count a) (Check.sequence_at (was s) components section weight depth commands end at) }
+    ensures { result ≡ reading (λ a. commands + weight * count a) (Check.sequence_at s.now components section weight depth commands end at) }
 {
     let h = item(
         s,
@@ -85,7 +84,7 @@ fn check_command(
     at: usize,
 ) -> Reading
     requires { (end ≤ length s.now) × (table.now ≡ by_number) × Section section × (weight < section_count) }
-    ensures { result ≡ reading (λ c. commands + weight * count_cmd c) (command_at (was s) components section weight depth commands end at) }
+    ensures { result ≡ reading (λ c. commands + weight * count_cmd c) (command_at s.now components section weight depth commands end at) }
 {
     let o = open_command(s, table, components, section, weight, commands, end, at);
     let refusal = o.refusal;

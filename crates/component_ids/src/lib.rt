@@ -1,6 +1,5 @@
 // The component list: its identifiers, and the search for a repeated one.
 ghost use Rattle.std.specs.Prelude.{◌≡◌, ◌+◌, ◌≤◌, length};
-ghost use Rattle.rules.specs.Lent.{was, left};
 ghost use Rattle.rules.specs.Bytes.{part, InBytes, same};
 ghost use Rattle.rules.specs.Check as Check;
 ghost use Rattle.rules.specs.Limits.{limits};
@@ -15,7 +14,7 @@ use rules::controller::{Controller, Places};
 // So many byte strings: the place after them.
 fn strings(s: &[u8], end: usize, at: usize, count: usize) -> Reading
     requires { end ≤ length s.now }
-    ensures { result ≡ place_reading (Check.strings (was s) count end at) }
+    ensures { result ≡ place_reading (Check.strings s.now count end at) }
 {
     let mut p = at;
     let mut left = count;
@@ -37,7 +36,7 @@ fn strings(s: &[u8], end: usize, at: usize, count: usize) -> Reading
 // One identifier, whatever stands before it: the place after it.
 fn identifier(s: &[u8], end: usize, at: usize) -> Reading
     requires { end ≤ length s.now }
-    ensures { result ≡ place_reading (plain (was s) end at) }
+    ensures { result ≡ place_reading (plain s.now end at) }
 {
     let h = item(s, end, at, cbor::ARRAY, 1, Controller::IDENTIFIER_PARTS);
     if h.refusal != 0 {
@@ -57,7 +56,7 @@ fn identifier(s: &[u8], end: usize, at: usize) -> Reading
 // So many identifiers, until one is refused: how many were read, and their places.
 fn identifiers(s: &[u8], end: usize, at: usize, count: usize, ids: &mut Places) -> Reading
     requires { (end ≤ length s.now) × (count ≤ limits.components) }
-    ensures { (result ≡ listed (listing (was s) count end at)) × (left ids ≡ laid (listing (was s) count end at).ids (was ids)) }
+    ensures { (result ≡ listed (listing s.now count end at)) × (ids.new ≡ laid (listing s.now count end at).ids ids.old) }
 {
     let places: &mut [usize] = ids;
     let mut p = at;
@@ -88,7 +87,7 @@ fn identifiers(s: &[u8], end: usize, at: usize, count: usize, ids: &mut Places) 
 // Whether two parts of the envelope have the same bytes.
 fn same_bytes(s: &[u8], from: usize, size: usize, other: usize, width: usize) -> bool
     requires { (from + size ≤ length s.now) × (other + width ≤ length s.now) }
-    ensures { result ≡ same (part (was s) from size) (part (was s) other width) }
+    ensures { result ≡ same (part s.now from size) (part s.now other width) }
 {
     if size != width {
         return false;
@@ -96,7 +95,7 @@ fn same_bytes(s: &[u8], from: usize, size: usize, other: usize, width: usize) ->
     equal(s, from, s, other, size)
 }
 
-#[derive(Drop)]
+#[derive(Clone, Copy)]
 pub enum Repeat {
     At(usize),
     Nothing,
@@ -105,7 +104,7 @@ pub enum Repeat {
 // The first equal pair of the first `count` identifiers, the later one outside: the number of the later one.
 pub fn repeated_one(s: &[u8], ids: &Places, count: usize) -> Repeat
     requires { (count ≤ limits.components) × InBytes ids.now count (length s.now) }
-    ensures { result ≡ repeated (was s) (was ids) count }
+    ensures { result ≡ repeated s.now ids.now count }
 {
     let mut j = 0;
     let found = 'pairs: loop {
@@ -131,7 +130,7 @@ pub fn repeated_one(s: &[u8], ids: &Places, count: usize) -> Repeat
 // The component list: how many identifiers, and their places.
 pub fn components(s: &[u8], end: usize, at: usize, ids: &mut Places) -> Reading
     requires { end ≤ length s.now }
-    ensures { (result ≡ reading length (Check.components (was s) end at)) × (left ids ≡ laid (ids_read (was s) end at) (was ids)) }
+    ensures { (result ≡ reading length (Check.components s.now end at)) × (ids.new ≡ laid (ids_read s.now end at) ids.old) }
 {
     let h = item(s, end, at, cbor::ARRAY, 1, Controller::COMPONENTS);
     if h.refusal != 0 {

@@ -1,6 +1,5 @@
 // The fields of a case.
 ghost use Rattle.std.specs.Prelude.{◌≡◌, ◌+◌, ◌≤◌, length};
-ghost use Rattle.rules.specs.Lent.{was};
 ghost use Rattle.rules.specs.Bytes.{part};
 ghost use Rattle.rules.specs.Limits.{limits};
 ghost use Rattle.conformance_cases.specs.Fields.{StringAt, run_head, device_of};
@@ -30,7 +29,7 @@ pub(crate) const RUN_HEAD: usize = 42;
 
 // The end of the string at the start of b, or 0.
 pub(crate) fn string_end(b: &[u8]) -> usize
-    ensures { StringAt (was b) result }
+    ensures { StringAt b.now result }
 {
     if b.len() < 2 {
         return 0;
@@ -44,7 +43,7 @@ pub(crate) fn string_end(b: &[u8]) -> usize
 
 fn sixteen(b: &[u8], at: usize) -> Sixteen
     requires { at + limits.class ≤ length b.now }
-    ensures { result ≡ part (was b) at limits.class }
+    ensures { result ≡ part b.now at limits.class }
 {
     let mut id = [0u8; Controller::CLASS_BYTES];
     let mut k = 0;
@@ -58,7 +57,7 @@ fn sixteen(b: &[u8], at: usize) -> Sixteen
 // The device in the head of a run.
 pub(crate) fn device_of(head: &[u8]) -> Device
     requires { length head.now ≡ run_head }
-    ensures { result ≡ device_of (was head) }
+    ensures { result ≡ device_of head.now }
 {
     let vendor = sixteen(head, VENDOR);
     let class = sixteen(head, CLASS);

@@ -1,6 +1,5 @@
 // The jobs, each with memory of its own, and the line of its answer.
 ghost use Rattle.std.specs.Prelude.{◌≡◌, ◌<◌, length};
-ghost use Rattle.rules.specs.Lent.{was};
 ghost use Rattle.text.specs.Text.{Writes};
 ghost use Rattle.pitvorgas.specs.Answers.{Answers};
 ghost use Rattle.conformance_cases.specs.Fields.{run_head, device_of};
@@ -19,20 +18,20 @@ use pitvorgas_answers::RunAnswer;
 use text::put;
 
 pub(crate) fn check_line(envelope: &[u8], room: &mut [u8]) -> usize
-    ensures { Writes (check_line (was envelope)) 0 room result }
+    ensures { Writes (check_line envelope.now) 0 room result }
 {
     put_checked(room, 0, pitvorgas_check(envelope))
 }
 
 pub(crate) fn newer_line(first: &[u8], second: &[u8], room: &mut [u8]) -> usize
-    ensures { Writes (newer_line (was first) (was second)) 0 room result }
+    ensures { Writes (newer_line first.now second.now) 0 room result }
 {
     put_newer(room, 0, pitvorgas_newer(first, second))
 }
 
 // A translation into lent room.
 fn translate_into(envelope: &[u8], boot: bool, lent: &mut [u8], room: &mut [u8]) -> usize
-    ensures { Writes (translate_line (was envelope) boot (length (was lent))) 0 room result }
+    ensures { Writes (translate_line envelope.now boot (length lent.old)) 0 room result }
 {
     fill(lent, ROOM_FILL);
     let answer = pitvorgas_translate(envelope, boot, lent);
@@ -41,7 +40,7 @@ fn translate_into(envelope: &[u8], boot: bool, lent: &mut [u8], room: &mut [u8])
 
 pub(crate) fn translate_line(envelope: &[u8], boot: bool, n: usize, room: &mut [u8]) -> usize
     requires { n < 65536 }
-    ensures { Writes (translate_line (was envelope) boot n) 0 room result }
+    ensures { Writes (translate_line envelope.now boot n) 0 room result }
 {
     let mut lent = memory();
     translate_into(envelope, boot, &mut lent[..n], room)
@@ -57,7 +56,7 @@ fn run_by(
     trace: &mut [u8],
 ) -> RunAnswer
     requires { length head.now ≡ run_head }
-    ensures { Answers (ran_by program (was head) (was s) (was slots) (was answers) (was trace)) (device_of (was head)) slots trace result }
+    ensures { Answers (ran_by program head.now s.now slots.old answers.now trace.old) (device_of head.now) slots trace result }
 {
     let device = device_of(head);
     let verdict = head[VERDICT] != 0;
@@ -80,7 +79,7 @@ fn run_with(
     room: &mut [u8],
 ) -> usize
     requires { (length head.now ≡ run_head) × (length slots.old ≡ length before.now) }
-    ensures { Writes (run_filled program (was head) (was before) (was answers) (was s) (length (was trace))) 0 room result }
+    ensures { Writes (run_filled program head.now before.now answers.now s.now (length trace.old)) 0 room result }
 {
     put(slots, 0, before);
     let x = head[FILL];
@@ -98,7 +97,7 @@ pub(crate) fn run_line(
     room: &mut [u8],
 ) -> usize
     requires { (length head.now ≡ run_head) × (length before.now < 65536) }
-    ensures { Writes (run_line program (was head) (was before) (was answers) (was s)) 0 room result }
+    ensures { Writes (run_line program head.now before.now answers.now s.now) 0 room result }
 {
     let mut slots = memory();
     let mut trace = memory();
@@ -118,7 +117,7 @@ pub(crate) fn run_line(
 
 // The head at a place of an envelope, and what is left after it.
 pub(crate) fn head_line(envelope: &[u8], place: usize, room: &mut [u8]) -> usize
-    ensures { Writes (head_line (was envelope) place) 0 room result }
+    ensures { Writes (head_line envelope.now place) 0 room result }
 {
     let head = head_at(envelope, place);
     let left = left_at(envelope, head.next);

@@ -1,6 +1,5 @@
 // A case of the conformance program: a job with its input in a compact form, done, and its answer as a line of text.
 ghost use Rattle.std.specs.Prelude.{◌≡◌, ◌<◌, length};
-ghost use Rattle.rules.specs.Lent.{was};
 ghost use Rattle.text.specs.Text.{Writes};
 ghost use Rattle.conformance_cases.specs.Fields.{run_head};
 ghost use Rattle.conformance_cases.specs.Cases.{malformed_text, line_of, job_line, newer_case, translate_case, run_case, run_slots, run_answers, head_case};
@@ -36,7 +35,7 @@ fn put_malformed(room: &mut [u8]) -> usize
 }
 
 fn newer_case(b: &[u8], room: &mut [u8]) -> usize
-    ensures { Writes (newer_case (was b)) 0 room result }
+    ensures { Writes (newer_case b.now) 0 room result }
 {
     let end = string_end(b);
     if end == 0 {
@@ -46,7 +45,7 @@ fn newer_case(b: &[u8], room: &mut [u8]) -> usize
 }
 
 fn translate_case(b: &[u8], room: &mut [u8]) -> usize
-    ensures { Writes (translate_case (was b)) 0 room result }
+    ensures { Writes (translate_case b.now) 0 room result }
 {
     if b.len() < TRANSLATE_HEAD {
         return put_malformed(room);
@@ -57,7 +56,7 @@ fn translate_case(b: &[u8], room: &mut [u8]) -> usize
 
 fn run_answers(program: bool, head: &[u8], slots: &[u8], b: &[u8], room: &mut [u8]) -> usize
     requires { (length head.now ≡ run_head) × (length slots.now < 65536) }
-    ensures { Writes (run_answers program (was head) (was slots) (was b)) 0 room result }
+    ensures { Writes (run_answers program head.now slots.now b.now) 0 room result }
 {
     let end = string_end(b);
     if end == 0 {
@@ -68,7 +67,7 @@ fn run_answers(program: bool, head: &[u8], slots: &[u8], b: &[u8], room: &mut [u
 
 fn run_slots(program: bool, head: &[u8], b: &[u8], room: &mut [u8]) -> usize
     requires { length head.now ≡ run_head }
-    ensures { Writes (run_slots program (was head) (was b)) 0 room result }
+    ensures { Writes (run_slots program head.now b.now) 0 room result }
 {
     let end = string_end(b);
     if end == 0 {
@@ -78,7 +77,7 @@ fn run_slots(program: bool, head: &[u8], b: &[u8], room: &mut [u8]) -> usize
 }
 
 fn run_case(program: bool, b: &[u8], room: &mut [u8]) -> usize
-    ensures { Writes (run_case program (was b)) 0 room result }
+    ensures { Writes (run_case program b.now) 0 room result }
 {
     if b.len() < RUN_HEAD {
         return put_malformed(room);
@@ -87,7 +86,7 @@ fn run_case(program: bool, b: &[u8], room: &mut [u8]) -> usize
 }
 
 fn head_case(b: &[u8], room: &mut [u8]) -> usize
-    ensures { Writes (head_case (was b)) 0 room result }
+    ensures { Writes (head_case b.now) 0 room result }
 {
     if b.len() < PLACE_BYTES {
         return put_malformed(room);
@@ -96,7 +95,7 @@ fn head_case(b: &[u8], room: &mut [u8]) -> usize
 }
 
 fn job_line(job: u8, b: &[u8], room: &mut [u8]) -> usize
-    ensures { Writes (job_line job (was b)) 0 room result }
+    ensures { Writes (job_line job b.now) 0 room result }
 {
     if job == CHECK {
         return check_line(b, room);
@@ -121,7 +120,7 @@ fn job_line(job: u8, b: &[u8], room: &mut [u8]) -> usize
 
 // Does the case and writes its line at the start of the room.
 pub fn answer(case: &[u8], room: &mut [u8]) -> usize
-    ensures { Writes (line_of (was case)) 0 room result }
+    ensures { Writes (line_of case.now) 0 room result }
 {
     if case.len() == 0 {
         return put_malformed(room);

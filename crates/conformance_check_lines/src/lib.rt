@@ -1,6 +1,5 @@
 // The lines of check.
 ghost use Rattle.std.specs.Prelude.{◌<◌};
-ghost use Rattle.rules.specs.Lent.{was};
 ghost use Rattle.text.specs.Text.{Writes};
 ghost use Rattle.rules.specs.Limits.{limits};
 ghost use Rattle.conformance_check_lines.specs.CheckLines.{place_text, places_text, sections_text, accepted_text, checked_text};
@@ -13,7 +12,7 @@ use text::least;
 // The places of component k, behind a space or a comma.
 fn put_place(room: &mut [u8], at: usize, ids: &[usize], k: usize) -> usize
     requires { k < limits.components }
-    ensures { Writes (place_text (was ids) k) at room result }
+    ensures { Writes (place_text ids.now k) at room result }
 {
     let numbers = [number_at(ids, 2 * k), number_at(ids, 2 * k + 1)];
     if k == 0 {
@@ -23,7 +22,7 @@ fn put_place(room: &mut [u8], at: usize, ids: &[usize], k: usize) -> usize
 }
 
 fn put_places(room: &mut [u8], at: usize, ids: &[usize], components: usize) -> usize
-    ensures { Writes (places_text (was ids) components) at room result }
+    ensures { Writes (places_text ids.now components) at room result }
 {
     let end = least(components, Controller::COMPONENTS);
     let mut to = at;
@@ -36,7 +35,7 @@ fn put_places(room: &mut [u8], at: usize, ids: &[usize], components: usize) -> u
 }
 
 fn put_sections(room: &mut [u8], at: usize, s: &SectionPlaces) -> usize
-    ensures { Writes (sections_text (was s)) at room result }
+    ensures { Writes (sections_text s.now) at room result }
 {
     let there = [
         least(s[3], 1),
@@ -56,7 +55,7 @@ fn put_accepted(
     ids: &[usize],
     sections: &SectionPlaces,
 ) -> usize
-    ensures { Writes (accepted_text number components (was ids) (was sections)) at room result }
+    ensures { Writes (accepted_text number components ids.now sections.now) at room result }
 {
     let a = put_format(room, at, b"accepted %", &[number]);
     let b = put_places(room, a, ids, components);

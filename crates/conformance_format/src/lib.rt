@@ -1,6 +1,5 @@
 // What the lines of answers share: numbers in a template, a refusal, and bytes in hexadecimal.
 ghost use Rattle.std.specs.Prelude.{◌≡◌, get_or};
-ghost use Rattle.rules.specs.Lent.{was};
 ghost use Rattle.text.specs.Text.{Writes};
 ghost use Rattle.conformance_format.specs.Format.{format, piece, refused_text, bytes_text};
 
@@ -12,7 +11,7 @@ const PERCENT: u8 = 37;
 pub const NEWLINE: u8 = 10;
 
 pub fn number_at(numbers: &[usize], k: usize) -> usize
-    ensures { result ≡ get_or (was numbers) k 0 }
+    ensures { result ≡ get_or numbers.now k 0 }
 {
     if k < numbers.len() {
         return numbers[k];
@@ -30,7 +29,7 @@ fn put_piece(room: &mut [u8], at: usize, c: u8, n: usize) -> usize
 }
 
 pub fn put_format(room: &mut [u8], at: usize, template: &[u8], numbers: &[usize]) -> usize
-    ensures { Writes (format (was template) (was numbers)) at room result }
+    ensures { Writes (format template.now numbers.now) at room result }
 {
     let mut to = at;
     let mut i = 0;
@@ -53,7 +52,7 @@ pub fn put_refused(room: &mut [u8], at: usize, number: usize, place: usize) -> u
 }
 
 pub fn put_bytes(room: &mut [u8], at: usize, b: &[u8]) -> usize
-    ensures { Writes (bytes_text (was b)) at room result }
+    ensures { Writes (bytes_text b.now) at room result }
 {
     if b.len() == 0 {
         return put_byte(room, at, b'-');

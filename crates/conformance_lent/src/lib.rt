@@ -1,6 +1,5 @@
 // Lent bytes: filled before a job, and looked at after it, beside the line of its answer.
 ghost use Rattle.std.specs.Prelude.{◌≡◌, length, drop, replicate};
-ghost use Rattle.rules.specs.Lent.{was, left};
 ghost use Rattle.text.specs.Text.{Writes};
 ghost use Rattle.conformance_lent.specs.Lent.{all_are, altered_text, translation_line, kept_all, ran_line};
 
@@ -21,7 +20,7 @@ pub fn memory() -> [u8; 65536]
 }
 
 pub fn fill(b: &mut [u8], x: u8)
-    ensures { left b ≡ replicate (length (was b)) x }
+    ensures { b.new ≡ replicate (length b.old) x }
 {
     let mut i = 0;
     while i < b.len() {
@@ -32,7 +31,7 @@ pub fn fill(b: &mut [u8], x: u8)
 
 // Whether every byte from `at` on is x.
 fn all_are(b: &[u8], at: usize, x: u8) -> bool
-    ensures { result ≡ all_are x (drop at (was b)) }
+    ensures { result ≡ all_are x (drop at b.now) }
 {
     let mut i = at;
     while i < b.len() {
@@ -54,7 +53,7 @@ fn put_altered(room: &mut [u8], at: usize, kept: bool) -> usize
 }
 
 pub fn put_translation(room: &mut [u8], answer: TranslateAnswer, lent: &[u8]) -> usize
-    ensures { Writes (translation_line answer (was lent)) 0 room result }
+    ensures { Writes (translation_line answer lent.now) 0 room result }
 {
     let end = least(answer.length, lent.len());
     let kept = all_are(lent, end, ROOM_FILL);
@@ -63,7 +62,7 @@ pub fn put_translation(room: &mut [u8], answer: TranslateAnswer, lent: &[u8]) ->
 }
 
 fn kept_all(answer: RunAnswer, before: &[u8], slots: &[u8], fill: u8, trace: &[u8]) -> bool
-    ensures { result ≡ kept_all answer (was before) (was slots) fill (was trace) }
+    ensures { result ≡ kept_all answer before.now slots.now fill trace.now }
 {
     let n = events_end(answer.events, trace.len());
     if !all_are(trace, n, fill) {
@@ -83,7 +82,7 @@ pub fn put_run(
     fill: u8,
     trace: &[u8],
 ) -> usize
-    ensures { Writes (ran_line answer (was before) (was slots) fill (was trace)) 0 room result }
+    ensures { Writes (ran_line answer before.now slots.now fill trace.now) 0 room result }
 {
     let kept = kept_all(answer, before, slots, fill, trace);
     let a = put_ran(room, 0, answer, slots, trace);

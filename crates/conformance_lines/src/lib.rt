@@ -1,5 +1,4 @@
 // The lines of newer, translate and a head.
-ghost use Rattle.rules.specs.Lent.{was};
 ghost use Rattle.text.specs.Text.{Writes};
 ghost use Rattle.conformance_lines.specs.Lines.{newer_text, program_text, translated_text, head_text};
 
@@ -20,7 +19,7 @@ pub fn put_newer(room: &mut [u8], at: usize, answer: NewerAnswer) -> usize
 }
 
 fn put_program(room: &mut [u8], at: usize, program: &[u8]) -> usize
-    ensures { Writes (program_text (was program)) at room result }
+    ensures { Writes (program_text program.now) at room result }
 {
     let a = put(room, at, b"program ");
     let b = put_bytes(room, a, program);
@@ -28,7 +27,7 @@ fn put_program(room: &mut [u8], at: usize, program: &[u8]) -> usize
 }
 
 pub fn put_translated(room: &mut [u8], at: usize, answer: TranslateAnswer, lent: &[u8]) -> usize
-    ensures { Writes (translated_text answer (was lent)) at room result }
+    ensures { Writes (translated_text answer lent.now) at room result }
 {
     if answer.refusal == 0 {
         let n = least(answer.length, lent.len());

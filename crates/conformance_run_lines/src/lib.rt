@@ -1,6 +1,5 @@
 // The line of a run.
 ghost use Rattle.std.specs.Prelude.{◌≡◌, ◌*◌, ◌/◌, length};
-ghost use Rattle.rules.specs.Lent.{was};
 ghost use Rattle.text.specs.Text.{Writes, least as Text·least};
 ghost use Rattle.rules.specs.Slots.{slot_bytes};
 ghost use Rattle.rules.specs.Step.{event_bytes};
@@ -28,7 +27,7 @@ fn put_separator(room: &mut [u8], at: usize, k: usize) -> usize
 
 fn put_name(room: &mut [u8], at: usize, slots: &[u8], k: usize) -> usize
     requires { Holds slots.now k }
-    ensures { Writes (name_text (was slots) k) at room result }
+    ensures { Writes (name_text slots.now k) at room result }
 {
     let from = SLOT_BYTES * k + IDENTIFIER;
     let to = from + least(wide(slots[SLOT_BYTES * k]), Controller::IDENTIFIER_BYTES);
@@ -38,7 +37,7 @@ fn put_name(room: &mut [u8], at: usize, slots: &[u8], k: usize) -> usize
 
 fn put_image(room: &mut [u8], at: usize, slots: &[u8], k: usize) -> usize
     requires { Holds slots.now k }
-    ensures { Writes (image_text (was slots) k) at room result }
+    ensures { Writes (image_text slots.now k) at room result }
 {
     let numbers = [
         capacity(slots, k),
@@ -52,7 +51,7 @@ fn put_image(room: &mut [u8], at: usize, slots: &[u8], k: usize) -> usize
 }
 
 fn put_slots(room: &mut [u8], at: usize, slots: &[u8]) -> usize
-    ensures { Writes (slots_text (was slots) (length (was slots) / slot_bytes)) at room result }
+    ensures { Writes (slots_text slots.now (length slots.now / slot_bytes)) at room result }
 {
     let n = slots.len() / SLOT_BYTES;
     let mut to = at;
@@ -76,7 +75,7 @@ pub fn events_end(events: usize, length: usize) -> usize
 }
 
 fn put_events(room: &mut [u8], at: usize, events: usize, trace: &[u8]) -> usize
-    ensures { Writes (events_text events (was trace)) at room result }
+    ensures { Writes (events_text events trace.now) at room result }
 {
     let n = events_end(events, trace.len());
     let a = put_byte(room, at, b' ');
@@ -85,7 +84,7 @@ fn put_events(room: &mut [u8], at: usize, events: usize, trace: &[u8]) -> usize
 }
 
 fn put_end(room: &mut [u8], at: usize, answer: RunAnswer, slots: &[u8], trace: &[u8]) -> usize
-    ensures { Writes (end_text answer (was slots) (was trace)) at room result }
+    ensures { Writes (end_text answer slots.now trace.now) at room result }
 {
     let numbers = [
         answer.end,
@@ -100,7 +99,7 @@ fn put_end(room: &mut [u8], at: usize, answer: RunAnswer, slots: &[u8], trace: &
 }
 
 pub fn put_ran(room: &mut [u8], at: usize, answer: RunAnswer, slots: &[u8], trace: &[u8]) -> usize
-    ensures { Writes (ran_text answer (was slots) (was trace)) at room result }
+    ensures { Writes (ran_text answer slots.now trace.now) at room result }
 {
     if answer.refusal == 0 {
         return put_end(room, at, answer, slots, trace);

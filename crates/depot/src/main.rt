@@ -1,5 +1,4 @@
 // The depot tool: checks, shows, compares and translates files of envelopes, lists programs, and runs both on described devices.
-ghost use Rattle.rules.specs.Lent.{left};
 ghost use Rattle.io.specs.Counts.{IsPrefixLen};
 
 mod batch;
@@ -19,7 +18,7 @@ use text::{put, put_byte};
 
 // Word i, at the start of the buffer; of one that is too long for a path, as much as makes it so.
 fn read_arg(i: usize, word: &mut [u8]) -> usize
-    ensures { IsPrefixLen result (left word) }
+    ensures { IsPrefixLen result word.new }
 {
     let n = os::arg(i, word);
     if os::errno() == libc::ENAMETOOLONG {

@@ -1,6 +1,5 @@
 // The argument of a program's record, below its line: the parameters, or the bytes in hexadecimal.
 ghost use Rattle.std.specs.Prelude.{◌≡◌, ◌+◌, ◌≤◌, length, get_or};
-ghost use Rattle.rules.specs.Lent.{was};
 ghost use Rattle.rules.specs.ProgramFormat.{entry_length_from, entry_size};
 ghost use Rattle.rules_kinds.specs.Kinds.{kind_of};
 ghost use Rattle.text.specs.Text.{Writes};
@@ -24,7 +23,7 @@ const INDENT: usize = 12;
 
 // How long the parameter at the start of the bytes is, 0 if none lies there.
 pub fn size_of(s: &[u8]) -> usize
-    ensures { (result ≡ parameter_size (was s)) × (result ≤ length (was s)) }
+    ensures { (result ≡ parameter_size s.now) × (result ≤ length s.now) }
 {
     if s.len() < ENTRY_BYTES {
         return 0;
@@ -38,7 +37,7 @@ pub fn size_of(s: &[u8]) -> usize
 
 fn put_parameter(room: &mut [u8], at: usize, s: &[u8]) -> usize
     requires { entry_size + get_or s.now entry_length_from 0 ≤ length s.now }
-    ensures { Writes (parameter_text (was s)) at room result }
+    ensures { Writes (parameter_text s.now) at room result }
 {
     let key = wide(s[0]);
     let end = ENTRY_BYTES + wide(s[ENTRY_LENGTH]);
@@ -51,7 +50,7 @@ fn put_parameter(room: &mut [u8], at: usize, s: &[u8]) -> usize
 
 // Bytes that are no parameter.
 fn put_stray(room: &mut [u8], at: usize, s: &[u8]) -> usize
-    ensures { Writes (stray_text (was s)) at room result }
+    ensures { Writes (stray_text s.now) at room result }
 {
     if s.len() == 0 {
         return at;
@@ -60,7 +59,7 @@ fn put_stray(room: &mut [u8], at: usize, s: &[u8]) -> usize
 }
 
 fn put_parameters(room: &mut [u8], at: usize, s: &[u8]) -> usize
-    ensures { Writes (parameters_text (was s)) at room result }
+    ensures { Writes (parameters_text s.now) at room result }
 {
     let mut to = at;
     let mut rest = s;
@@ -78,7 +77,7 @@ fn put_parameters(room: &mut [u8], at: usize, s: &[u8]) -> usize
 }
 
 fn put_bytes(room: &mut [u8], at: usize, s: &[u8]) -> usize
-    ensures { Writes (hex_text (was s)) at room result }
+    ensures { Writes (hex_text s.now) at room result }
 {
     if s.len() == 0 {
         return at;
@@ -103,7 +102,7 @@ fn lists_parameters(code: usize) -> bool
 }
 
 pub fn put_argument(room: &mut [u8], at: usize, code: usize, s: &[u8]) -> usize
-    ensures { Writes (argument_text code (was s)) at room result }
+    ensures { Writes (argument_text code s.now) at room result }
 {
     if lists_parameters(code) {
         return put_parameters(room, at, s);

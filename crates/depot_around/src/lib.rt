@@ -1,6 +1,5 @@
 // The bytes around a place, as text in lent room.
 ghost use Rattle.std.specs.Prelude.{◌≡◌, ◌<◌, ◌+◌, ◌-◌, length};
-ghost use Rattle.rules.specs.Lent.{was};
 ghost use Rattle.text.specs.Text.{Writes};
 ghost use Rattle.text_pieces.specs.Pieces.{between, spaced};
 ghost use Rattle.depot_around.specs.Around.{shown, before_text, around_text};
@@ -23,7 +22,7 @@ fn back(p: usize) -> usize
 }
 
 fn put_before(room: &mut [u8], at: usize, s: &[u8], p: usize) -> usize
-    ensures { Writes (before_text (was s) p) at room result }
+    ensures { Writes (before_text s.now p) at room result }
 {
     let from = back(p);
     let a = put_labelled(room, at, b"  ", from);
@@ -34,7 +33,7 @@ fn put_before(room: &mut [u8], at: usize, s: &[u8], p: usize) -> usize
 // The bytes shown after p, or as many as there are.
 fn put_after(room: &mut [u8], at: usize, s: &[u8], p: usize) -> usize
     requires { p < length s.now }
-    ensures { Writes (spaced (between (was s) (p + 1) (p + (1 + shown)))) at room result }
+    ensures { Writes (spaced (between s.now (p + 1) (p + (1 + shown)))) at room result }
 {
     let end = s.len();
     if end - p < END {
@@ -45,7 +44,7 @@ fn put_after(room: &mut [u8], at: usize, s: &[u8], p: usize) -> usize
 
 // The bytes around a place.
 pub fn put_around(room: &mut [u8], at: usize, s: &[u8], p: usize) -> usize
-    ensures { Writes (around_text (was s) p) at room result }
+    ensures { Writes (around_text s.now p) at room result }
 {
     let end = s.len();
     if end <= p {

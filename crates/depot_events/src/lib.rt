@@ -1,6 +1,5 @@
 // The events of a trace, as a table in lent room.
 ghost use Rattle.std.specs.Prelude.{◌≡◌, ◌+◌, ◌*◌, ◌/◌, ◌≤◌, length, get_or};
-ghost use Rattle.rules.specs.Lent.{was};
 ghost use Rattle.rules.specs.Step.{event_bytes};
 ghost use Rattle.text.specs.Text.{Writes};
 ghost use Rattle.text_pieces.specs.Pieces.{lines};
@@ -17,7 +16,7 @@ use text_numbers::put_padded;
 
 // The note of an event, none if there is no byte for it.
 fn note_at(notes: &[u8], k: usize) -> u8
-    ensures { result ≡ get_or (was notes) k 0 }
+    ensures { result ≡ get_or notes.now k 0 }
 {
     if notes.len() <= k {
         return NO_NOTE;
@@ -62,7 +61,7 @@ fn put_fields(
 
 fn put_event(room: &mut [u8], at: usize, trace: &[u8], notes: &[u8], k: usize) -> usize
     requires { event_bytes * k + event_bytes ≤ length trace.now }
-    ensures { Writes (event_text (was trace) (was notes) k) at room result }
+    ensures { Writes (event_text trace.now notes.now k) at room result }
 {
     let p = EVENT_BYTES * k;
     let code = wide(trace[p + CODE]);
@@ -77,7 +76,7 @@ fn put_event(room: &mut [u8], at: usize, trace: &[u8], notes: &[u8], k: usize) -
 
 fn put_each(room: &mut [u8], at: usize, trace: &[u8], notes: &[u8], n: usize) -> usize
     requires { event_bytes * n ≤ length trace.now }
-    ensures { Writes (lines (event_text (was trace) (was notes)) n) at room result }
+    ensures { Writes (lines (event_text trace.now notes.now) n) at room result }
 {
     let mut to = at;
     let mut k = 0;
@@ -90,7 +89,7 @@ fn put_each(room: &mut [u8], at: usize, trace: &[u8], notes: &[u8], n: usize) ->
 
 // The first events of the trace, as many of them as lie in it, each with its note.
 pub fn put_events(room: &mut [u8], at: usize, trace: &[u8], notes: &[u8], count: usize) -> usize
-    ensures { Writes (events_text (was trace) (was notes) count) at room result }
+    ensures { Writes (events_text trace.now notes.now count) at room result }
 {
     let to = put(
         room,

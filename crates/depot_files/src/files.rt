@@ -1,6 +1,5 @@
 // Files that the command line names; `-` is standard input, or standard output.
 ghost use Rattle.std.specs.Prelude.{◌≡◌};
-ghost use Rattle.rules.specs.Lent.{was, left};
 ghost use Rattle.rules.specs.Bytes.{same};
 ghost use Rattle.io.specs.Counts.{IsPrefixLen};
 ghost use Rattle.text.specs.Text.{ascii};
@@ -13,7 +12,7 @@ use depot_messages::Message;
 use libc::STDIN_FILENO;
 
 // Whether a file was read, and how many bytes it has.
-#[derive(Drop)]
+#[derive(Clone, Copy)]
 pub struct Loaded {
     pub ok: bool,
     pub n: usize,
@@ -21,14 +20,14 @@ pub struct Loaded {
 
 // Whether a name stands for standard input or output.
 pub fn is_standard(name: &[u8]) -> bool
-    ensures { result ≡ same (was name) (ascii "-") }
+    ensures { result ≡ same name.now (ascii "-") }
 {
     is(name, b"-")
 }
 
 // The bytes of an open file, if it ends within the buffer.
 fn read_whole(fd: i32, name: &[u8], buf: &mut [u8], err: i32) -> Loaded
-    ensures { IsPrefixLen result.n (left buf) }
+    ensures { IsPrefixLen result.n buf.new }
 {
     let n = io::read_full(fd, buf);
     // a read that failed shows here again, and so does a file that goes on
@@ -47,7 +46,7 @@ fn read_whole(fd: i32, name: &[u8], buf: &mut [u8], err: i32) -> Loaded
 
 // The file of that name, at the start of the buffer.
 pub fn load(name: &[u8], buf: &mut [u8], err: i32) -> Loaded
-    ensures { IsPrefixLen result.n (left buf) }
+    ensures { IsPrefixLen result.n buf.new }
 {
     if is_standard(name) {
         return read_whole(STDIN_FILENO, name, buf, err);
@@ -92,7 +91,7 @@ pub fn store(name: &[u8], bytes: &[u8], streams: Streams, status: usize) -> usiz
 
 // Where the report goes beside a file that is written: not to standard output where the file does.
 pub fn beside(name: &[u8], streams: Streams) -> Streams
-    ensures { result ≡ report_streams (was name) streams }
+    ensures { result ≡ report_streams name.now streams }
 {
     let err = streams.err;
     if is_standard(name) {

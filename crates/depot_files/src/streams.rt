@@ -1,6 +1,5 @@
 // What a command writes: its answer on one stream, messages on another.
 ghost use Rattle.std.specs.Prelude.{◌≡◌, length};
-ghost use Rattle.rules.specs.Lent.{was};
 ghost use Rattle.io.specs.Counts.{IsPrefixLen};
 ghost use Rattle.depot_status.specs.Status.{FAULT as Status-as-FAULT, Told};
 
@@ -8,7 +7,7 @@ use depot_messages::{Message, put_message, put_named};
 use depot_status::FAULT;
 use device_faults::put_fault;
 
-#[derive(Drop)]
+#[derive(Clone, Copy)]
 pub struct Streams {
     pub out: i32,
     pub err: i32,
@@ -24,7 +23,7 @@ pub fn page() -> [u8; 262144]
 
 // How much of a page is text, if that is its first `to` bytes.
 pub fn fitted(page: &[u8], to: usize) -> usize
-    ensures { IsPrefixLen result (was page) }
+    ensures { IsPrefixLen result page.now }
 {
     if to <= page.len() {
         return to;

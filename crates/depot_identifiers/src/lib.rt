@@ -1,6 +1,5 @@
 // Identifiers as text: in hexadecimal, and where they are read as parts of which one prints, the parts behind it.
 ghost use Rattle.std.specs.Prelude.{◌≡◌};
-ghost use Rattle.rules.specs.Lent.{was};
 ghost use Rattle.text.specs.Text.{Writes};
 ghost use Rattle.text_pieces.specs.Pieces.{between};
 ghost use Rattle.depot_identifiers.specs.Identifier.{all_print, prints, strings, one_prints, value_text, part_text, parts_text, identifier_text};
@@ -12,7 +11,7 @@ use text_pieces::within;
 
 // Whether all bytes are printed as they are.
 fn all_print(s: &[u8]) -> bool
-    ensures { result ≡ all_print (was s) }
+    ensures { result ≡ all_print s.now }
 {
     let mut i = 0;
     while i < s.len() {
@@ -29,7 +28,7 @@ fn all_print(s: &[u8]) -> bool
 }
 
 fn prints_whole(s: &[u8]) -> bool
-    ensures { result ≡ prints (was s) }
+    ensures { result ≡ prints s.now }
 {
     if s.len() == 0 {
         return false;
@@ -39,7 +38,7 @@ fn prints_whole(s: &[u8]) -> bool
 
 // Whether n byte strings stand from `from` on, and nothing behind them.
 fn are_strings(s: &[u8], n: usize, from: usize) -> bool
-    ensures { result ≡ strings (was s) n from }
+    ensures { result ≡ strings s.now n from }
 {
     let mut next = from;
     let mut left = n;
@@ -57,7 +56,7 @@ fn are_strings(s: &[u8], n: usize, from: usize) -> bool
 
 // Whether one of n byte strings prints.
 fn one_prints(s: &[u8], n: usize, from: usize) -> bool
-    ensures { result ≡ one_prints (was s) n from }
+    ensures { result ≡ one_prints s.now n from }
 {
     let mut next = from;
     let mut left = n;
@@ -76,7 +75,7 @@ fn one_prints(s: &[u8], n: usize, from: usize) -> bool
 
 // A part, before `left` others.
 fn put_one(room: &mut [u8], at: usize, part: &[u8], left: usize) -> usize
-    ensures { Writes (part_text left (was part)) at room result }
+    ensures { Writes (part_text left part.now) at room result }
 {
     let to = put_value(room, at, part);
     if left == 0 {
@@ -86,7 +85,7 @@ fn put_one(room: &mut [u8], at: usize, part: &[u8], left: usize) -> usize
 }
 
 fn put_value(room: &mut [u8], at: usize, part: &[u8]) -> usize
-    ensures { Writes (value_text (was part)) at room result }
+    ensures { Writes (value_text part.now) at room result }
 {
     if prints_whole(part) {
         return put_quoted(room, at, part);
@@ -95,7 +94,7 @@ fn put_value(room: &mut [u8], at: usize, part: &[u8]) -> usize
 }
 
 fn put_parts(room: &mut [u8], at: usize, s: &[u8], n: usize, from: usize) -> usize
-    ensures { Writes (parts_text (was s) n from) at room result }
+    ensures { Writes (parts_text s.now n from) at room result }
 {
     let mut to = at;
     let mut next = from;
@@ -112,7 +111,7 @@ fn put_parts(room: &mut [u8], at: usize, s: &[u8], n: usize, from: usize) -> usi
 }
 
 pub fn put_identifier(room: &mut [u8], at: usize, s: &[u8]) -> usize
-    ensures { Writes (identifier_text (was s)) at room result }
+    ensures { Writes (identifier_text s.now) at room result }
 {
     let to = put_hex(room, at, s);
     let h = want(s, s.len(), 0, cbor::ARRAY);
@@ -133,7 +132,7 @@ pub fn put_identifier(room: &mut [u8], at: usize, s: &[u8]) -> usize
 
 // The identifier from one place to before another, cut where the bytes end.
 pub fn put_identifier_at(room: &mut [u8], at: usize, s: &[u8], from: usize, to: usize) -> usize
-    ensures { Writes (identifier_text (between (was s) from to)) at room result }
+    ensures { Writes (identifier_text (between s.now from to)) at room result }
 {
     let p = within(s, from, to);
     let a = p.from;

@@ -1,6 +1,5 @@
 // What is printed of envelopes and programs, by the jobs' answers, and its status.
 ghost use Rattle.std.specs.Prelude.{◌≡◌};
-ghost use Rattle.rules.specs.Lent.{was};
 ghost use Rattle.text.specs.Text.{Writes};
 ghost use Rattle.depot_inspect.specs.Printed.{check_text, shown_text, newest_text, listed_text, view_text};
 ghost use Rattle.depot_inspect.specs.Printed.{newest_status, listed_status, check_status, view_status};
@@ -14,7 +13,7 @@ use pitvorgas::{pitvorgas_check, pitvorgas_newer, pitvorgas_test_program};
 use rules::answers::Refusal;
 
 // What can be told of one file.
-#[derive(Drop)]
+#[derive(Clone, Copy)]
 pub enum View {
     Check,
     Show,
@@ -23,14 +22,14 @@ pub enum View {
 
 // Whether an envelope is accepted, at the start of the room: the place after it.
 fn put_check(room: &mut [u8], envelope: &[u8]) -> usize
-    ensures { Writes (check_text (was envelope)) 0 room result }
+    ensures { Writes (check_text envelope.now) 0 room result }
 {
     put_checked(room, 0, pitvorgas_check(envelope), envelope)
 }
 
 // Its manifest, or its refusal.
 fn put_shown(room: &mut [u8], envelope: &[u8]) -> usize
-    ensures { Writes (shown_text (was envelope)) 0 room result }
+    ensures { Writes (shown_text envelope.now) 0 room result }
 {
     let answer = pitvorgas_check(envelope);
     if answer.refusal != 0 {
@@ -51,7 +50,7 @@ fn put_shown(room: &mut [u8], envelope: &[u8]) -> usize
 
 // Which of two envelopes is newer, and its number.
 pub fn put_newest(room: &mut [u8], first: &[u8], second: &[u8]) -> usize
-    ensures { Writes (newest_text (was first) (was second)) 0 room result }
+    ensures { Writes (newest_text first.now second.now) 0 room result }
 {
     let answer = pitvorgas_newer(first, second);
     let which = answer.second;
@@ -65,7 +64,7 @@ pub fn put_newest(room: &mut [u8], first: &[u8], second: &[u8]) -> usize
 
 // Refused where both are: then no manifest is handed back.
 pub fn newest_status(first: &[u8], second: &[u8]) -> usize
-    ensures { result ≡ newest_status (was first) (was second) }
+    ensures { result ≡ newest_status first.now second.now }
 {
     let answer = pitvorgas_newer(first, second);
     if answer.to == 0 {
@@ -76,7 +75,7 @@ pub fn newest_status(first: &[u8], second: &[u8]) -> usize
 
 // The records of a program; below its refusal, if it is refused.
 fn put_listed(room: &mut [u8], program: &[u8]) -> usize
-    ensures { Writes (listed_text (was program)) 0 room result }
+    ensures { Writes (listed_text program.now) 0 room result }
 {
     if pitvorgas_test_program(program) {
         return put_program(room, 0, program);
@@ -86,7 +85,7 @@ fn put_listed(room: &mut [u8], program: &[u8]) -> usize
 }
 
 fn listed_status(program: &[u8]) -> usize
-    ensures { result ≡ listed_status (was program) }
+    ensures { result ≡ listed_status program.now }
 {
     if pitvorgas_test_program(program) {
         return DONE;
@@ -95,14 +94,14 @@ fn listed_status(program: &[u8]) -> usize
 }
 
 fn check_status(envelope: &[u8]) -> usize
-    ensures { result ≡ check_status (was envelope) }
+    ensures { result ≡ check_status envelope.now }
 {
     let answer = pitvorgas_check(envelope);
     refusal_status(answer.refusal)
 }
 
 pub fn put_view(room: &mut [u8], view: View, s: &[u8]) -> usize
-    ensures { Writes (view_text view (was s)) 0 room result }
+    ensures { Writes (view_text view s.now) 0 room result }
 {
     match view {
         View::Check => put_check(room, s),
@@ -112,7 +111,7 @@ pub fn put_view(room: &mut [u8], view: View, s: &[u8]) -> usize
 }
 
 pub fn view_status(view: View, s: &[u8]) -> usize
-    ensures { result ≡ view_status view (was s) }
+    ensures { result ≡ view_status view s.now }
 {
     match view {
         View::Check => check_status(s),

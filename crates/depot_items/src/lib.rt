@@ -1,6 +1,5 @@
 // Items of any bytes: where none stands whole, an item of no kind that ends with its container.
 ghost use Rattle.std.specs.Prelude.{◌≡◌, ◌⊎◌, ◌≤◌};
-ghost use Rattle.rules.specs.Lent.{was};
 ghost use Rattle.rules.specs.Cbor.{BYTES, TEXT};
 ghost use Rattle.depot_items.specs.Items.{nothing as Items·nothing, held, item_at, item_of};
 
@@ -12,7 +11,7 @@ use cbor_reader::head_at;
 pub const NO_ITEM: usize = 31;
 
 // The kind of an item, its number, the place after its head, and the one after it; of an array or a map, those are one.
-#[derive(Drop)]
+#[derive(Clone, Copy)]
 pub struct Item {
     pub kind: usize,
     pub num: usize,
@@ -68,7 +67,7 @@ fn whole(e: usize, kind: usize, num: usize, next: usize) -> Item
 
 // The item at `at`, in a container that ends at `e`: a reader of the bytes before `e` reads its head.
 pub fn look(s: &[u8], e: usize, at: usize) -> Item
-    ensures { result ≡ item_at (was s) e at }
+    ensures { result ≡ item_at s.now e at }
 {
     if s.len() < e {
         return nothing(e);
@@ -82,7 +81,7 @@ pub fn look(s: &[u8], e: usize, at: usize) -> Item
 
 // The same, of a wanted kind.
 pub fn want(s: &[u8], e: usize, at: usize, kind: usize) -> Item
-    ensures { result ≡ item_of (was s) e at kind }
+    ensures { result ≡ item_of s.now e at kind }
 {
     let i = look(s, e, at);
     let is = i.kind;

@@ -1,6 +1,5 @@
 // The pieces of a line.
 ghost use Rattle.std.specs.Prelude.{◌≡◌, ◌-◌, ◌*◌};
-ghost use Rattle.rules.specs.Lent.{was};
 ghost use Rattle.rules.specs.Limits.{limits};
 ghost use Rattle.text.specs.Text.{Writes};
 ghost use Rattle.depot_items.specs.Line.{margin_text, title_text, string_text, item_text, argument_text, alternative_text, parameter_text};
@@ -52,7 +51,7 @@ pub fn put_string(
     from: usize,
     end: usize,
 ) -> usize
-    ensures { Writes (string_text (was s) kind from end) at room result }
+    ensures { Writes (string_text s.now kind from end) at room result }
 {
     if s.len() < end {
         return put(room, at, b"?");
@@ -67,7 +66,7 @@ pub fn put_string(
 }
 
 fn put_item(room: &mut [u8], at: usize, s: &[u8], i: Item) -> usize
-    ensures { Writes (item_text (was s) i) at room result }
+    ensures { Writes (item_text s.now i) at room result }
 {
     let kind = i.kind;
     if kind == cbor::NUMBER {
@@ -90,7 +89,7 @@ fn put_item(room: &mut [u8], at: usize, s: &[u8], i: Item) -> usize
 
 // An argument on its command's line.
 pub fn put_argument(room: &mut [u8], at: usize, s: &[u8], i: Item) -> usize
-    ensures { Writes (argument_text (was s) i) at room result }
+    ensures { Writes (argument_text s.now i) at room result }
 {
     let kind = i.kind;
     if kind == cbor::NIL {
@@ -124,7 +123,7 @@ pub fn put_parameter(
     key: usize,
     i: Item,
 ) -> usize
-    ensures { Writes (parameter_text (was s) depth key i) at room result }
+    ensures { Writes (parameter_text s.now depth key i) at room result }
 {
     let a = put_margin(room, at, 10, depth);
     let b = text_names::put_parameter(room, a, key);

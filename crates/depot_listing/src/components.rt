@@ -1,6 +1,5 @@
 // The components of a program.
 ghost use Rattle.std.specs.Prelude.{◌≡◌, ◌+◌, ◌≤◌, length, get_or};
-ghost use Rattle.rules.specs.Lent.{was};
 ghost use Rattle.rules.specs.ProgramFormat.{name_size, length_from};
 ghost use Rattle.text.specs.Text.{Writes};
 ghost use Rattle.depot_listing.specs.Listing.{component_size, component_text, components_text, after_components};
@@ -13,7 +12,7 @@ use text_pieces::put_labelled;
 
 // How long the component at the start of the bytes is, 0 if none lies there.
 pub fn size_of(s: &[u8]) -> usize
-    ensures { (result ≡ component_size (was s)) × (result ≤ length (was s)) }
+    ensures { (result ≡ component_size s.now) × (result ≤ length s.now) }
 {
     if s.len() < NAME_BYTES {
         return 0;
@@ -27,7 +26,7 @@ pub fn size_of(s: &[u8]) -> usize
 
 fn put_component(room: &mut [u8], at: usize, n: usize, s: &[u8]) -> usize
     requires { name_size + get_or s.now length_from 0 ≤ length s.now }
-    ensures { Writes (component_text n (was s)) at room result }
+    ensures { Writes (component_text n s.now) at room result }
 {
     let a = put_labelled(room, at, b"component ", n);
     let b = put(room, a, b"  ");
@@ -37,7 +36,7 @@ fn put_component(room: &mut [u8], at: usize, n: usize, s: &[u8]) -> usize
 }
 
 pub(crate) fn put_components(room: &mut [u8], at: usize, s: &[u8], count: usize) -> usize
-    ensures { Writes (components_text count (was s)) at room result }
+    ensures { Writes (components_text count s.now) at room result }
 {
     let mut to = at;
     let mut rest = s;
@@ -56,7 +55,7 @@ pub(crate) fn put_components(room: &mut [u8], at: usize, s: &[u8], count: usize)
 
 // What follows the components, nothing if one is missing.
 pub fn after_components(s: &[u8], count: usize) -> &[u8]
-    ensures { result.now ≡ after_components count (was s) }
+    ensures { result.now ≡ after_components count s.now }
 {
     let mut rest = s;
     let mut n = 0;

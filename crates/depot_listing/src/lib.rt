@@ -1,6 +1,5 @@
 // The listing of a program: a line for the program, for each component, each record and each parameter.
 ghost use Rattle.std.specs.Prelude.{◌≤◌, length};
-ghost use Rattle.rules.specs.Lent.{was};
 ghost use Rattle.rules.specs.ProgramFormat.{start_size};
 ghost use Rattle.text.specs.Text.{Writes};
 ghost use Rattle.depot_listing.specs.Listing.{group_text, counts_text, start_text, program_text};
@@ -37,7 +36,7 @@ fn put_counts(room: &mut [u8], at: usize, components: usize, records: usize) -> 
 
 fn put_start(room: &mut [u8], at: usize, p: &[u8]) -> usize
     requires { start_size ≤ length p.now }
-    ensures { Writes (start_text (was p)) at room result }
+    ensures { Writes (start_text p.now) at room result }
 {
     let a = put_group(room, at, wide(p[START_GROUP]));
     let b = put_labelled(room, a, b" program, number ", four(p, START_NUMBER));
@@ -45,7 +44,7 @@ fn put_start(room: &mut [u8], at: usize, p: &[u8]) -> usize
 }
 
 pub fn put_program(room: &mut [u8], at: usize, p: &[u8]) -> usize
-    ensures { Writes (program_text (was p)) at room result }
+    ensures { Writes (program_text p.now) at room result }
 {
     if p.len() < START_BYTES {
         return put(room, at, b"?\n");

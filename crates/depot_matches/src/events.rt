@@ -1,6 +1,5 @@
 // The events of a trace, read again.
 ghost use Rattle.std.specs.Prelude.{◌≡◌, ◌+◌, ◌*◌, ◌≤◌, length};
-ghost use Rattle.rules.specs.Lent.{was};
 ghost use Rattle.rules.specs.Step.{event_bytes};
 ghost use Rattle.depot_matches.specs.Events.{event_at, is_of, fetches_in, fetches_before};
 
@@ -9,7 +8,7 @@ use rules::answers::End;
 use rules::codes;
 use rules::event_format::{CODE, COMPONENT, EVENT_BYTES, PLACE, RESULT};
 
-#[derive(Drop)]
+#[derive(Clone, Copy)]
 pub struct Event {
     pub code: usize,
     pub component: usize,
@@ -19,7 +18,7 @@ pub struct Event {
 
 pub(crate) fn event_at(trace: &[u8], i: usize) -> Event
     requires { event_bytes * i + event_bytes ≤ length trace.now }
-    ensures { result ≡ event_at (was trace) i }
+    ensures { result ≡ event_at trace.now i }
 {
     let at = EVENT_BYTES * i;
     Event {
@@ -51,7 +50,7 @@ fn fetches_in(e: Event) -> usize
 // How many fetches were done before event n.
 pub(crate) fn fetches_before(trace: &[u8], n: usize) -> usize
     requires { event_bytes * n ≤ length trace.now }
-    ensures { (result ≡ fetches_before (was trace) n) × (result ≤ n) }
+    ensures { (result ≡ fetches_before trace.now n) × (result ≤ n) }
 {
     let mut count = 0;
     let mut i = 0;

@@ -1,6 +1,5 @@
 // The images in the slots before an event: where each comes from, and its bytes.
 ghost use Rattle.std.specs.Prelude.{◌≡◌, ◌+◌, ◌*◌, ◌≤◌, length};
-ghost use Rattle.rules.specs.Lent.{was};
 ghost use Rattle.rules.specs.Step.{event_bytes};
 ghost use Rattle.depot_matches.specs.Images.{source_at, moves as Images·moves, came_from, fetched_by, name_of, present_image, lent_image, answer_image};
 ghost use Rattle.depot_matches.specs.Images.{origin as Images·origin};
@@ -21,7 +20,7 @@ use run_slots::slot::present;
 // The source of the command of event i.
 fn source_at(p: &[u8], trace: &[u8], i: usize) -> usize
     requires { event_bytes * i + event_bytes ≤ length trace.now }
-    ensures { result ≡ source_at (was p) (was trace) i }
+    ensures { result ≡ source_at p.now trace.now i }
 {
     let e = event_at(trace, i);
     let v = value_before(p, trace, codes::SOURCE, e.component, i);
@@ -44,7 +43,7 @@ fn moves(e: Event) -> bool
 // The component whose image before event i is component c's after it.
 fn came_from(p: &[u8], trace: &[u8], i: usize, c: usize) -> usize
     requires { event_bytes * i + event_bytes ≤ length trace.now }
-    ensures { result ≡ came_from (was p) (was trace) i c }
+    ensures { result ≡ came_from p.now trace.now i c }
 {
     let e = event_at(trace, i);
     if !moves(e) {
@@ -75,7 +74,7 @@ fn fetched_by(e: Event, c: usize) -> bool
 // Where component c's image before event n comes from: a component, or an answer, whose number stands behind those of the components.
 pub(crate) fn origin(p: &[u8], trace: &[u8], c: usize, n: usize) -> usize
     requires { event_bytes * n ≤ length trace.now }
-    ensures { result ≡ Images·origin (was p) (was trace) c n }
+    ensures { result ≡ Images·origin p.now trace.now c n }
 {
     let mut from = c;
     let mut i = n;
@@ -91,7 +90,7 @@ pub(crate) fn origin(p: &[u8], trace: &[u8], c: usize, n: usize) -> usize
 
 // The identifier of component c, nothing if it is missing.
 fn name_of(p: &[u8], c: usize) -> &[u8]
-    ensures { result.now ≡ name_of (was p) c }
+    ensures { result.now ≡ name_of p.now c }
 {
     if p.len() < START_BYTES {
         return &p[0..0];
@@ -106,7 +105,7 @@ fn name_of(p: &[u8], c: usize) -> &[u8]
 
 // The image of the slot of number k, nothing if there is none or it is absent.
 fn present_image(slots: &[u8], k: usize) -> &[u8]
-    ensures { result.now ≡ present_image (was slots) k }
+    ensures { result.now ≡ present_image slots.now k }
 {
     if slots.len() / SLOT_BYTES <= k {
         return &slots[0..0];
@@ -120,7 +119,7 @@ fn present_image(slots: &[u8], k: usize) -> &[u8]
 
 // The image in component c's slot, nothing if there is none or it is absent.
 pub(crate) fn lent_image<'a>(p: &[u8], slots: &'a [u8], c: usize) -> &'a [u8]
-    ensures { result.now ≡ lent_image (was p) (was slots) c }
+    ensures { result.now ≡ lent_image p.now slots.now c }
 {
     if !good_slots(slots) {
         return &slots[0..0];
@@ -131,7 +130,7 @@ pub(crate) fn lent_image<'a>(p: &[u8], slots: &'a [u8], c: usize) -> &'a [u8]
 
 // The answer of number k, nothing if there is none.
 pub(crate) fn answer_image(answers: &[u8], k: usize) -> &[u8]
-    ensures { result.now ≡ answer_image (was answers) k }
+    ensures { result.now ≡ answer_image answers.now k }
 {
     if answers.len() / IMAGE_BYTES <= k {
         return &answers[0..0];

@@ -1,7 +1,6 @@
 // Why the image matches of a run failed, worked out from the program, the trace, the slots before the run and the host's answers.
 ghost use Rattle.std.specs.Prelude.{◌≡◌, [], ◌∷◌, ◌+◌, ◌*◌, ◌≤◌, length};
 ghost use Rattle.std.proofs.lemmas.List.Edits.{sets};
-ghost use Rattle.rules.specs.Lent.{was, left};
 ghost use Rattle.rules.specs.Step.{event_bytes};
 ghost use Rattle.text.specs.Text.{Writes};
 ghost use Rattle.text_pieces.specs.Pieces.{lines};
@@ -25,7 +24,7 @@ use values::value_before;
 
 // Why an image that is there, or none, did not match.
 fn note_of_image(image: &[u8], digest: &[u8]) -> u8
-    ensures { result ≡ note_of_image (was image) (was digest) }
+    ensures { result ≡ note_of_image image.now digest.now }
 {
     if image.len() < IMAGE_BYTES {
         return SLOT_ABSENT;
@@ -38,7 +37,7 @@ fn note_of_image(image: &[u8], digest: &[u8]) -> u8
 
 fn note_of(p: &[u8], trace: &[u8], slots: &[u8], answers: &[u8], j: usize) -> u8
     requires { event_bytes * j + event_bytes ≤ length trace.now }
-    ensures { result ≡ note_of (was p) (was trace) (was slots) (was answers) j }
+    ensures { result ≡ note_of p.now trace.now slots.now answers.now j }
 {
     let e = event_at(trace, j);
     if !is_of(e, codes::IMAGE_MATCH, End::CONDITION_FAILED) {
@@ -61,7 +60,7 @@ fn put_notes(
     answers: &[u8],
 ) -> usize
     requires { event_bytes * n ≤ length trace.now }
-    ensures { Writes (lines (λ j. note_of (was p) (was trace) (was slots) (was answers) j ∷ []) n) 0 notes result }
+    ensures { Writes (lines (λ j. note_of p.now trace.now slots.now answers.now j ∷ []) n) 0 notes result }
 {
     let mut to = 0;
     let mut j = 0;
@@ -82,7 +81,7 @@ pub fn note_matches(
     answers: &[u8],
     notes: &mut [u8],
 )
-    ensures { left notes ≡ sets (was notes) 0 (notes_of (was p) (was trace) events (was slots) (was answers)) }
+    ensures { notes.new ≡ sets notes.old 0 (notes_of p.now trace.now events slots.now answers.now) }
 {
     let n = least(events, trace.len() / EVENT_BYTES);
     put_notes(notes, p, trace, n, slots, answers);

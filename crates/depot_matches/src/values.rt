@@ -1,6 +1,5 @@
 // The parameters that components have before an event, from the records of the program.
 ghost use Rattle.std.specs.Prelude.{◌≡◌, ◌+◌, ◌*◌, ◌≤◌, length, get_or};
-ghost use Rattle.rules.specs.Lent.{was};
 ghost use Rattle.rules.specs.Bytes.{two_at};
 ghost use Rattle.rules.specs.ProgramFormat.{argument_from, entry_length_from, entry_size};
 ghost use Rattle.rules.specs.ProgramFormat.{record_size as ProgramFormat·recordSize};
@@ -24,7 +23,7 @@ const KEYS: usize = Controller::PARAMETERS - 1;
 // Whether the record at the start of the bytes is that of the event.
 fn record_is(s: &[u8], e: Event) -> bool
     requires { ProgramFormat·recordSize ≤ length s.now }
-    ensures { result ≡ record_is e (was s) }
+    ensures { result ≡ record_is e s.now }
 {
     if wide(s[CODE]) != e.code {
         return false;
@@ -37,7 +36,7 @@ fn record_is(s: &[u8], e: Event) -> bool
 
 fn argument_in(s: &[u8]) -> &[u8]
     requires { ProgramFormat·recordSize + two_at s.now argument_from ≤ length s.now }
-    ensures { result.now ≡ argument_in (was s) }
+    ensures { result.now ≡ argument_in s.now }
 {
     let end = RECORD_BYTES + two(s, ARGUMENT_LENGTH);
     &s[RECORD_BYTES..end]
@@ -45,7 +44,7 @@ fn argument_in(s: &[u8]) -> &[u8]
 
 // The argument of the event's record among the records, nothing if it is not there.
 fn argument_among(s: &[u8], total: usize, e: Event) -> &[u8]
-    ensures { result.now ≡ first_in record_size (record_is e) argument_in total (was s) }
+    ensures { result.now ≡ first_in record_size (record_is e) argument_in total s.now }
 {
     let mut rest = s;
     let mut n = 0;
@@ -64,7 +63,7 @@ fn argument_among(s: &[u8], total: usize, e: Event) -> &[u8]
 }
 
 fn argument_of(p: &[u8], e: Event) -> &[u8]
-    ensures { result.now ≡ argument_of (was p) e }
+    ensures { result.now ≡ argument_of p.now e }
 {
     if p.len() < START_BYTES {
         return &p[0..0];
@@ -75,7 +74,7 @@ fn argument_of(p: &[u8], e: Event) -> &[u8]
 
 fn entry_in(s: &[u8]) -> &[u8]
     requires { entry_size + get_or s.now entry_length_from 0 ≤ length s.now }
-    ensures { result.now ≡ entry_in (was s) }
+    ensures { result.now ≡ entry_in s.now }
 {
     let end = ENTRY_BYTES + wide(s[ENTRY_LENGTH]);
     &s[ENTRY_BYTES..end]
@@ -83,7 +82,7 @@ fn entry_in(s: &[u8]) -> &[u8]
 
 // The value of a key in an argument, nothing if it is not there.
 fn value_in(s: &[u8], key: usize) -> &[u8]
-    ensures { result.now ≡ value_in key (was s) }
+    ensures { result.now ≡ value_in key s.now }
 {
     let mut rest = s;
     let mut n = 0;
@@ -102,7 +101,7 @@ fn value_in(s: &[u8], key: usize) -> &[u8]
 }
 
 fn first_set<'a>(a: &'a [u8], b: &'a [u8]) -> &'a [u8]
-    ensures { result.now ≡ first_set (was a) (was b) }
+    ensures { result.now ≡ first_set a.now b.now }
 {
     if a.len() == 0 {
         return b;
@@ -112,7 +111,7 @@ fn first_set<'a>(a: &'a [u8], b: &'a [u8]) -> &'a [u8]
 
 // The value of a key that component c has after an event, before which it was v.
 fn value_after<'a>(p: &'a [u8], e: Event, key: usize, c: usize, v: &'a [u8]) -> &'a [u8]
-    ensures { result.now ≡ value_after (was p) e key c (was v) }
+    ensures { result.now ≡ value_after p.now e key c v.now }
 {
     if e.component != c {
         return v;
@@ -134,7 +133,7 @@ pub(crate) fn value_before<'a>(
     n: usize,
 ) -> &'a [u8]
     requires { event_bytes * n ≤ length trace.now }
-    ensures { result.now ≡ value_before (was p) (was trace) key c n }
+    ensures { result.now ≡ value_before p.now trace.now key c n }
 {
     let mut v = &p[0..0];
     let mut i = 0;

@@ -1,5 +1,4 @@
 // What the depot tool says of its command line and of files, as text in lent room.
-ghost use Rattle.rules.specs.Lent.{was};
 ghost use Rattle.text.specs.Text.{Writes};
 ghost use Rattle.depot_messages.specs.Messages.{around, unknown_text, words_text, count_text, option_text, group_text};
 ghost use Rattle.depot_messages.specs.Messages.{named_text, long_text, error_text, command_text, status_text, once_text, nested_text, message_text};
@@ -15,7 +14,7 @@ mod errors;
 mod help;
 
 // `Error`, `Long` are of a file; a batch has `Command` and `Status`.
-#[derive(Drop)]
+#[derive(Clone, Copy)]
 pub enum Message {
     Help,
     Version,
@@ -33,7 +32,7 @@ pub enum Message {
 
 // A name between two texts.
 fn put_around(room: &mut [u8], at: usize, before: &[u8], name: &[u8], after: &[u8]) -> usize
-    ensures { Writes (around (was before) (was name) (was after)) at room result }
+    ensures { Writes (around before.now name.now after.now) at room result }
 {
     let a = put(room, at, before);
     let b = put_escaped(room, a, name);
@@ -42,7 +41,7 @@ fn put_around(room: &mut [u8], at: usize, before: &[u8], name: &[u8], after: &[u
 
 // The first word names no job.
 fn put_unknown(room: &mut [u8], at: usize, word: &[u8]) -> usize
-    ensures { Writes (unknown_text (was word)) at room result }
+    ensures { Writes (unknown_text word.now) at room result }
 {
     put_around(
         room,
@@ -65,7 +64,7 @@ fn put_words(room: &mut [u8], at: usize, n: usize) -> usize
 
 // A job does not take n words behind the first.
 fn put_count(room: &mut [u8], at: usize, word: &[u8], n: usize) -> usize
-    ensures { Writes (count_text (was word) n) at room result }
+    ensures { Writes (count_text word.now n) at room result }
 {
     let a = put_around(room, at, b"depot: '", word, b"' does not take ");
     let b = put_words(room, a, n);
@@ -74,7 +73,7 @@ fn put_count(room: &mut [u8], at: usize, word: &[u8], n: usize) -> usize
 
 // The word where `--then` is understood.
 fn put_option(room: &mut [u8], at: usize, word: &[u8]) -> usize
-    ensures { Writes (option_text (was word)) at room result }
+    ensures { Writes (option_text word.now) at room result }
 {
     put_around(
         room,
@@ -86,7 +85,7 @@ fn put_option(room: &mut [u8], at: usize, word: &[u8]) -> usize
 }
 
 fn put_group(room: &mut [u8], at: usize, word: &[u8]) -> usize
-    ensures { Writes (group_text (was word)) at room result }
+    ensures { Writes (group_text word.now) at room result }
 {
     put_around(
         room,
@@ -99,14 +98,14 @@ fn put_group(room: &mut [u8], at: usize, word: &[u8]) -> usize
 
 // What stands before anything that is said of a file.
 pub fn put_named(room: &mut [u8], at: usize, name: &[u8]) -> usize
-    ensures { Writes (named_text (was name)) at room result }
+    ensures { Writes (named_text name.now) at room result }
 {
     put_around(room, at, b"depot: ", name, b": ")
 }
 
 // A file with over n bytes.
 fn put_long(room: &mut [u8], at: usize, name: &[u8], n: usize) -> usize
-    ensures { Writes (long_text (was name) n) at room result }
+    ensures { Writes (long_text name.now n) at room result }
 {
     let a = put_named(room, at, name);
     let b = put_labelled(room, a, b"over ", n);
@@ -115,7 +114,7 @@ fn put_long(room: &mut [u8], at: usize, name: &[u8], n: usize) -> usize
 
 // Error n of a file.
 fn put_error(room: &mut [u8], at: usize, name: &[u8], n: usize) -> usize
-    ensures { Writes (error_text (was name) n) at room result }
+    ensures { Writes (error_text name.now n) at room result }
 {
     let a = put_named(room, at, name);
     let b = put_error_words(room, a, n);
@@ -137,7 +136,7 @@ fn put_nested(room: &mut [u8], at: usize) -> usize
 
 // A command of a batch, and how it ended.
 fn put_command(room: &mut [u8], at: usize, line: &[u8]) -> usize
-    ensures { Writes (command_text (was line)) at room result }
+    ensures { Writes (command_text line.now) at room result }
 {
     put_around(room, at, b"$ depot ", line, b"\n")
 }
@@ -151,7 +150,7 @@ fn put_status(room: &mut [u8], at: usize, n: usize) -> usize
 
 // A message about a word, a line or a file's name, and a number.
 pub fn put_message(room: &mut [u8], at: usize, message: Message, word: &[u8], n: usize) -> usize
-    ensures { Writes (message_text message (was word) n) at room result }
+    ensures { Writes (message_text message word.now n) at room result }
 {
     match message {
         Message::Help => put_help(room, at),

@@ -1,7 +1,6 @@
 // The order in which a group runs, by the places of the sections that check reported, as a person reads it in lent room.
 ghost use Rattle.std.specs.Prelude.{◌≡◌, cond, [], ◌∷◌, ◌≤◌};
 ghost use Rattle.rules.specs.declared.answers.Group.TheVariants.{Install, Boot};
-ghost use Rattle.rules.specs.Lent.{was, left};
 ghost use Rattle.rules.specs.Commands.{COMMON as Commands-as-COMMON, RUN as Commands-as-RUN};
 ghost use Rattle.rules.specs.Run.{each};
 ghost use Rattle.text.specs.Text.{Writes};
@@ -13,7 +12,7 @@ use text::put;
 use text_names::put_section;
 
 // The place after what was told of an order, and whether a name is in it.
-#[derive(Drop)]
+#[derive(Clone, Copy)]
 pub struct Told {
     pub to: usize,
     pub some: bool,
@@ -22,7 +21,7 @@ pub struct Told {
 // Where the section under `key` ends; 0 says that it is not there.
 fn end_of(sections: &SectionPlaces, key: usize) -> usize
     requires { key ≤ Commands-as-RUN }
-    ensures { result ≡ end_of (was sections) key }
+    ensures { result ≡ end_of sections.now key }
 {
     if key < PAYLOAD_FETCH {
         return sections[1];
@@ -41,7 +40,7 @@ fn put_parting(room: &mut [u8], at: usize, some: bool) -> usize
 }
 
 fn put_name(room: &mut [u8], told: Told, key: usize) -> Told
-    ensures { Tells (key ∷ []) told (was room) result (left room) }
+    ensures { Tells (key ∷ []) told room.old result room.new }
 {
     let a = put_parting(room, told.to, told.some);
     let b = put_section(room, a, key);
@@ -50,7 +49,7 @@ fn put_name(room: &mut [u8], told: Told, key: usize) -> Told
 
 // The section under `key`, which ends at `end`, if it is there.
 fn put_one(room: &mut [u8], told: Told, end: usize, key: usize) -> Told
-    ensures { Tells (one end key) told (was room) result (left room) }
+    ensures { Tells (one end key) told room.old result room.new }
 {
     if end == 0 {
         return told;
@@ -60,7 +59,7 @@ fn put_one(room: &mut [u8], told: Told, end: usize, key: usize) -> Told
 
 // The same, with common before it; `common` is where that ends.
 fn put_turn(room: &mut [u8], told: Told, common: usize, end: usize, key: usize) -> Told
-    ensures { Tells (each (one common Commands-as-COMMON) (one end key)) told (was room) result (left room) }
+    ensures { Tells (each (one common Commands-as-COMMON) (one end key)) told room.old result room.new }
 {
     if end == 0 {
         return told;
@@ -99,7 +98,7 @@ fn put_rest(room: &mut [u8], told: Told, common: usize) -> usize
 }
 
 fn put_install(room: &mut [u8], at: usize, sections: &SectionPlaces) -> usize
-    ensures { Writes (group_line Install (was sections)) at room result }
+    ensures { Writes (group_line Install sections.now) at room result }
 {
     let common = end_of(sections, COMMON);
     let fetch = end_of(sections, PAYLOAD_FETCH);
@@ -112,7 +111,7 @@ fn put_install(room: &mut [u8], at: usize, sections: &SectionPlaces) -> usize
 }
 
 fn put_boot(room: &mut [u8], at: usize, sections: &SectionPlaces) -> usize
-    ensures { Writes (group_line Boot (was sections)) at room result }
+    ensures { Writes (group_line Boot sections.now) at room result }
 {
     let common = end_of(sections, COMMON);
     let validate = end_of(sections, VALIDATE);
@@ -128,7 +127,7 @@ fn put_boot(room: &mut [u8], at: usize, sections: &SectionPlaces) -> usize
 
 // A line for each group.
 pub fn put_groups(room: &mut [u8], at: usize, sections: &SectionPlaces) -> usize
-    ensures { Writes (groups_text (was sections)) at room result }
+    ensures { Writes (groups_text sections.now) at room result }
 {
     let a = put_install(room, at, sections);
     put_boot(room, a, sections)

@@ -1,5 +1,4 @@
 // What a run did, as text in lent room.
-ghost use Rattle.rules.specs.Lent.{was};
 ghost use Rattle.text.specs.Text.{Writes};
 ghost use Rattle.depot_outcome.specs.Outcome.{end_text, counts_text, ran_text, stopped_text, run_text};
 
@@ -48,7 +47,7 @@ fn put_stopped(
     s: &[u8],
     slots: &[u8],
 ) -> usize
-    ensures { Writes (stopped_text answer subject (was s) (was slots)) at room result }
+    ensures { Writes (stopped_text answer subject s.now slots.now) at room result }
 {
     let a = put_refused(room, at, answer.refusal, answer.place, s);
     put_reason(room, a, answer.refusal, subject, answer.number, s, slots)
@@ -65,7 +64,7 @@ pub fn put_run(
     notes: &[u8],
     slots: &[u8],
 ) -> usize
-    ensures { Writes (run_text answer subject (was s) (was trace) (was notes) (was slots)) at room result }
+    ensures { Writes (run_text answer subject s.now trace.now notes.now slots.now) at room result }
 {
     if answer.refusal == 0 {
         let ids = subject.ids;

@@ -16,7 +16,7 @@ pub const MANIFEST_KEY: usize = 3;
 pub const LIST_KEY: usize = 2;
 
 // `Argument` is one that has no entries, `Value` anything else that has none.
-#[derive(Drop)]
+#[derive(Clone, Copy)]
 pub enum Part {
     Envelope,
     Manifest,
@@ -31,7 +31,7 @@ pub enum Part {
 }
 
 // The kind of its head; whether it stands in a byte string; whether its entries have keys.
-#[derive(Drop)]
+#[derive(Clone, Copy)]
 pub struct Shape {
     pub kind: usize,
     pub boxed: bool,

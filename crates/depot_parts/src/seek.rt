@@ -1,6 +1,5 @@
 // The walk to a place, over any bytes: which entry of a part holds it.
 ghost use Rattle.std.specs.Prelude.{◌≡◌, ◌-◌, eqb};
-ghost use Rattle.rules.specs.Lent.{was};
 ghost use Rattle.depot_items.specs.Items.{NO_ITEM, item_at};
 ghost use Rattle.depot_parts.specs.Seek.{entries as Seek·entries, items_end, item_end, key_at, entry_end, box_at, at_head};
 ghost use Rattle.depot_parts.specs.Seek.{seek as Seek·seek, find as Seek·find, short as Seek·short, holds as Seek·holds, settle as Seek·settle};
@@ -9,14 +8,14 @@ use crate::parts::{LEAF, Part, Shape, child, shape_of};
 use depot_items::{Item, look, want};
 
 // How many entries are left from an entry on, and where it starts.
-#[derive(Drop)]
+#[derive(Clone, Copy)]
 pub struct Spot {
     pub left: usize,
     pub at: usize,
 }
 
 // An entry of a part: whether the place is before all entries, where the part ends, how many entries it has.
-#[derive(Drop)]
+#[derive(Clone, Copy)]
 pub struct Found {
     pub stop: bool,
     pub end: usize,
@@ -40,7 +39,7 @@ fn entries(shape: Shape, num: usize) -> usize
 
 // The place after `count` items.
 fn items_end(s: &[u8], count: usize, e: usize, at: usize) -> usize
-    ensures { result ≡ items_end (was s) count e at }
+    ensures { result ≡ items_end s.now count e at }
 {
     let mut next = at;
     let mut left = count;
@@ -57,7 +56,7 @@ fn items_end(s: &[u8], count: usize, e: usize, at: usize) -> usize
 
 // And after one with what it holds.
 fn item_end(s: &[u8], e: usize, at: usize) -> usize
-    ensures { result ≡ item_end (was s) e at }
+    ensures { result ≡ item_end s.now e at }
 {
     let i = look(s, e, at);
     let kind = i.kind;
@@ -73,7 +72,7 @@ fn item_end(s: &[u8], e: usize, at: usize) -> usize
 
 // The key of the entry at `at`; no bytes where entries have none.
 pub fn key_at(s: &[u8], keyed: bool, e: usize, at: usize) -> Item
-    ensures { result ≡ key_at (was s) keyed e at }
+    ensures { result ≡ key_at s.now keyed e at }
 {
     if keyed {
         return want(s, e, at, cbor::NUMBER);
@@ -87,7 +86,7 @@ pub fn key_at(s: &[u8], keyed: bool, e: usize, at: usize) -> Item
 }
 
 fn entry_end(s: &[u8], keyed: bool, e: usize, at: usize) -> usize
-    ensures { result ≡ entry_end (was s) keyed e at }
+    ensures { result ≡ entry_end s.now keyed e at }
 {
     let k = key_at(s, keyed, e, at);
     item_end(s, e, k.next)
@@ -95,7 +94,7 @@ fn entry_end(s: &[u8], keyed: bool, e: usize, at: usize) -> usize
 
 // The byte string around a part; all that is left where it stands in none.
 fn box_at(s: &[u8], boxed: bool, e: usize, at: usize) -> Item
-    ensures { result ≡ box_at (was s) boxed e at }
+    ensures { result ≡ box_at s.now boxed e at }
 {
     if boxed {
         return want(s, e, at, cbor::BYTES);
@@ -121,7 +120,7 @@ pub fn at_head(place: usize, kind: usize, i: Item) -> bool
 
 // The first of `count` entries that does not end before the place.
 fn seek(s: &[u8], place: usize, keyed: bool, e: usize, count: usize, at: usize) -> Spot
-    ensures { result ≡ Seek·seek (was s) place keyed e count at }
+    ensures { result ≡ Seek·seek s.now place keyed e count at }
 {
     let mut next = at;
     let mut left = count;
@@ -138,7 +137,7 @@ fn seek(s: &[u8], place: usize, keyed: bool, e: usize, count: usize, at: usize) 
 
 // That entry in the part at `at`.
 pub fn find(s: &[u8], place: usize, part: Part, e: usize, at: usize) -> Found
-    ensures { result ≡ Seek·find (was s) place part e at }
+    ensures { result ≡ Seek·find s.now place part e at }
 {
     let h = shape_of(part);
     let b = box_at(s, h.boxed, e, at);
@@ -155,7 +154,7 @@ pub fn find(s: &[u8], place: usize, part: Part, e: usize, at: usize) -> Found
 }
 
 fn missing(s: &[u8], e: usize, at: usize) -> bool
-    ensures { result ≡ eqb (item_at (was s) e at).kind NO_ITEM }
+    ensures { result ≡ eqb (item_at s.now e at).kind NO_ITEM }
 {
     let i = look(s, e, at);
     let kind = i.kind;
@@ -164,7 +163,7 @@ fn missing(s: &[u8], e: usize, at: usize) -> bool
 
 // Whether the part at `at`, which ends at the place, lacks an item there.
 fn short(s: &[u8], place: usize, depth: usize, part: Part, e: usize, at: usize) -> bool
-    ensures { result ≡ Seek·short (was s) place depth part e at }
+    ensures { result ≡ Seek·short s.now place depth part e at }
 {
     if depth == 0 {
         return false;
@@ -196,7 +195,7 @@ fn short(s: &[u8], place: usize, depth: usize, part: Part, e: usize, at: usize) 
 
 // Whether the entry at `at` holds the place; the parts in it may be `depth` deep.
 fn holds(s: &[u8], place: usize, depth: usize, part: Part, e: usize, at: usize) -> bool
-    ensures { result ≡ Seek·holds (was s) place depth part e at }
+    ensures { result ≡ Seek·holds s.now place depth part e at }
 {
     let h = shape_of(part);
     let k = key_at(s, h.keyed, e, at);
@@ -211,7 +210,7 @@ fn holds(s: &[u8], place: usize, depth: usize, part: Part, e: usize, at: usize) 
 
 // It, or the one after it.
 pub fn settle(s: &[u8], place: usize, depth: usize, part: Part, e: usize, x: Spot) -> Spot
-    ensures { result ≡ Seek·settle (was s) place depth part e x }
+    ensures { result ≡ Seek·settle s.now place depth part e x }
 {
     let left = x.left;
     let at = x.at;

@@ -1,5 +1,4 @@
 // Where a place stands in an envelope, in words. The walk goes over any bytes, one part into the next, as check reads them.
-ghost use Rattle.rules.specs.Lent.{was};
 ghost use Rattle.text.specs.Text.{Writes};
 ghost use Rattle.depot_path.specs.Path.{within, path_text};
 
@@ -22,7 +21,7 @@ fn put_within(
     e: usize,
     at: usize,
 ) -> usize
-    ensures { Writes (within (was s) place depth part e at) to room result }
+    ensures { Writes (within s.now place depth part e at) to room result }
 {
     if depth == 0 {
         return to;
@@ -59,7 +58,7 @@ fn put_within(
 
 // The path to a place of the bytes.
 pub fn put_path(room: &mut [u8], at: usize, s: &[u8], place: usize) -> usize
-    ensures { Writes (path_text (was s) place) at room result }
+    ensures { Writes (path_text s.now place) at room result }
 {
     put_within(room, at, s, place, LEVELS, Part::Envelope, s.len(), 0)
 }

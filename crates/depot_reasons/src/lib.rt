@@ -1,6 +1,5 @@
 // What a refusal of a run is about, on a line below it: the numbers, a component, or a slot.
 ghost use Rattle.std.specs.Prelude.{◌≡◌, ◌≤◌, ◌<◌};
-ghost use Rattle.rules.specs.Lent.{was};
 ghost use Rattle.rules.specs.Limits.{limits};
 ghost use Rattle.text.specs.Text.{Writes};
 ghost use Rattle.depot_reasons.specs.Reasons.{group_text, numbers_text, has_no_slot, no_slot_text, reason_text};
@@ -40,7 +39,7 @@ fn put_numbers(room: &mut [u8], at: usize, boot: bool, number: usize, device: us
 // Whether no slot has the identifier of component k.
 fn has_no_slot(s: &[u8], ids: &Places, slots: &[u8], k: usize) -> bool
     requires { k < limits.components }
-    ensures { result ≡ has_no_slot (was s) (was ids) (was slots) k }
+    ensures { result ≡ has_no_slot s.now ids.now slots.now k }
 {
     let p = within(s, ids[2 * k], ids[2 * k + 1]);
     let a = p.from;
@@ -51,7 +50,7 @@ fn has_no_slot(s: &[u8], ids: &Places, slots: &[u8], k: usize) -> bool
 
 fn first_without(s: &[u8], ids: &Places, n: usize, slots: &[u8]) -> usize
     requires { n ≤ limits.components }
-    ensures { result ≡ first (has_no_slot (was s) (was ids) (was slots)) n 0 }
+    ensures { result ≡ first (has_no_slot s.now ids.now slots.now) n 0 }
 {
     let mut k = 0;
     while k < n {
@@ -66,7 +65,7 @@ fn first_without(s: &[u8], ids: &Places, n: usize, slots: &[u8]) -> usize
 // 83.
 fn put_no_slot(room: &mut [u8], at: usize, s: &[u8], ids: &Places, n: usize, slots: &[u8]) -> usize
     requires { n ≤ limits.components }
-    ensures { Writes (no_slot_text (was s) (was ids) n (was slots)) at room result }
+    ensures { Writes (no_slot_text s.now ids.now n slots.now) at room result }
 {
     let k = first_without(s, ids, n, slots);
     if n <= k {
@@ -88,7 +87,7 @@ pub fn put_reason(
     s: &[u8],
     slots: &[u8],
 ) -> usize
-    ensures { Writes (reason_text refusal subject device (was s) (was slots)) at room result }
+    ensures { Writes (reason_text refusal subject device s.now slots.now) at room result }
 {
     if refusal == Refusal::WRONG_NUMBER {
         return put_numbers(room, at, subject.boot, subject.number, device);

@@ -1,6 +1,5 @@
 // 85: what is wrong with the slots, in the order of the rule.
 ghost use Rattle.std.specs.Prelude.{◌≡◌, ◌+◌, ◌*◌, ◌/◌, ◌≤◌, ◌<◌, length};
-ghost use Rattle.rules.specs.Lent.{was};
 ghost use Rattle.rules.specs.Slots.{slot_bytes};
 ghost use Rattle.run_slots.specs.Slot.{Holds};
 ghost use Rattle.text.specs.Text.{Writes};
@@ -42,7 +41,7 @@ fn put_length(room: &mut [u8], at: usize, length: usize) -> usize
 
 fn put_sizes(room: &mut [u8], at: usize, slots: &[u8], k: usize) -> usize
     requires { Holds slots.now k }
-    ensures { Writes (sizes_text (was slots) k) at room result }
+    ensures { Writes (sizes_text slots.now k) at room result }
 {
     let a = put_labelled(room, at, b": its size is ", size(slots, k));
     let b = put_labelled(room, a, b", its capacity ", capacity(slots, k));
@@ -52,7 +51,7 @@ fn put_sizes(room: &mut [u8], at: usize, slots: &[u8], k: usize) -> usize
 // A slot that is not good.
 fn put_bad(room: &mut [u8], at: usize, slots: &[u8], k: usize) -> usize
     requires { Holds slots.now k }
-    ensures { Writes (bad_text (was slots) k) at room result }
+    ensures { Writes (bad_text slots.now k) at room result }
 {
     let a = put_labelled(room, at, b"  slot ", k);
     let length = wide(slots[SLOT_BYTES * k]);
@@ -67,7 +66,7 @@ fn put_bad(room: &mut [u8], at: usize, slots: &[u8], k: usize) -> usize
 
 fn first_bad(slots: &[u8], n: usize) -> usize
     requires { slot_bytes * n ≤ length slots.now }
-    ensures { result ≡ first (is_bad (was slots)) n 0 }
+    ensures { result ≡ first (is_bad slots.now) n 0 }
 {
     let mut k = 0;
     while k < n {
@@ -82,14 +81,14 @@ fn first_bad(slots: &[u8], n: usize) -> usize
 // The first slot after number i that has its identifier.
 fn twin(slots: &[u8], i: usize) -> usize
     requires { Holds slots.now i }
-    ensures { result ≡ twin_of (was slots) i }
+    ensures { result ≡ twin_of slots.now i }
 {
     slot_with(slot_name(slots, i), slots, i + 1)
 }
 
 fn first_twice(slots: &[u8], n: usize) -> usize
     requires { slot_bytes * n ≤ length slots.now }
-    ensures { result ≡ first (is_twice (was slots) n) n 0 }
+    ensures { result ≡ first (is_twice slots.now n) n 0 }
 {
     let mut i = 0;
     while i < n {
@@ -103,7 +102,7 @@ fn first_twice(slots: &[u8], n: usize) -> usize
 
 fn put_twice(room: &mut [u8], at: usize, slots: &[u8], i: usize) -> usize
     requires { Holds slots.now i }
-    ensures { Writes (twice_text (was slots) i) at room result }
+    ensures { Writes (twice_text slots.now i) at room result }
 {
     let a = put_labelled(room, at, b"  slot ", twin(slots, i));
     let b = put_labelled(room, a, b" has the identifier of slot ", i);
@@ -115,7 +114,7 @@ fn put_twice(room: &mut [u8], at: usize, slots: &[u8], i: usize) -> usize
 // Of n slots, each by itself, then two of them.
 fn put_among(room: &mut [u8], at: usize, slots: &[u8], n: usize) -> usize
     requires { slot_bytes * n ≤ length slots.now }
-    ensures { Writes (among_text (was slots) n) at room result }
+    ensures { Writes (among_text slots.now n) at room result }
 {
     let k = first_bad(slots, n);
     if k < n {
@@ -129,7 +128,7 @@ fn put_among(room: &mut [u8], at: usize, slots: &[u8], n: usize) -> usize
 }
 
 pub(crate) fn put_bad_slots(room: &mut [u8], at: usize, slots: &[u8]) -> usize
-    ensures { Writes (bad_slots_text (was slots)) at room result }
+    ensures { Writes (bad_slots_text slots.now) at room result }
 {
     let bytes = slots.len();
     if bytes % SLOT_BYTES != 0 {

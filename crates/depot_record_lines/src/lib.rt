@@ -1,6 +1,5 @@
 // The lines of a program's records: commands and jumps.
 ghost use Rattle.std.specs.Prelude.{◌≡◌, ◌+◌, ◌-◌, ◌≤◌, length};
-ghost use Rattle.rules.specs.Lent.{was};
 ghost use Rattle.rules.specs.ProgramFormat.{argument_from};
 ghost use Rattle.rules.specs.ProgramFormat.{record_size as ProgramFormat·recordSize};
 ghost use Rattle.text.specs.Text.{Writes};
@@ -95,7 +94,7 @@ fn put_jump(room: &mut [u8], at: usize, total: usize, target: usize) -> usize
 
 // How long the record at the start of the bytes is, 0 if none lies there.
 pub fn size_of(s: &[u8]) -> usize
-    ensures { (result ≡ record_size (was s)) × (result ≤ length (was s)) }
+    ensures { (result ≡ record_size s.now) × (result ≤ length s.now) }
 {
     if s.len() < RECORD_BYTES {
         return 0;
@@ -109,7 +108,7 @@ pub fn size_of(s: &[u8]) -> usize
 
 fn put_command_record(room: &mut [u8], at: usize, total: usize, s: &[u8]) -> usize
     requires { ProgramFormat·recordSize + two_at s.now argument_from ≤ length s.now }
-    ensures { Writes (command_text total (was s)) at room result }
+    ensures { Writes (command_text total s.now) at room result }
 {
     let code = wide(s[CODE]);
     let a = put_line(room, at, code, wide(s[COMPONENT]), two(s, PLACE));
@@ -120,7 +119,7 @@ fn put_command_record(room: &mut [u8], at: usize, total: usize, s: &[u8]) -> usi
 
 fn put_record(room: &mut [u8], at: usize, total: usize, n: usize, s: &[u8]) -> usize
     requires { ProgramFormat·recordSize + two_at s.now argument_from ≤ length s.now }
-    ensures { Writes (record_text total n (was s)) at room result }
+    ensures { Writes (record_text total n s.now) at room result }
 {
     let a = put_padded(room, at, n, 4);
     let b = put(room, a, b"  ");
@@ -131,7 +130,7 @@ fn put_record(room: &mut [u8], at: usize, total: usize, n: usize, s: &[u8]) -> u
 }
 
 pub fn put_records(room: &mut [u8], at: usize, s: &[u8], total: usize) -> usize
-    ensures { Writes (records_text total (was s)) at room result }
+    ensures { Writes (records_text total s.now) at room result }
 {
     let mut to = at;
     let mut rest = s;

@@ -1,5 +1,4 @@
 // A refusal as text in lent room: its number, place and meaning, the path to the place, and the bytes around it.
-ghost use Rattle.rules.specs.Lent.{was};
 ghost use Rattle.text.specs.Text.{Writes};
 ghost use Rattle.depot_refusals.specs.Refusals.{refused_line, path_line, refused_text};
 
@@ -22,7 +21,7 @@ fn put_refused_line(room: &mut [u8], at: usize, number: usize, place: usize) -> 
 
 // The path to a place of the bytes.
 fn put_path_line(room: &mut [u8], at: usize, s: &[u8], p: usize) -> usize
-    ensures { Writes (path_line (was s) p) at room result }
+    ensures { Writes (path_line s.now p) at room result }
 {
     let a = put(room, at, b"  in ");
     let b = put_path(room, a, s, p);
@@ -30,7 +29,7 @@ fn put_path_line(room: &mut [u8], at: usize, s: &[u8], p: usize) -> usize
 }
 
 pub fn put_refused(room: &mut [u8], at: usize, number: usize, place: usize, s: &[u8]) -> usize
-    ensures { Writes (refused_text number place (was s)) at room result }
+    ensures { Writes (refused_text number place s.now) at room result }
 {
     let to = put_refused_line(room, at, number, place);
     if number < Refusal::NOT_CBOR {

@@ -1,6 +1,5 @@
 // The answers of check, newer and translate, as text in lent room.
 ghost use Rattle.std.specs.Prelude.{◌<◌};
-ghost use Rattle.rules.specs.Lent.{was};
 ghost use Rattle.rules.specs.Limits.{limits, section_count};
 ghost use Rattle.text.specs.Text.{Writes};
 ghost use Rattle.depot_report.specs.Report.{component_text, components_text, section_text, sections_text, span_text, manifest_text};
@@ -16,7 +15,7 @@ use text_pieces::put_labelled;
 
 fn put_component(room: &mut [u8], at: usize, s: &[u8], ids: &Places, k: usize) -> usize
     requires { k < limits.components }
-    ensures { Writes (component_text (was s) (was ids) k) at room result }
+    ensures { Writes (component_text s.now ids.now k) at room result }
 {
     let a = put_labelled(room, at, b"component ", k);
     let b = put_spaces(room, a, 2);
@@ -25,7 +24,7 @@ fn put_component(room: &mut [u8], at: usize, s: &[u8], ids: &Places, k: usize) -
 }
 
 fn put_components(room: &mut [u8], at: usize, s: &[u8], ids: &Places, n: usize) -> usize
-    ensures { Writes (components_text (was s) (was ids) n) at room result }
+    ensures { Writes (components_text s.now ids.now n) at room result }
 {
     let end = least(n, Controller::COMPONENTS);
     let mut to = at;
@@ -47,7 +46,7 @@ fn put_span(room: &mut [u8], at: usize, from: usize, to: usize) -> usize
 
 fn put_one_section(room: &mut [u8], at: usize, sections: &SectionPlaces, j: usize) -> usize
     requires { j < section_count }
-    ensures { Writes (section_text (was sections) j) at room result }
+    ensures { Writes (section_text sections.now j) at room result }
 {
     let end = sections[2 * j + 1];
     if end == 0 {
@@ -59,7 +58,7 @@ fn put_one_section(room: &mut [u8], at: usize, sections: &SectionPlaces, j: usiz
 }
 
 fn put_sections(room: &mut [u8], at: usize, sections: &SectionPlaces) -> usize
-    ensures { Writes (sections_text (was sections)) at room result }
+    ensures { Writes (sections_text sections.now) at room result }
 {
     let mut to = at;
     let mut j = 0;
@@ -85,7 +84,7 @@ fn put_head(room: &mut [u8], at: usize, number: usize) -> usize
 }
 
 fn put_accepted(room: &mut [u8], at: usize, answer: CheckAnswer, envelope: &[u8]) -> usize
-    ensures { Writes (accepted_text answer (was envelope)) at room result }
+    ensures { Writes (accepted_text answer envelope.now) at room result }
 {
     let ids = answer.ids;
     let sections = answer.sections;
@@ -97,7 +96,7 @@ fn put_accepted(room: &mut [u8], at: usize, answer: CheckAnswer, envelope: &[u8]
 
 // What check answered for the envelope.
 pub fn put_checked(room: &mut [u8], at: usize, answer: CheckAnswer, envelope: &[u8]) -> usize
-    ensures { Writes (checked_text answer (was envelope)) at room result }
+    ensures { Writes (checked_text answer envelope.now) at room result }
 {
     if answer.refusal == 0 {
         return put_accepted(room, at, answer, envelope);

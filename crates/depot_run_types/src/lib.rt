@@ -2,7 +2,7 @@
 use rules::controller::Places;
 
 // What is run. A program has its group in itself.
-#[derive(Drop)]
+#[derive(Clone, Copy)]
 pub enum Run {
     Install,
     Boot,
@@ -10,7 +10,7 @@ pub enum Run {
 }
 
 // What a run is about, read from the envelope or program: the group, the number, and the places of the components' identifiers.
-#[derive(Drop)]
+#[derive(Clone, Copy)]
 pub struct Subject {
     pub boot: bool,
     pub number: usize,

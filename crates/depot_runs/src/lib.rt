@@ -1,6 +1,5 @@
 // What the depot tool runs on a described device, and what the run is given.
 ghost use Rattle.std.specs.Prelude.{◌≡◌};
-ghost use Rattle.rules.specs.Lent.{was};
 ghost use Rattle.pitvorgas.specs.Answers.{given, Answers};
 ghost use Rattle.depot_runs.specs.Ran.{device_of, ran_as};
 
@@ -30,7 +29,7 @@ pub fn run_as(
     answers: &[u8],
     trace: &mut [u8],
 ) -> RunAnswer
-    ensures { Answers (ran_as what (was bytes) (given d.verdict (device_of d) slots answers trace)) (device_of d) slots trace result }
+    ensures { Answers (ran_as what bytes.now (given d.verdict (device_of d) slots.old answers.now trace.old)) (device_of d) slots trace result }
 {
     let device = device_of(d);
     match what {

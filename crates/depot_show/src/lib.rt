@@ -1,6 +1,5 @@
 // A manifest as a person reads it, in lent room.
 ghost use Rattle.std.specs.Prelude.{◌≤◌};
-ghost use Rattle.rules.specs.Lent.{was};
 ghost use Rattle.rules.specs.Limits.{limits};
 ghost use Rattle.text.specs.Text.{Writes};
 ghost use Rattle.depot_show.specs.Manifest.{component_text, components_text, section_text, sections_text, parts_text};
@@ -18,7 +17,7 @@ mod walk;
 
 // Component `k`, whose identifier stands from `from` to `end`.
 fn put_component(room: &mut [u8], at: usize, s: &[u8], k: usize, from: usize, end: usize) -> usize
-    ensures { Writes (component_text (was s) k from end) at room result }
+    ensures { Writes (component_text s.now k from end) at room result }
 {
     let a = put_labelled(room, at, b"component ", k);
     let b = put(room, a, b"  ");
@@ -30,7 +29,7 @@ fn put_component(room: &mut [u8], at: usize, s: &[u8], k: usize, from: usize, en
 // The first `n` components.
 fn put_components(room: &mut [u8], at: usize, s: &[u8], n: usize, ids: &Places) -> usize
     requires { n ≤ limits.components }
-    ensures { Writes (components_text (was s) (was ids) n) at room result }
+    ensures { Writes (components_text s.now ids.now n) at room result }
 {
     let mut to = at;
     let mut k = 0;
@@ -43,7 +42,7 @@ fn put_components(room: &mut [u8], at: usize, s: &[u8], n: usize, ids: &Places) 
 
 // The section under `key`, whose sequence stands from `from` to `end`; an end of 0 says that it is not there.
 fn put_section(room: &mut [u8], at: usize, s: &[u8], key: usize, from: usize, end: usize) -> usize
-    ensures { Writes (section_text (was s) key from end) at room result }
+    ensures { Writes (section_text s.now key from end) at room result }
 {
     if end == 0 {
         return at;
@@ -56,7 +55,7 @@ fn put_section(room: &mut [u8], at: usize, s: &[u8], key: usize, from: usize, en
 }
 
 fn put_sections(room: &mut [u8], at: usize, s: &[u8], sections: &SectionPlaces) -> usize
-    ensures { Writes (sections_text (was s) (was sections)) at room result }
+    ensures { Writes (sections_text s.now sections.now) at room result }
 {
     let mut to = at;
     let mut j = 0;
@@ -85,7 +84,7 @@ pub fn put_parts(
     ids: &Places,
     sections: &SectionPlaces,
 ) -> usize
-    ensures { Writes (parts_text (was s) number components (was ids) (was sections)) at room result }
+    ensures { Writes (parts_text s.now number components ids.now sections.now) at room result }
 {
     let a = put_labelled(room, at, b"number ", number);
     let b = put_byte(room, a, NEWLINE);

@@ -1,7 +1,6 @@
 // Commands and sequences of any bytes. Where a code, a key, a string or a sequence is not there, a mark stands for it, and the walk goes on
 // after its container.
 ghost use Rattle.std.specs.Prelude.{◌≡◌};
-ghost use Rattle.rules.specs.Lent.{was, left};
 ghost use Rattle.rules_kinds.specs.Kinds.{kind_of, is_sequence};
 ghost use Rattle.depot_show.specs.Shown.{Shows, stopped};
 ghost use Rattle.depot_show.specs.Shown.{parameters_shown, nested_shown, alternatives_shown, command_shown, commands_shown, sequence_shown};
@@ -14,7 +13,7 @@ use rules_kinds::argument_of;
 use text::{put, put_byte};
 
 // The place after what was shown, and the place in the room after its text.
-#[derive(Drop)]
+#[derive(Clone, Copy)]
 pub struct Put {
     pub next: usize,
     pub to: usize,
@@ -22,7 +21,7 @@ pub struct Put {
 
 // For a sequence that is not there.
 fn put_stop(room: &mut [u8], to: usize, depth: usize, e: usize) -> Put
-    ensures { Shows (stopped depth e) to (was room) result (left room) }
+    ensures { Shows (stopped depth e) to room.old result room.new }
 {
     let a = put_margin(room, to, 8, depth);
     let b = put(room, a, b"?");
@@ -40,7 +39,7 @@ fn put_parameters(
     at: usize,
     count: usize,
 ) -> Put
-    ensures { Shows (parameters_shown (was s) depth count e at) to (was room) result (left room) }
+    ensures { Shows (parameters_shown s.now depth count e at) to room.old result room.new }
 {
     let mut next = at;
     let mut end = to;
@@ -61,7 +60,7 @@ fn put_parameters(
 // The sequence in the byte string at `at`.
 #[cycle(put_alternatives_put_command_put_commands_put_nested_put_sequence)]
 fn put_nested(room: &mut [u8], to: usize, s: &[u8], depth: usize, e: usize, at: usize) -> Put
-    ensures { Shows (nested_shown (was s) (sequence_shown (was s) depth) e at) to (was room) result (left room) }
+    ensures { Shows (nested_shown s.now (sequence_shown s.now depth) e at) to room.old result room.new }
 {
     let b = want(s, e, at, cbor::BYTES);
     let r = put_sequence(room, to, s, depth, b.after, b.next);
@@ -81,7 +80,7 @@ fn put_alternatives(
     at: usize,
     count: usize,
 ) -> Put
-    ensures { Shows (alternatives_shown (was s) (sequence_shown (was s) depth) depth count count e at) to (was room) result (left room) }
+    ensures { Shows (alternatives_shown s.now (sequence_shown s.now depth) depth count count e at) to room.old result room.new }
 {
     let mut next = at;
     let mut end = to;
@@ -109,7 +108,7 @@ fn holds_sequence(code: usize) -> bool
 // The command at `at`; the sequences that it holds may be `depth` deep.
 #[cycle(put_alternatives_put_command_put_commands_put_nested_put_sequence)]
 fn put_command(room: &mut [u8], to: usize, s: &[u8], depth: usize, e: usize, at: usize) -> Put
-    ensures { Shows (command_shown (was s) (sequence_shown (was s) depth) depth e at) to (was room) result (left room) }
+    ensures { Shows (command_shown s.now (sequence_shown s.now depth) depth e at) to room.old result room.new }
 {
     let c = want(s, e, at, cbor::NUMBER);
     let i = look(s, e, c.next);
@@ -144,7 +143,7 @@ fn put_commands(
     at: usize,
     count: usize,
 ) -> Put
-    ensures { Shows (commands_shown (was s) (sequence_shown (was s) depth) depth count e at) to (was room) result (left room) }
+    ensures { Shows (commands_shown s.now (sequence_shown s.now depth) depth count e at) to room.old result room.new }
 {
     let mut next = at;
     let mut end = to;
@@ -171,7 +170,7 @@ pub(crate) fn put_sequence(
     e: usize,
     at: usize,
 ) -> Put
-    ensures { Shows (sequence_shown (was s) depth e at) to (was room) result (left room) }
+    ensures { Shows (sequence_shown s.now depth e at) to room.old result room.new }
 {
     if depth == 0 {
         return put_stop(room, to, 0, e);

@@ -1,6 +1,5 @@
 // The slots after a run, as text in lent room.
 ghost use Rattle.std.specs.Prelude.{◌≤◌};
-ghost use Rattle.rules.specs.Lent.{was};
 ghost use Rattle.rules.specs.Limits.{limits};
 ghost use Rattle.run_slots.specs.Slot.{Holds};
 ghost use Rattle.text.specs.Text.{Writes};
@@ -37,7 +36,7 @@ fn put_present(room: &mut [u8], at: usize, present: u8) -> usize
 
 fn put_image(room: &mut [u8], at: usize, slots: &[u8], k: usize) -> usize
     requires { Holds slots.now k }
-    ensures { Writes (image_text (was slots) k) at room result }
+    ensures { Writes (image_text slots.now k) at room result }
 {
     let a = put_present(room, at, slots[SLOT_BYTES * k + IMAGE]);
     let b = put(room, a, b"  size ");
@@ -49,7 +48,7 @@ fn put_image(room: &mut [u8], at: usize, slots: &[u8], k: usize) -> usize
 // The digest of its image, and its identifier.
 fn put_names(room: &mut [u8], at: usize, slots: &[u8], k: usize) -> usize
     requires { Holds slots.now k }
-    ensures { Writes (names_text (was slots) k) at room result }
+    ensures { Writes (names_text slots.now k) at room result }
 {
     let p = SLOT_BYTES * k;
     let a = put(room, at, b"  digest ");
@@ -61,7 +60,7 @@ fn put_names(room: &mut [u8], at: usize, slots: &[u8], k: usize) -> usize
 
 fn put_slot(room: &mut [u8], at: usize, slots: &[u8], k: usize, owner: usize, n: usize) -> usize
     requires { Holds slots.now k }
-    ensures { Writes (slot_text (was slots) k owner n) at room result }
+    ensures { Writes (slot_text slots.now k owner n) at room result }
 {
     let a = put(room, at, b"slot ");
     let b = put_padded(room, a, k, 2);
@@ -81,7 +80,7 @@ fn put_owned(
     n: usize,
 ) -> usize
     requires { (Holds slots.now k) × (n ≤ limits.components) }
-    ensures { Writes (owned_text (was slots) (was s) (was ids) n k) at room result }
+    ensures { Writes (owned_text slots.now s.now ids.now n k) at room result }
 {
     let owner = component_with(slot_name(slots, k), s, ids, n);
     put_slot(room, at, slots, k, owner, n)
@@ -97,7 +96,7 @@ pub fn put_slots(
     n: usize,
 ) -> usize
     requires { n ≤ limits.components }
-    ensures { Writes (slots_text (was slots) (was s) (was ids) n) at room result }
+    ensures { Writes (slots_text slots.now s.now ids.now n) at room result }
 {
     let end = slots.len() / SLOT_BYTES;
     let mut to = at;

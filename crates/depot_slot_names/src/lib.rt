@@ -1,6 +1,5 @@
 // Slots and components by their identifiers, in any bytes: an identifier of a slot is cut where its room ends.
 ghost use Rattle.std.specs.Prelude.{◌≡◌, ◌≤◌, ◌<◌};
-ghost use Rattle.rules.specs.Lent.{was};
 ghost use Rattle.rules.specs.Bytes.{same, index_of, bytes_at, span_at};
 ghost use Rattle.rules.specs.Limits.{limits};
 ghost use Rattle.rules.specs.Slots.{slot_at};
@@ -17,7 +16,7 @@ use text_pieces::within;
 // The identifier of the slot of number k.
 pub fn slot_name(slots: &[u8], k: usize) -> &[u8]
     requires { Holds slots.now k }
-    ensures { result.now ≡ (slot_at (was slots) k).id }
+    ensures { result.now ≡ (slot_at slots.now k).id }
 {
     let p = SLOT_BYTES * k;
     let n = least(wide(slots[p]), Controller::IDENTIFIER_BYTES);
@@ -29,14 +28,14 @@ pub fn slot_name(slots: &[u8], k: usize) -> &[u8]
 // Whether the slot of number k has that identifier.
 fn has_name(id: &[u8], slots: &[u8], k: usize) -> bool
     requires { Holds slots.now k }
-    ensures { result ≡ same (was id) (slot_at (was slots) k).id }
+    ensures { result ≡ same id.now (slot_at slots.now k).id }
 {
     is(id, slot_name(slots, k))
 }
 
 // The first slot from number `from` on that has the identifier; the first number that is no slot's, if none has it.
 pub fn slot_with(id: &[u8], slots: &[u8], from: usize) -> usize
-    ensures { result ≡ slot_with (was id) (was slots) from }
+    ensures { result ≡ slot_with id.now slots.now from }
 {
     let n = slots.len() / SLOT_BYTES;
     let mut k = from;
@@ -52,7 +51,7 @@ pub fn slot_with(id: &[u8], slots: &[u8], from: usize) -> usize
 // Whether component k has that identifier.
 fn is_component(id: &[u8], s: &[u8], ids: &Places, k: usize) -> bool
     requires { k < limits.components }
-    ensures { result ≡ same (was id) (bytes_at (was s) (span_at (was ids) k)) }
+    ensures { result ≡ same id.now (bytes_at s.now (span_at ids.now k)) }
 {
     let p = within(s, ids[2 * k], ids[2 * k + 1]);
     let a = p.from;
@@ -63,7 +62,7 @@ fn is_component(id: &[u8], s: &[u8], ids: &Places, k: usize) -> bool
 // The first of n components that has the identifier, or n.
 pub fn component_with(id: &[u8], s: &[u8], ids: &Places, n: usize) -> usize
     requires { n ≤ limits.components }
-    ensures { result ≡ index_of (was id) (names_at (was s) (was ids) n) }
+    ensures { result ≡ index_of id.now (names_at s.now ids.now n) }
 {
     let mut k = 0;
     while k < n {

@@ -1,6 +1,5 @@
 // What a run is about, read from the envelope or program: all 0 where that is refused.
 ghost use Rattle.std.specs.Prelude.{◌≡◌};
-ghost use Rattle.rules.specs.Lent.{was};
 ghost use Rattle.rules.specs.Check.{check};
 ghost use Rattle.rules.specs.ProgramTest.{program_in};
 ghost use Rattle.pitvorgas.specs.Answers.{checked_of};
@@ -12,7 +11,7 @@ use program_test::test::test_program;
 use rules::answers::Group;
 
 fn of_envelope(boot: bool, envelope: &[u8]) -> Subject
-    ensures { result ≡ of_checked boot (checked_of (check (was envelope))) }
+    ensures { result ≡ of_checked boot (checked_of (check envelope.now)) }
 {
     let a = pitvorgas_check(envelope);
     let ids = a.ids;
@@ -34,7 +33,7 @@ fn is_boot(group: Group) -> bool
 }
 
 fn of_program(program: &[u8]) -> Subject
-    ensures { result ≡ of_program (was program) (program_in (was program)) }
+    ensures { result ≡ of_program program.now (program_in program.now) }
 {
     let t = test_program(program);
     let group = t.group;
@@ -48,7 +47,7 @@ fn of_program(program: &[u8]) -> Subject
 }
 
 pub fn subject_of(what: Run, bytes: &[u8]) -> Subject
-    ensures { result ≡ subject_of what (was bytes) }
+    ensures { result ≡ subject_of what bytes.now }
 {
     match what {
         Run::Install => of_envelope(false, bytes),

@@ -1,12 +1,11 @@
 // The command line of the depot tool: which job its words ask for.
 ghost use Rattle.std.specs.Prelude.{◌≡◌};
-ghost use Rattle.rules.specs.Lent.{was};
 ghost use Rattle.depot_usage.specs.Usage.{told_of, job_of, words_of, most_of, asked_of};
 ghost use Rattle.depot_usage.specs.Usage.{fits as Usage·fits};
 
 use byte_buffer::is;
 
-#[derive(Drop)]
+#[derive(Clone, Copy)]
 pub enum Job {
     Check,
     Show,
@@ -22,7 +21,7 @@ pub enum Job {
 }
 
 // The group that a job is asked for.
-#[derive(Drop)]
+#[derive(Clone, Copy)]
 pub enum Asked {
     Install,
     Boot,
@@ -31,7 +30,7 @@ pub enum Asked {
 
 // What is told of the tool itself.
 fn told_of(word: &[u8]) -> Job
-    ensures { result ≡ told_of (was word) }
+    ensures { result ≡ told_of word.now }
 {
     if is(word, b"help") {
         return Job::Help;
@@ -50,7 +49,7 @@ fn told_of(word: &[u8]) -> Job
 
 // The job that the first word names.
 pub fn job_of(word: &[u8]) -> Job
-    ensures { result ≡ job_of (was word) }
+    ensures { result ≡ job_of word.now }
 {
     if is(word, b"check") {
         return Job::Check;
@@ -129,7 +128,7 @@ pub fn fits(job: Job, count: usize) -> bool
 
 // The group that a word names.
 pub fn asked_group(word: &[u8]) -> Asked
-    ensures { result ≡ asked_of (was word) }
+    ensures { result ≡ asked_of word.now }
 {
     if is(word, b"install") {
         return Asked::Install;

@@ -1,5 +1,4 @@
 // The value of a parameter in a program: a URI in quotes, a digest in hexadecimal, a number in decimal.
-ghost use Rattle.rules.specs.Lent.{was};
 ghost use Rattle.text.specs.Text.{Writes};
 ghost use Rattle.depot_values.specs.Values.{number_text, known_text, value_text};
 
@@ -13,7 +12,7 @@ use text_numbers::{put_decimal, put_hex};
 
 // A number of as many bytes as a size or a source.
 fn put_number(room: &mut [u8], at: usize, s: &[u8]) -> usize
-    ensures { Writes (number_text (was s)) at room result }
+    ensures { Writes (number_text s.now) at room result }
 {
     if s.len() == SIZE_BYTES {
         return put_decimal(room, at, four(s, 0));
@@ -25,7 +24,7 @@ fn put_number(room: &mut [u8], at: usize, s: &[u8]) -> usize
 }
 
 fn put_known(room: &mut [u8], at: usize, parameter: Parameter, s: &[u8]) -> usize
-    ensures { Writes (known_text parameter (was s)) at room result }
+    ensures { Writes (known_text parameter s.now) at room result }
 {
     match parameter {
         Parameter::Coerce => put_number(room, at, s),
@@ -37,7 +36,7 @@ fn put_known(room: &mut [u8], at: usize, parameter: Parameter, s: &[u8]) -> usiz
 }
 
 pub fn put_value(room: &mut [u8], at: usize, key: usize, s: &[u8]) -> usize
-    ensures { Writes (value_text key (was s)) at room result }
+    ensures { Writes (value_text key s.now) at room result }
 {
     let row = look_up_parameter(&tables(), key);
     match row {

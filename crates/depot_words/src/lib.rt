@@ -1,6 +1,5 @@
 // The words of a command line, as bytes: one after the other, each ended by a zero byte.
 ghost use Rattle.std.specs.Prelude.{◌≡◌, map, ◌≤◌, length, drop};
-ghost use Rattle.rules.specs.Lent.{was};
 ghost use Rattle.text.specs.Text.{Writes};
 ghost use Rattle.depot_words.specs.CommandLine.{word_at, word_count, later_words, words_of};
 ghost use Rattle.depot_words.specs.CommandLine.{ends as CommandLine·ends, parted as CommandLine·parted};
@@ -13,7 +12,7 @@ const END: usize = 0;
 
 // The place after the first word and its end, or the length.
 fn after_word(words: &[u8]) -> usize
-    ensures { (result ≤ length (was words)) × (drop result (was words) ≡ later_words (was words)) }
+    ensures { (result ≤ length words.now) × (drop result words.now ≡ later_words words.now) }
 {
     let n = position(words, END);
     if n < words.len() {
@@ -24,7 +23,7 @@ fn after_word(words: &[u8]) -> usize
 
 // The words after the first.
 pub fn later_words(words: &[u8]) -> &[u8]
-    ensures { result.now ≡ later_words (was words) }
+    ensures { result.now ≡ later_words words.now }
 {
     let n = after_word(words);
     &words[n..]
@@ -32,7 +31,7 @@ pub fn later_words(words: &[u8]) -> &[u8]
 
 // Word k, counted from 0; empty where there are fewer.
 pub fn word_at(words: &[u8], k: usize) -> &[u8]
-    ensures { result.now ≡ word_at k (was words) }
+    ensures { result.now ≡ word_at k words.now }
 {
     let mut rest = words;
     let mut left = k;
@@ -56,7 +55,7 @@ fn ends(b: u8) -> usize
 }
 
 pub fn word_count(words: &[u8]) -> usize
-    ensures { result ≡ word_count (was words) }
+    ensures { result ≡ word_count words.now }
 {
     let mut n = 0;
     let mut i = 0;
@@ -77,7 +76,7 @@ fn parted(b: u8) -> u8
 }
 
 fn put_parted(room: &mut [u8], at: usize, line: &[u8]) -> usize
-    ensures { Writes (map CommandLine·parted (was line)) at room result }
+    ensures { Writes (map CommandLine·parted line.now) at room result }
 {
     let mut to = at;
     let mut i = 0;
@@ -90,7 +89,7 @@ fn put_parted(room: &mut [u8], at: usize, line: &[u8]) -> usize
 
 // A line whose words are parted by single spaces, as words.
 pub fn put_words(room: &mut [u8], at: usize, line: &[u8]) -> usize
-    ensures { Writes (words_of (was line)) at room result }
+    ensures { Writes (words_of line.now) at room result }
 {
     let to = put_parted(room, at, line);
     put_byte(room, to, 0)

@@ -1,6 +1,5 @@
 // Device descriptions: the input of a run, read from a text (docs/DEPOT.md).
 ghost use Rattle.std.specs.Prelude.{◌≡◌, ◌&&◌, ◌+◌, leb, length};
-ghost use Rattle.rules.specs.Lent.{was};
 ghost use Rattle.rules.specs.Bytes.{same};
 ghost use Rattle.device_description.specs.Scenario as Rule;
 ghost use Rattle.device_description.specs.Values.{flag_if, name_of};
@@ -24,7 +23,7 @@ pub const SLOTS_ROOM: usize = MOST_SLOTS * SLOT_BYTES;
 pub const ANSWERS_ROOM: usize = MOST_ANSWERS * IMAGE_BYTES;
 
 // What a description says. The slots and the answers stand in the lent rooms; here is how many bytes they have.
-#[derive(Drop)]
+#[derive(Clone, Copy)]
 pub struct Scenario {
     pub verdict: bool,
     pub vendor: Sixteen,
@@ -72,20 +71,20 @@ fn understood(d: Scenario, n: usize, known: bool) -> Scenario
 }
 
 // What a line says of a truth value, and of a vendor or class. Where it is not understood, they are as before.
-#[derive(Drop)]
+#[derive(Clone, Copy)]
 struct Flag {
     known: bool,
     on: bool,
 }
 
-#[derive(Drop)]
+#[derive(Clone, Copy)]
 struct Name {
     known: bool,
     bytes: Sixteen,
 }
 
 fn read_flag(t: &[u8], yes: &[u8], no: &[u8], before: bool) -> Flag
-    ensures { result ≡ flag_if (same (was t) (was yes)) (same (was t) (was no)) before }
+    ensures { result ≡ flag_if (same t.now yes.now) (same t.now no.now) before }
 {
     if is(t, yes) {
         return Flag {
@@ -106,7 +105,7 @@ fn read_flag(t: &[u8], yes: &[u8], no: &[u8], before: bool) -> Flag
 }
 
 fn read_name(t: &[u8], before: Sixteen) -> Name
-    ensures { result ≡ name_of (was t) before }
+    ensures { result ≡ name_of t.now before }
 {
     if is_bytes(Controller::CLASS_BYTES, t) {
         let bytes = sixteen(t);
@@ -120,7 +119,7 @@ fn read_name(t: &[u8], before: Sixteen) -> Name
 
 // The lines that set a value: n is the number of the line, t what stands behind the word in front.
 fn verdict_line(mut d: Scenario, n: usize, t: &[u8]) -> Scenario
-    ensures { result ≡ Rule.verdict_line n d (was t) }
+    ensures { result ≡ Rule.verdict_line n d t.now }
 {
     let f = read_flag(t, b"good", b"bad", d.verdict);
     d.verdict = f.on;
@@ -128,7 +127,7 @@ fn verdict_line(mut d: Scenario, n: usize, t: &[u8]) -> Scenario
 }
 
 fn event_line(mut d: Scenario, n: usize, t: &[u8]) -> Scenario
-    ensures { result ≡ Rule.event_line n d (was t) }
+    ensures { result ≡ Rule.event_line n d t.now }
 {
     let f = read_flag(t, b"open", b"closed", d.event);
     d.event = f.on;
@@ -136,7 +135,7 @@ fn event_line(mut d: Scenario, n: usize, t: &[u8]) -> Scenario
 }
 
 fn vendor_line(mut d: Scenario, n: usize, t: &[u8]) -> Scenario
-    ensures { result ≡ Rule.vendor_line n d (was t) }
+    ensures { result ≡ Rule.vendor_line n d t.now }
 {
     let before = d.vendor;
     let name = read_name(t, before);
@@ -146,7 +145,7 @@ fn vendor_line(mut d: Scenario, n: usize, t: &[u8]) -> Scenario
 }
 
 fn class_line(mut d: Scenario, n: usize, t: &[u8]) -> Scenario
-    ensures { result ≡ Rule.class_line n d (was t) }
+    ensures { result ≡ Rule.class_line n d t.now }
 {
     let before = d.class;
     let name = read_name(t, before);
@@ -156,7 +155,7 @@ fn class_line(mut d: Scenario, n: usize, t: &[u8]) -> Scenario
 }
 
 fn number_line(mut d: Scenario, n: usize, t: &[u8]) -> Scenario
-    ensures { result ≡ Rule.number_line n d (was t) }
+    ensures { result ≡ Rule.number_line n d t.now }
 {
     let number = decimal(t);
     if number < NO_NUMBER {
@@ -167,7 +166,7 @@ fn number_line(mut d: Scenario, n: usize, t: &[u8]) -> Scenario
 }
 
 fn setting(d: Scenario, n: usize, w: &[u8], t: &[u8]) -> Scenario
-    ensures { result ≡ Rule.setting n d (was w) (was t) }
+    ensures { result ≡ Rule.setting n d w.now t.now }
 {
     if is(w, b"verdict") {
         return verdict_line(d, n, t);
@@ -204,7 +203,7 @@ fn fits(good: bool, at: usize, width: usize, length: usize) -> bool
 }
 
 fn slot_line(mut d: Scenario, n: usize, t: &[u8], slots: &mut [u8]) -> Scenario
-    ensures { Rule.TakesSlot (Rule.slot_line (length (was slots)) n d (was t)) d slots result }
+    ensures { Rule.TakesSlot (Rule.slot_line (length slots.old) n d t.now) d slots result }
 {
     let at = d.slots;
     if !fits(is_slot(t), at, SLOT_BYTES, slots.len()) {
@@ -216,7 +215,7 @@ fn slot_line(mut d: Scenario, n: usize, t: &[u8], slots: &mut [u8]) -> Scenario
 }
 
 fn answer_line(mut d: Scenario, n: usize, t: &[u8], answers: &mut [u8]) -> Scenario
-    ensures { Rule.TakesAnswer (Rule.answer_line (length (was answers)) n d (was t)) d answers result }
+    ensures { Rule.TakesAnswer (Rule.answer_line (length answers.old) n d t.now) d answers result }
 {
     let at = d.answers;
     if !fits(is_answer(t), at, IMAGE_BYTES, answers.len()) {
@@ -229,14 +228,14 @@ fn answer_line(mut d: Scenario, n: usize, t: &[u8], answers: &mut [u8]) -> Scena
 
 // A line that says nothing.
 fn passed(l: &[u8]) -> bool
-    ensures { result ≡ Rule.passed (was l) }
+    ensures { result ≡ Rule.passed l.now }
 {
     l.len() == 0
 }
 
 // One line.
 fn take_line(d: Scenario, n: usize, l: &[u8], slots: &mut [u8], answers: &mut [u8]) -> Scenario
-    ensures { Rule.Takes (Rule.line (length (was slots)) (length (was answers)) n d (was l)) d slots answers result }
+    ensures { Rule.Takes (Rule.line (length slots.old) (length answers.old) n d l.now) d slots answers result }
 {
     if passed(l) {
         return d;
@@ -254,7 +253,7 @@ fn take_line(d: Scenario, n: usize, l: &[u8], slots: &mut [u8], answers: &mut [u
 
 // A description, whatever its bytes. Slots and answers are put into the lent rooms, each from the start; more than fit are refused as a line is.
 pub fn describe(text: &[u8], slots: &mut [u8], answers: &mut [u8]) -> Scenario
-    ensures { Rule.Holds (Rule.described (length (was slots)) (length (was answers)) (was text)) slots answers result }
+    ensures { Rule.Holds (Rule.described (length slots.old) (length answers.old) text.now) slots answers result }
 {
     let mut d = start();
     let mut n = 1;

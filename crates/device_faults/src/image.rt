@@ -1,5 +1,4 @@
 // Why a size and a digest are refused, and an answer.
-ghost use Rattle.rules.specs.Lent.{was};
 ghost use Rattle.text.specs.Text.{Writes};
 ghost use Rattle.device_faults.specs.Faults.{digest_text, too_many, image_fault, answer_fault};
 
@@ -13,7 +12,7 @@ use text_pieces::put_labelled;
 
 // There are more of these things than the rooms have space for.
 pub(crate) fn put_too_many(room: &mut [u8], at: usize, most: usize, name: &[u8]) -> usize
-    ensures { Writes (too_many most (was name)) at room result }
+    ensures { Writes (too_many most name.now) at room result }
 {
     let a = put_labelled(room, at, b"more than ", most);
     let b = put_byte(room, a, b' ');
@@ -22,7 +21,7 @@ pub(crate) fn put_too_many(room: &mut [u8], at: usize, most: usize, name: &[u8])
 }
 
 fn put_digest(room: &mut [u8], at: usize, name: &[u8]) -> usize
-    ensures { Writes (digest_text (was name)) at room result }
+    ensures { Writes (digest_text name.now) at room result }
 {
     let a = put(room, at, name);
     let b = put_labelled(room, a, b": the digest is not ", Controller::DIGEST_BYTES);
@@ -37,7 +36,7 @@ pub(crate) fn put_image_fault(
     most: usize,
     t: &[u8],
 ) -> usize
-    ensures { Writes (image_fault (was name) most (was t)) at room result }
+    ensures { Writes (image_fault name.now most t.now) at room result }
 {
     if NO_NUMBER <= decimal(word(t)) {
         let a = put(room, at, name);
@@ -55,7 +54,7 @@ pub(crate) fn put_image_fault(
 }
 
 pub(crate) fn put_answer_fault(room: &mut [u8], at: usize, t: &[u8]) -> usize
-    ensures { Writes (answer_fault (was t)) at room result }
+    ensures { Writes (answer_fault t.now) at room result }
 {
     if status(word(t)) <= LARGEST_STATUS {
         return put_image_fault(room, at, b"answer", MOST_ANSWERS, rest(t));

@@ -1,5 +1,4 @@
 // Why a line of a device description is refused, as text in lent room (docs/DEPOT.md).
-ghost use Rattle.rules.specs.Lent.{was};
 ghost use Rattle.text.specs.Text.{Writes};
 ghost use Rattle.device_faults.specs.Faults.{line_fault, fault_text};
 
@@ -18,7 +17,7 @@ mod slot;
 
 // What is wrong in a line: the tests are made in the reader's order.
 fn put_line_fault(room: &mut [u8], at: usize, l: &[u8]) -> usize
-    ensures { Writes (line_fault (was l)) at room result }
+    ensures { Writes (line_fault l.now) at room result }
 {
     let w = word(l);
     if is(w, b"slot") {
@@ -32,7 +31,7 @@ fn put_line_fault(room: &mut [u8], at: usize, l: &[u8]) -> usize
 
 // The line of that number, counted from 1, of a description that the reader refused by it.
 pub fn put_fault(room: &mut [u8], at: usize, text: &[u8], line: usize) -> usize
-    ensures { Writes (fault_text (was text) line) at room result }
+    ensures { Writes (fault_text text.now line) at room result }
 {
     let a = put_labelled(room, at, b"line ", line);
     let b = put(room, a, b": ");

@@ -1,6 +1,5 @@
 // Why a line that is to set a value is refused, and one that begins with an unknown word.
 ghost use Rattle.std.specs.Prelude.{◌≡◌, take};
-ghost use Rattle.rules.specs.Lent.{was};
 ghost use Rattle.text.specs.Text.{Writes};
 ghost use Rattle.device_faults.specs.Faults.{shown_bytes, unknown_text, sixteen_text, setting_fault};
 
@@ -13,7 +12,7 @@ use text_pieces::put_labelled;
 const SHOWN_BYTES: usize = 32;
 
 fn shown(w: &[u8]) -> &[u8]
-    ensures { result.now ≡ take shown_bytes (was w) }
+    ensures { result.now ≡ take shown_bytes w.now }
 {
     if w.len() <= SHOWN_BYTES {
         return w;
@@ -22,14 +21,14 @@ fn shown(w: &[u8]) -> &[u8]
 }
 
 fn put_unknown(room: &mut [u8], at: usize, w: &[u8]) -> usize
-    ensures { Writes (unknown_text (was w)) at room result }
+    ensures { Writes (unknown_text w.now) at room result }
 {
     let a = put(room, at, b"no line begins with ");
     put_quoted(room, a, shown(w))
 }
 
 fn put_sixteen(room: &mut [u8], at: usize, w: &[u8]) -> usize
-    ensures { Writes (sixteen_text (was w)) at room result }
+    ensures { Writes (sixteen_text w.now) at room result }
 {
     let a = put(room, at, w);
     let b = put_labelled(room, a, b" is ", Controller::CLASS_BYTES);
@@ -38,7 +37,7 @@ fn put_sixteen(room: &mut [u8], at: usize, w: &[u8]) -> usize
 
 // The line begins with w.
 pub(crate) fn put_setting_fault(room: &mut [u8], at: usize, w: &[u8]) -> usize
-    ensures { Writes (setting_fault (was w)) at room result }
+    ensures { Writes (setting_fault w.now) at room result }
 {
     if is(w, b"verdict") {
         return put(room, at, b"verdict is good or bad");

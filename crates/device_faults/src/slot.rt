@@ -1,5 +1,4 @@
 // Why a slot is refused.
-ghost use Rattle.rules.specs.Lent.{was};
 ghost use Rattle.text.specs.Text.{Writes};
 ghost use Rattle.device_faults.specs.Faults.{state_fault, identifier_text, slot_fault};
 
@@ -14,7 +13,7 @@ use text_pieces::put_labelled;
 
 // Whether it is present, and its image.
 fn put_state_fault(room: &mut [u8], at: usize, w: &[u8], t: &[u8]) -> usize
-    ensures { Writes (state_fault (was w) (was t)) at room result }
+    ensures { Writes (state_fault w.now t.now) at room result }
 {
     if is(w, b"present") {
         return put_image_fault(room, at, b"slot", MOST_SLOTS, t);
@@ -41,7 +40,7 @@ fn put_identifier(room: &mut [u8], at: usize) -> usize
 }
 
 pub(crate) fn put_slot_fault(room: &mut [u8], at: usize, t: &[u8]) -> usize
-    ensures { Writes (slot_fault (was t)) at room result }
+    ensures { Writes (slot_fault t.now) at room result }
 {
     if !up_to_bytes(Controller::IDENTIFIER_BYTES, word(t)) {
         return put_identifier(room, at);

@@ -1,6 +1,5 @@
 // What a description's words write, as bytes in lent room.
 ghost use Rattle.std.specs.Prelude.{◌≡◌, ◌%◌, replicate};
-ghost use Rattle.rules.specs.Lent.{was};
 ghost use Rattle.rules.specs.Bytes.{be4};
 ghost use Rattle.rules.specs.Bytes.{put as Bytes·put};
 ghost use Rattle.rules.specs.Limits.{limits};
@@ -44,7 +43,7 @@ fn pair(a: u8, b: u8) -> u8
 
 // The bytes that a word writes in hexadecimal.
 fn put_bytes(room: &mut [u8], at: usize, w: &[u8]) -> usize
-    ensures { Writes (Words.bytes (was w)) at room result }
+    ensures { Writes (Words.bytes w.now) at room result }
 {
     let n = w.len() / 2;
     let mut to = at;
@@ -58,7 +57,7 @@ fn put_bytes(room: &mut [u8], at: usize, w: &[u8]) -> usize
 
 // A vendor or a class.
 pub fn sixteen(w: &[u8]) -> Sixteen
-    ensures { result ≡ Bytes·put (replicate limits.class 0) 0 (Words.bytes (was w)) }
+    ensures { result ≡ Bytes·put (replicate limits.class 0) 0 (Words.bytes w.now) }
 {
     let mut b = [0u8; Controller::CLASS_BYTES];
     put_bytes(&mut b, 0, w);
@@ -67,7 +66,7 @@ pub fn sixteen(w: &[u8]) -> Sixteen
 
 // An image: size and digest, which may be left out.
 fn put_image(room: &mut [u8], at: usize, t: &[u8]) -> usize
-    ensures { Writes (Rule.image (was t)) at room result }
+    ensures { Writes (Rule.image t.now) at room result }
 {
     if t.len() == 0 {
         return put_times(room, at, 0, CONTENT);
@@ -78,7 +77,7 @@ fn put_image(room: &mut [u8], at: usize, t: &[u8]) -> usize
 
 // An identifier's length, and the identifier in as many bytes as a slot has for it.
 fn put_identifier(room: &mut [u8], at: usize, w: &[u8]) -> usize
-    ensures { Writes (Rule.identifier (was w)) at room result }
+    ensures { Writes (Rule.identifier w.now) at room result }
 {
     let n = w.len() / 2;
     let a = put_byte(room, at, low(n));
@@ -90,7 +89,7 @@ fn put_identifier(room: &mut [u8], at: usize, w: &[u8]) -> usize
 }
 
 fn presence(w: &[u8]) -> u8
-    ensures { result ≡ Rule.presence (was w) }
+    ensures { result ≡ Rule.presence w.now }
 {
     if is(w, b"present") {
         return 1;
@@ -99,7 +98,7 @@ fn presence(w: &[u8]) -> u8
 }
 
 pub fn put_slot(room: &mut [u8], at: usize, t: &[u8]) -> usize
-    ensures { Writes (Rule.slot (was t)) at room result }
+    ensures { Writes (Rule.slot t.now) at room result }
 {
     let a = put_identifier(room, at, word(t));
     let t2 = rest(t);
@@ -110,7 +109,7 @@ pub fn put_slot(room: &mut [u8], at: usize, t: &[u8]) -> usize
 }
 
 pub fn put_answer(room: &mut [u8], at: usize, t: &[u8]) -> usize
-    ensures { Writes (Rule.answer (was t)) at room result }
+    ensures { Writes (Rule.answer t.now) at room result }
 {
     let a = put_byte(room, at, low(status(word(t))));
     put_image(room, a, rest(t))

@@ -1,6 +1,5 @@
 // Whether what stands in a line is a slot, or an answer.
 ghost use Rattle.std.specs.Prelude.{◌≡◌};
-ghost use Rattle.rules.specs.Lent.{was};
 ghost use Rattle.device_slots.specs.SlotText as Rule;
 
 use byte_buffer::is;
@@ -12,7 +11,7 @@ pub const LARGEST_STATUS: usize = 255;
 
 // A size and a digest.
 fn is_image(t: &[u8]) -> bool
-    ensures { result ≡ Rule.is_image (was t) }
+    ensures { result ≡ Rule.is_image t.now }
 {
     if NO_NUMBER <= decimal(word(t)) {
         return false;
@@ -22,7 +21,7 @@ fn is_image(t: &[u8]) -> bool
 
 // Whether a slot is present, and its image.
 fn is_state(w: &[u8], t: &[u8]) -> bool
-    ensures { result ≡ Rule.is_state (was w) (was t) }
+    ensures { result ≡ Rule.is_state w.now t.now }
 {
     if is(w, b"present") {
         return is_image(t);
@@ -37,7 +36,7 @@ fn is_state(w: &[u8], t: &[u8]) -> bool
 }
 
 pub fn is_slot(t: &[u8]) -> bool
-    ensures { result ≡ Rule.is_slot (was t) }
+    ensures { result ≡ Rule.is_slot t.now }
 {
     if !up_to_bytes(Controller::IDENTIFIER_BYTES, word(t)) {
         return false;
@@ -52,7 +51,7 @@ pub fn is_slot(t: &[u8]) -> bool
 
 // The status of an answer: good, bad or a number.
 pub fn status(w: &[u8]) -> usize
-    ensures { result ≡ Rule.status (was w) }
+    ensures { result ≡ Rule.status w.now }
 {
     if is(w, b"good") {
         return 0;
@@ -64,7 +63,7 @@ pub fn status(w: &[u8]) -> usize
 }
 
 pub fn is_answer(t: &[u8]) -> bool
-    ensures { result ≡ Rule.is_answer (was t) }
+    ensures { result ≡ Rule.is_answer t.now }
 {
     if LARGEST_STATUS < status(word(t)) {
         return false;

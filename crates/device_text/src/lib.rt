@@ -1,6 +1,5 @@
 // Lines, words and numbers of a text: here the words of a line.
 ghost use Rattle.std.specs.Prelude.{◌≡◌, ◌≤◌, length, take, drop};
-ghost use Rattle.rules.specs.Lent.{was};
 ghost use Rattle.device_text.specs.Words as Words;
 
 pub mod line;
@@ -26,7 +25,7 @@ fn blank(x: u8) -> bool
 
 // The place of the first blank, or the length.
 fn first_blank(s: &[u8]) -> usize
-    ensures { (result ≡ Words.first_blank (was s)) × (result ≤ length (was s)) }
+    ensures { (result ≡ Words.first_blank s.now) × (result ≤ length s.now) }
 {
     let mut i = 0;
     while i < s.len() {
@@ -40,7 +39,7 @@ fn first_blank(s: &[u8]) -> usize
 
 // How many blanks stand in front.
 fn in_front(s: &[u8]) -> usize
-    ensures { (result ≤ length (was s)) × (drop result (was s) ≡ Words.skip (was s)) }
+    ensures { (result ≤ length s.now) × (drop result s.now ≡ Words.skip s.now) }
 {
     let mut i = 0;
     while i < s.len() {
@@ -54,7 +53,7 @@ fn in_front(s: &[u8]) -> usize
 
 // How long the bytes are without the blanks at their end.
 fn trimmed(s: &[u8]) -> usize
-    ensures { (result ≤ length (was s)) × (take result (was s) ≡ Words.trim (was s)) }
+    ensures { (result ≤ length s.now) × (take result s.now ≡ Words.trim s.now) }
 {
     let mut n = s.len();
     while 0 < n {
@@ -68,7 +67,7 @@ fn trimmed(s: &[u8]) -> usize
 
 // Without the blanks in front.
 fn skip(s: &[u8]) -> &[u8]
-    ensures { result.now ≡ Words.skip (was s) }
+    ensures { result.now ≡ Words.skip s.now }
 {
     let n = in_front(s);
     &s[n..]
@@ -76,7 +75,7 @@ fn skip(s: &[u8]) -> &[u8]
 
 // Without those in front and at the end.
 pub(crate) fn bare(s: &[u8]) -> &[u8]
-    ensures { result.now ≡ Words.skip (Words.trim (was s)) }
+    ensures { result.now ≡ Words.skip (Words.trim s.now) }
 {
     let n = trimmed(s);
     skip(&s[..n])
@@ -84,14 +83,14 @@ pub(crate) fn bare(s: &[u8]) -> &[u8]
 
 // The first word, and what stands behind it.
 pub fn word(s: &[u8]) -> &[u8]
-    ensures { result.now ≡ Words.word (was s) }
+    ensures { result.now ≡ Words.word s.now }
 {
     let n = first_blank(s);
     &s[..n]
 }
 
 pub fn rest(s: &[u8]) -> &[u8]
-    ensures { result.now ≡ Words.rest (was s) }
+    ensures { result.now ≡ Words.rest s.now }
 {
     let n = first_blank(s);
     skip(&s[n..])

@@ -1,6 +1,5 @@
 // Lines of a text.
 ghost use Rattle.std.specs.Prelude.{◌≡◌, ◌-◌, ◌<◌, ◌≤◌, length, drop};
-ghost use Rattle.rules.specs.Lent.{was};
 ghost use Rattle.device_text.specs.Words as Words;
 
 use crate::bare;
@@ -12,7 +11,7 @@ const LINE_FEED: usize = 10;
 const COMMENT: usize = 35;
 
 fn behind(text: &[u8], at: usize) -> &[u8]
-    ensures { result.now ≡ drop at (was text) }
+    ensures { result.now ≡ drop at text.now }
 {
     if at < text.len() {
         return &text[at..];
@@ -23,7 +22,7 @@ fn behind(text: &[u8], at: usize) -> &[u8]
 
 // What a line says: it has no comment, and no blanks at its start and its end.
 fn content(l: &[u8]) -> &[u8]
-    ensures { result.now ≡ Words.content (was l) }
+    ensures { result.now ≡ Words.content l.now }
 {
     let n = position(l, COMMENT);
     bare(&l[..n])
@@ -31,7 +30,7 @@ fn content(l: &[u8]) -> &[u8]
 
 // What the line at a place says.
 pub fn line_at(text: &[u8], at: usize) -> &[u8]
-    ensures { result.now ≡ Words.content (Words.before Words.line_feed (drop at (was text))) }
+    ensures { result.now ≡ Words.content (Words.before Words.line_feed (drop at text.now)) }
 {
     let t = behind(text, at);
     let n = position(t, LINE_FEED);
@@ -40,7 +39,7 @@ pub fn line_at(text: &[u8], at: usize) -> &[u8]
 
 // The place after it.
 pub fn next_line(text: &[u8], at: usize) -> usize
-    ensures { (drop result (was text) ≡ Words.after Words.line_feed (drop at (was text))) × (result ≤ length (was text)) × (at < length (was text) → at < result) }
+    ensures { (drop result text.now ≡ Words.after Words.line_feed (drop at text.now)) × (result ≤ length text.now) × (at < length text.now → at < result) }
 {
     let t = behind(text, at);
     let n = position(t, LINE_FEED);
@@ -52,7 +51,7 @@ pub fn next_line(text: &[u8], at: usize) -> usize
 
 // Where the line of number n starts, counted from 1.
 fn line_start(text: &[u8], n: usize) -> usize
-    ensures { drop result (was text) ≡ Words.behind_lines (n - 1) (was text) }
+    ensures { drop result text.now ≡ Words.behind_lines (n - 1) text.now }
 {
     let mut at = 0;
     let mut i = 1;
@@ -65,7 +64,7 @@ fn line_start(text: &[u8], n: usize) -> usize
 
 // What it says.
 pub fn line_of(text: &[u8], n: usize) -> &[u8]
-    ensures { result.now ≡ Words.line_of n (was text) }
+    ensures { result.now ≡ Words.line_of n text.now }
 {
     line_at(text, line_start(text, n))
 }

@@ -1,6 +1,5 @@
 // Numbers and bytes that words write.
 ghost use Rattle.std.specs.Prelude.{◌≡◌};
-ghost use Rattle.rules.specs.Lent.{was};
 ghost use Rattle.device_text.specs.Words as Words;
 
 use byte_buffer::wide;
@@ -33,7 +32,7 @@ fn one_more(n: usize, b: u8) -> usize
 }
 
 pub fn decimal(w: &[u8]) -> usize
-    ensures { result ≡ Words.number (was w) }
+    ensures { result ≡ Words.number w.now }
 {
     if w.len() == 0 {
         return NO_NUMBER;
@@ -74,7 +73,7 @@ pub fn digit(b: u8) -> usize
 }
 
 fn all_digits(w: &[u8]) -> bool
-    ensures { result ≡ Words.all_digits (was w) }
+    ensures { result ≡ Words.all_digits w.now }
 {
     let mut i = 0;
     while i < w.len() {
@@ -88,7 +87,7 @@ fn all_digits(w: &[u8]) -> bool
 
 // A word is n bytes in hexadecimal; or 1 to n.
 pub fn is_bytes(n: usize, w: &[u8]) -> bool
-    ensures { result ≡ Words.is_bytes n (was w) }
+    ensures { result ≡ Words.is_bytes n w.now }
 {
     if w.len() / 2 != n {
         return false;
@@ -100,7 +99,7 @@ pub fn is_bytes(n: usize, w: &[u8]) -> bool
 }
 
 pub fn up_to_bytes(n: usize, w: &[u8]) -> bool
-    ensures { result ≡ Words.up_to_bytes n (was w) }
+    ensures { result ≡ Words.up_to_bytes n w.now }
 {
     if w.len() % 2 != 0 {
         return false;

@@ -1,6 +1,5 @@
 // A device as the text that describes it, in lent room (docs/DEPOT.md).
 ghost use Rattle.std.specs.Prelude.{cond};
-ghost use Rattle.rules.specs.Lent.{was};
 ghost use Rattle.text.specs.Text.{Writes};
 ghost use Rattle.device_writing.specs.Device.{name_line, number_line, setting_lines, device_text};
 
@@ -13,7 +12,7 @@ use text_pieces::put_labelled;
 mod slots;
 
 fn put_flag(room: &mut [u8], at: usize, on: bool, yes: &[u8], no: &[u8]) -> usize
-    ensures { Writes (cond on (was yes) (was no)) at room result }
+    ensures { Writes (cond on yes.now no.now) at room result }
 {
     if on {
         return put(room, at, yes);
@@ -23,7 +22,7 @@ fn put_flag(room: &mut [u8], at: usize, on: bool, yes: &[u8], no: &[u8]) -> usiz
 
 // A vendor or a class.
 fn put_name(room: &mut [u8], at: usize, label: &[u8], bytes: &[u8]) -> usize
-    ensures { Writes (name_line (was label) (was bytes)) at room result }
+    ensures { Writes (name_line label.now bytes.now) at room result }
 {
     let a = put(room, at, label);
     let b = put_hex(room, a, bytes);
@@ -52,7 +51,7 @@ fn put_settings(room: &mut [u8], at: usize, d: Scenario, number: usize) -> usize
 
 // The device of a description, with the number and the slots that it has now. Its answers are none of it.
 pub fn put_device(room: &mut [u8], at: usize, d: Scenario, number: usize, slots: &[u8]) -> usize
-    ensures { Writes (device_text d number (was slots)) at room result }
+    ensures { Writes (device_text d number slots.now) at room result }
 {
     let a = put_settings(room, at, d, number);
     put_slots(room, a, slots)

@@ -1,6 +1,5 @@
 // Slots as lines of text.
 ghost use Rattle.std.specs.Prelude.{◌≤◌, length};
-ghost use Rattle.rules.specs.Lent.{was};
 ghost use Rattle.rules.specs.Slots.{slot_bytes};
 ghost use Rattle.run_slots.specs.Slot.{Holds};
 ghost use Rattle.text.specs.Text.{Writes};
@@ -16,7 +15,7 @@ use text_pieces::{put_labelled, put_part};
 // The identifier and the capacity.
 fn put_own(room: &mut [u8], at: usize, x: &[u8]) -> usize
     requires { slot_bytes ≤ length x.now }
-    ensures { Writes (own_text (was x)) at room result }
+    ensures { Writes (own_text x.now) at room result }
 {
     let n = least(wide(x[0]), Controller::IDENTIFIER_BYTES);
     let a = put(room, at, b"slot ");
@@ -36,7 +35,7 @@ fn put_state(room: &mut [u8], at: usize, present: u8) -> usize
 // Whether it is present, size and digest: an absent one too has them.
 fn put_image(room: &mut [u8], at: usize, x: &[u8]) -> usize
     requires { slot_bytes ≤ length x.now }
-    ensures { Writes (image_text (was x)) at room result }
+    ensures { Writes (image_text x.now) at room result }
 {
     let a = put_state(room, at, x[IMAGE]);
     let b = put_decimal(room, a, four(x, SLOT_SIZE));
@@ -48,7 +47,7 @@ fn put_image(room: &mut [u8], at: usize, x: &[u8]) -> usize
 // The slot whose bytes are x.
 fn put_slot(room: &mut [u8], at: usize, x: &[u8]) -> usize
     requires { slot_bytes ≤ length x.now }
-    ensures { Writes (slot_line (was x)) at room result }
+    ensures { Writes (slot_line x.now) at room result }
 {
     let a = put_own(room, at, x);
     put_image(room, a, x)
@@ -57,7 +56,7 @@ fn put_slot(room: &mut [u8], at: usize, x: &[u8]) -> usize
 // The slot of number k.
 fn put_slot_of(room: &mut [u8], at: usize, slots: &[u8], k: usize) -> usize
     requires { Holds slots.now k }
-    ensures { Writes (slot_of (was slots) k) at room result }
+    ensures { Writes (slot_of slots.now k) at room result }
 {
     let from = SLOT_BYTES * k;
     let to = from + SLOT_BYTES;
@@ -66,7 +65,7 @@ fn put_slot_of(room: &mut [u8], at: usize, slots: &[u8], k: usize) -> usize
 
 // The slots, as many as are whole.
 pub(crate) fn put_slots(room: &mut [u8], at: usize, slots: &[u8]) -> usize
-    ensures { Writes (slot_lines (was slots)) at room result }
+    ensures { Writes (slot_lines slots.now) at room result }
 {
     let n = slots.len() / SLOT_BYTES;
     let mut to = at;

@@ -1,6 +1,5 @@
 // The arguments of commands that write an event, in an envelope that check has accepted.
 ghost use Rattle.std.specs.Prelude.{◌≡◌};
-ghost use Rattle.rules.specs.Lent.{was};
 ghost use Rattle.manifest_accessors.specs.Arguments.{flag_of, bare_at, component_of};
 ghost use Rattle.manifest_accessors.specs.Arguments.{EntryAt, EntryPut, Entries, EntriesRead, ArgumentAt, ArgumentRead};
 
@@ -22,7 +21,7 @@ pub const COERCE_TRUE: usize = 2;
 const TRUE: u8 = 0xf5;
 
 // The place of the bytes of an identity, or the new index; the parameters; coerce; and the place after.
-#[derive(Drop)]
+#[derive(Clone, Copy)]
 pub struct Args {
     pub value: usize,
     pub params: Params,
@@ -61,7 +60,7 @@ fn flag(b: u8) -> usize
 // The parameter under that key at `at`, after those of `a`.
 fn entry(s: &[u8], key: usize, at: usize, a: Args) -> Args
     requires { EntryAt s.now key at }
-    ensures { (x : EntryAt (was s) key at) → EntryPut (was s) key at x a result }
+    ensures { (x : EntryAt s.now key at) → EntryPut s.now key at x a result }
 {
     if key == COERCE {
         let mut r = a;
@@ -101,7 +100,7 @@ fn entry(s: &[u8], key: usize, at: usize, a: Args) -> Args
 // k entries of a map of parameters.
 fn read_entries(s: &[u8], k: usize, at: usize) -> Args
     requires { Entries s.now k at }
-    ensures { (x : Entries (was s) k at) → EntriesRead (was s) k at x result }
+    ensures { (x : Entries s.now k at) → EntriesRead s.now k at x result }
 {
     let mut a = bare(0, at);
     let mut left = k;
@@ -116,7 +115,7 @@ fn read_entries(s: &[u8], k: usize, at: usize) -> Args
 // The argument at `at` of the command of that code, by its kind. Sequences and alternatives are no argument of a command that writes an event.
 pub fn read_one(s: &[u8], code: usize, at: usize) -> Args
     requires { ArgumentAt s.now code at }
-    ensures { (x : ArgumentAt (was s) code at) → ArgumentRead (was s) code at x result }
+    ensures { (x : ArgumentAt s.now code at) → ArgumentRead s.now code at x result }
 {
     match argument_of(code) {
         Argument::Sixteen => {

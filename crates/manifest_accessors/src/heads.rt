@@ -1,11 +1,10 @@
 // Heads of an envelope that check has accepted: nothing is tested again.
 ghost use Rattle.std.specs.Prelude.{◌≡◌};
-ghost use Rattle.rules.specs.Lent.{was};
 ghost use Rattle.manifest_accessors.specs.Heads.{HeadAt, Strings};
 
 use byte_buffer::{four, two, wide};
 
-#[derive(Drop)]
+#[derive(Clone, Copy)]
 pub struct Opened {
     pub value: usize,
     pub next: usize,
@@ -14,7 +13,7 @@ pub struct Opened {
 // The number of the head at `at`, and the place after it.
 pub fn open(s: &[u8], at: usize) -> Opened
     requires { HeadAt s.now at }
-    ensures { (x : HeadAt (was s) at) → (result.value ≡ x.head.num) × (result.next ≡ x.head.next) }
+    ensures { (x : HeadAt s.now at) → (result.value ≡ x.head.num) × (result.next ≡ x.head.next) }
 {
     let low = wide(s[at]) % 32;
     let next = at + 1;
@@ -42,7 +41,7 @@ pub fn open(s: &[u8], at: usize) -> Opened
 // The place after k byte strings.
 pub fn skip(s: &[u8], k: usize, at: usize) -> usize
     requires { Strings s.now k at }
-    ensures { (x : Strings (was s) k at) → result ≡ x.to }
+    ensures { (x : Strings s.now k at) → result ≡ x.to }
 {
     let mut p = at;
     let mut left = k;

@@ -1,6 +1,5 @@
 // The plan of a group: the sequences that it does, by where they start.
 ghost use Rattle.std.specs.Prelude.{◌≡◌, ◌+◌, ◌≤◌, ◌<◌, false, cond, eqb, length};
-ghost use Rattle.rules.specs.Lent.{was};
 ghost use Rattle.rules.specs.Commands.{among, section_key};
 ghost use Rattle.rules.specs.Limits.{section_count, plan_sequences};
 ghost use Rattle.rules.specs.Run.{sections_of};
@@ -32,7 +31,7 @@ fn wanted(group: Group, k: usize, to: usize) -> bool
 // Puts the start of section k at n, if the section is there: how many starts there are then.
 fn put_start(sections: &SectionPlaces, k: usize, n: usize, starts: &mut PlanStarts) -> usize
     requires { (k < section_count) × (n < plan_sequences) }
-    ensures { Puts (start_at (was sections) k) n starts result }
+    ensures { Puts (start_at sections.now k) n starts result }
 {
     if sections[2 * k + 1] == 0 {
         return n;
@@ -50,7 +49,7 @@ fn put_section(
     starts: &mut PlanStarts,
 ) -> usize
     requires { (0 < k) × (k < section_count) × (n + length (turn group sections.now k) ≤ plan_sequences) }
-    ensures { Puts (turn group (was sections) k) n starts result }
+    ensures { Puts (turn group sections.now k) n starts result }
 {
     if !wanted(group, k, sections[2 * k + 1]) {
         return n;
@@ -62,7 +61,7 @@ fn put_section(
 // Puts the starts of the group's sequences, by the places that check reported: how many they are. Common is before each section that is
 // there, or alone where the group has none.
 pub fn plan(group: Group, sections: &SectionPlaces, starts: &mut PlanStarts) -> usize
-    ensures { Puts (starts_of group (was sections)) 0 starts result }
+    ensures { Puts (starts_of group sections.now) 0 starts result }
 {
     let mut n = 0;
     let mut k = 1;

@@ -58,7 +58,7 @@ abbrev pub Translation : Got Bytes → Lent → TranslateAnswer → Type 0
 Translation g room r = (r ≡ translated_of g) × (left room ≡ room_after (was room) g)
 
 -- what a run is given
-abbrev pub given : Bool → Device → Lent → Lent → Lent → Input
+abbrev pub given : Bool → Device → Bytes → Bytes → Bytes → Input
 given verdict device slots answers trace = Run.given verdict (controller_of device) slots answers trace
 
 -- the answer, the lent slots and the lent trace are those of the rule's answer g

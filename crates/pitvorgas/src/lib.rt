@@ -2,7 +2,6 @@
 // by their numbers in document 01 (rules/specs/Answers.antt: refusalNumber, endNumber).
 ghost use Rattle.std.specs.Prelude.{◌≡◌, length};
 ghost use Rattle.rules.specs.Got.{accepted};
-ghost use Rattle.rules.specs.Lent.{was};
 ghost use Rattle.rules.specs.Check as Check;
 ghost use Rattle.rules.specs.Newer as Newer;
 ghost use Rattle.rules.specs.Run.{run_envelope};
@@ -24,14 +23,14 @@ use translate::{Translated, translate};
 
 #[unsafe(no_mangle)]
 pub extern "C" fn pitvorgas_check(envelope: &[u8]) -> CheckAnswer
-    ensures { result ≡ checked_of (Check.check (was envelope)) }
+    ensures { result ≡ checked_of (Check.check envelope.now) }
 {
     pitvorgas_check_answer::answer_of(check(envelope))
 }
 
 #[unsafe(no_mangle)]
 pub extern "C" fn pitvorgas_newer(first: &[u8], second: &[u8]) -> NewerAnswer
-    ensures { result ≡ newer_of (Newer.newer (was first) (was second)) }
+    ensures { result ≡ newer_of (Newer.newer first.now second.now) }
 {
     let n = choose(first, second);
     NewerAnswer {
@@ -47,7 +46,7 @@ pub extern "C" fn pitvorgas_translate(
     boot: bool,
     room: &mut [u8],
 ) -> TranslateAnswer
-    ensures { Translation (Program.translate (was envelope) (group_of boot) (length (was room))) room result }
+    ensures { Translation (Program.translate envelope.now (group_of boot) (length room.old)) room result }
 {
     let answer = translate(envelope, group_of(boot), room);
     match answer {
@@ -66,7 +65,7 @@ pub extern "C" fn pitvorgas_translate(
 
 #[unsafe(no_mangle)]
 pub extern "C" fn pitvorgas_test_program(program: &[u8]) -> bool
-    ensures { result ≡ accepted (program_in (was program)) }
+    ensures { result ≡ accepted (program_in program.now) }
 {
     let t = test_program(program);
     t.good
@@ -82,7 +81,7 @@ pub extern "C" fn pitvorgas_run(
     answers: &[u8],
     trace: &mut [u8],
 ) -> RunAnswer
-    ensures { Answers (run_envelope (was envelope) (group_of boot) (given verdict device slots answers trace)) device slots trace result }
+    ensures { Answers (run_envelope envelope.now (group_of boot) (given verdict device slots.old answers.now trace.old)) device slots trace result }
 {
     let o = run(
         envelope,
@@ -105,7 +104,7 @@ pub extern "C" fn pitvorgas_run_program(
     answers: &[u8],
     trace: &mut [u8],
 ) -> RunAnswer
-    ensures { Answers (run_program (was program) (given verdict device slots answers trace)) device slots trace result }
+    ensures { Answers (run_program program.now (given verdict device slots.old answers.now trace.old)) device slots trace result }
 {
     let o = run_program(
         program,

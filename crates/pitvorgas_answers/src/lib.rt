@@ -8,7 +8,7 @@ use rules::controller::{Controller, Places, SectionPlaces, Sixteen};
 
 // The device.
 #[repr(C)]
-#[derive(Drop)]
+#[derive(Clone, Copy)]
 pub struct Device {
     pub vendor: Sixteen,
     pub class_id: Sixteen,
@@ -20,7 +20,7 @@ pub struct Device {
 
 // What check answers: a refusal and its place, and 0 in all else; or 0 and 0, and where what it read stands.
 #[repr(C)]
-#[derive(Drop)]
+#[derive(Clone, Copy)]
 pub struct CheckAnswer {
     pub refusal: usize,
     pub place: usize,
@@ -35,7 +35,7 @@ pub struct CheckAnswer {
 
 // Where the newer manifest stands: in the first envelope where `second` is 0, and else in the second.
 #[repr(C)]
-#[derive(Drop)]
+#[derive(Clone, Copy)]
 pub struct NewerAnswer {
     pub second: usize,
     pub from: usize,
@@ -44,7 +44,7 @@ pub struct NewerAnswer {
 
 // A refusal and its place, and 0; or 0 and 0, and how long the program is.
 #[repr(C)]
-#[derive(Drop)]
+#[derive(Clone, Copy)]
 pub struct TranslateAnswer {
     pub refusal: usize,
     pub place: usize,
@@ -53,7 +53,7 @@ pub struct TranslateAnswer {
 
 // A refusal and its place, and 0 in all else but the number; or 0, and the end with its place. The number is the device's after the run.
 #[repr(C)]
-#[derive(Drop)]
+#[derive(Clone, Copy)]
 pub struct RunAnswer {
     pub refusal: usize,
     pub place: usize,

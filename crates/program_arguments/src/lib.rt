@@ -1,6 +1,5 @@
 // What a record of a command may hold.
 ghost use Rattle.std.specs.Prelude.{◌≡◌, ℕ, ◌-◌, ◌≤◌, ◌<◌, length};
-ghost use Rattle.rules.specs.Lent.{was};
 ghost use Rattle.rules.specs.Bytes.{part};
 ghost use Rattle.rules.specs.Commands.{Form};
 ghost use Rattle.rules.specs.Tables.{kind_of, argument_number};
@@ -22,7 +21,7 @@ const BOOT_SECTIONS: u8 = COMMON + VALIDATE + LOAD + RUN;
 // Whether the bytes from `from` to `to` are an argument of the kind with that number, for n components.
 pub fn argument_fits(p: &[u8], kind: u16, from: usize, to: usize, n: usize) -> bool
     requires { (0 < from) × (from ≤ to) × (to ≤ length p.now) }
-    ensures { (form : Form) (i : ℕ) → argument_number (kind_of form) ≡ kind → result ≡ accepted (Rule.op_in n i form (part (was p) from (to - from))) }
+    ensures { (form : Form) (i : ℕ) → argument_number (kind_of form) ≡ kind → result ≡ accepted (Rule.op_in n i form (part p.now from (to - from))) }
 {
     if kind == kinds::SIXTEEN {
         return to - from == Controller::CLASS_BYTES;

@@ -33,8 +33,8 @@ pub record ActJob (p : Bytes) (x : CommandRecord) (answers slots : Bytes) (memor
   pub answered : length answers % answer_bytes ≡ 0
 
 -- it was done, and the next record is behind its argument
-abbrev pub ActsOn : Lent → CommandRecord → Lent → Lent → Lent → Lent → Lent → RecordEffect → Type 0
+abbrev pub ActsOn : Bytes → CommandRecord → Bytes → Bytes → Bytes → Lent → Lent → RecordEffect → Type 0
 ActsOn p x vendor class answers slots memory r =
-    (j : ActJob (was p) x (was answers) (was slots) (was memory)) →
-    (r.next ≡ next_record (was p) x.at)
+    (j : ActJob p x answers (was slots) (was memory)) →
+    (r.next ≡ next_record p x.at)
     × Acts p j.op x.index x.used (λ n. n ≡ j.components) vendor class answers slots memory (record { used = r.used; end = r.end })

@@ -17,7 +17,7 @@ use run_slots::params::{load, over, store};
 const SIXTEEN: usize = Controller::CLASS_BYTES;
 
 // The record of a command: its code and component, where it is, and the answers used before it.
-#[derive(Drop)]
+#[derive(Clone, Copy)]
 pub struct CommandRecord {
     pub code: usize,
     pub index: usize,
@@ -26,7 +26,7 @@ pub struct CommandRecord {
 }
 
 // What it leaves beside its event: where the next record is, answers used, and the number of its end.
-#[derive(Drop)]
+#[derive(Clone, Copy)]
 pub struct RecordEffect {
     pub next: usize,
     pub used: usize,
@@ -50,7 +50,7 @@ pub fn act(
     memory: &mut Memory,
 ) -> RecordEffect
     requires { ActJob p.now x answers.now slots.old memory.old }
-    ensures { ActsOn p x vendor class answers slots memory result }
+    ensures { ActsOn p.now x vendor.now class.now answers.now slots memory result }
 {
     let i = x.index;
     let k = memory[i];

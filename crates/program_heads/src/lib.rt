@@ -1,6 +1,5 @@
 // The head of a record in a program: where the record ends, and whether it is a jump that is well formed.
 ghost use Rattle.std.specs.Prelude.{◌≡◌, ◌+◌, ◌≤◌, length};
-ghost use Rattle.rules.specs.Lent.{was};
 ghost use Rattle.rules.specs.ProgramFormat.{record_size};
 ghost use Rattle.program_heads.specs.Heads.{record_end, jump_fits};
 
@@ -12,7 +11,7 @@ use rules::program_format::{
 // The place after the record at `at`; 0 if its bytes do not lie in p or its mark is not there.
 pub fn record_end(p: &[u8], at: usize) -> usize
     requires { at ≤ length p.now }
-    ensures { result ≡ record_end (was p) at }
+    ensures { result ≡ record_end p.now at }
 {
     let from = at + RECORD_BYTES;
     if p.len() < from {
@@ -34,7 +33,7 @@ pub fn record_end(p: &[u8], at: usize) -> usize
 // Whether record n of `total`, from `at` to `next`, is a jump that is well formed.
 pub fn jump_fits(p: &[u8], at: usize, next: usize, total: usize, n: usize) -> bool
     requires { at + record_size ≤ length p.now }
-    ensures { result ≡ jump_fits (was p) at next total n }
+    ensures { result ≡ jump_fits p.now at next total n }
 {
     if wide(p[at + CODE]) != JUMP {
         return false;

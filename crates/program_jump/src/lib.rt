@@ -1,12 +1,11 @@
 // The way through a program's records, which only goes forward.
-ghost use Rattle.rules.specs.Lent.{was};
 ghost use Rattle.program_jump.specs.Jump.{AdvanceJob, Advanced, JumpJob, Jumped};
 
 use byte_buffer::two;
 use rules::program_format::{ARGUMENT_LENGTH, RECORD_BYTES, TARGET};
 
 // A record: where it is, and its number.
-#[derive(Drop)]
+#[derive(Clone, Copy)]
 pub struct RecordPlace {
     pub at: usize,
     pub n: usize,
@@ -15,7 +14,7 @@ pub struct RecordPlace {
 // Where record t is, from record n at `at`.
 pub fn advance(p: &[u8], at: usize, n: usize, t: usize) -> usize
     requires { AdvanceJob p.now at n t }
-    ensures { (j : AdvanceJob (was p) at n t) → Advanced (was p) j.group j.components j.total n at j.place t result }
+    ensures { (j : AdvanceJob p.now at n t) → Advanced p.now j.group j.components j.total n at j.place t result }
 {
     let mut next = at;
     let mut k = n;
@@ -29,7 +28,7 @@ pub fn advance(p: &[u8], at: usize, n: usize, t: usize) -> usize
 // Where the jump at `at`, which is record n, leads.
 pub fn jump(p: &[u8], at: usize, n: usize) -> RecordPlace
     requires { JumpJob p.now at n }
-    ensures { (j : JumpJob (was p) at n) → Jumped (was p) at n j result }
+    ensures { (j : JumpJob p.now at n) → Jumped p.now at n j result }
 {
     let target = two(p, at + TARGET);
     RecordPlace {

@@ -1,6 +1,5 @@
 // The identifiers of a program's components.
 ghost use Rattle.std.specs.Prelude.{◌≡◌, ◌≤◌, ◌<◌, length, drop, replicate};
-ghost use Rattle.rules.specs.Lent.{was, left};
 ghost use Rattle.rules.specs.Limits.{limits, places};
 ghost use Rattle.rules.specs.ProgramTest as Rule;
 ghost use Rattle.program_parameters.specs.Entries.{next_in};
@@ -15,7 +14,7 @@ const NAME_CODE: u8 = NAME as u8;
 // The place after the identifier at `at`; 0 if it is not well formed.
 fn test_name(p: &[u8], at: usize) -> usize
     requires { at ≤ length p.now }
-    ensures { result ≡ name_end (was p) at }
+    ensures { result ≡ name_end p.now at }
 {
     let left = p.len() - at;
     if left < NAME_BYTES {
@@ -46,7 +45,7 @@ fn test_name(p: &[u8], at: usize) -> usize
 // The place after the n identifiers from `at` on, 0 if one is not well formed; and their places.
 pub fn test_names(p: &[u8], at: usize, n: usize, ids: &mut Places) -> usize
     requires { (0 < at) × (at ≤ length p.now) × (n ≤ limits.components) × (ids.old ≡ replicate places 0) }
-    ensures { (result ≡ next_in (length (was p)) (Rule.ids_in n (drop at (was p)))) × NamesAre (was p) at n (Rule.ids_in n (drop at (was p))) (left ids) }
+    ensures { (result ≡ next_in (length p.now) (Rule.ids_in n (drop at p.now))) × NamesAre p.now at n (Rule.ids_in n (drop at p.now)) ids.new }
 {
     let places: &mut [usize] = ids;
     let mut next = at;

@@ -1,6 +1,5 @@
 // The parameters of a command, as a program writes them: key, length, value.
 ghost use Rattle.std.specs.Prelude.{◌≡◌, ℕ, ◌+◌, ◌-◌, ◌≤◌, ◌<◌, length};
-ghost use Rattle.rules.specs.Lent.{was};
 ghost use Rattle.rules.specs.Bytes.{part};
 ghost use Rattle.rules.specs.ProgramFormat.{entry_size, source_bytes, size_bytes};
 ghost use Rattle.rules.specs.Got.{accepted};
@@ -17,7 +16,7 @@ use run_slots::params::Params;
 // The place after the parameter of that key, of lo to hi bytes, if it stands at `at` before `to`; 0 if it is not well formed.
 fn optional(p: &[u8], at: usize, to: usize, key: usize, lo: usize, hi: usize) -> usize
     requires { (0 < at) × (at ≤ to) × (to ≤ length p.now) }
-    ensures { result ≡ end_at (was p) to key lo hi at }
+    ensures { result ≡ end_at p.now to key lo hi at }
 {
     if at == to {
         return at;
@@ -50,7 +49,7 @@ fn optional(p: &[u8], at: usize, to: usize, key: usize, lo: usize, hi: usize) ->
 // The place after the parameter of that key, if it stands at `at` before `to`; what stands there is well formed.
 fn past(p: &[u8], at: usize, to: usize, key: usize) -> usize
     requires { (at ≤ to) × (to ≤ length p.now) × ((lo : ℕ) × (hi : ℕ) × WellFormed p.now to key lo hi at) }
-    ensures { (lo hi : ℕ) → WellFormed (was p) to key lo hi at → result ≡ end_at (was p) to key lo hi at }
+    ensures { (lo hi : ℕ) → WellFormed p.now to key lo hi at → result ≡ end_at p.now to key lo hi at }
 {
     if at == to {
         return at;
@@ -85,7 +84,7 @@ fn length_of(at: usize, next: usize) -> usize
 // One more than its value of one byte, and of four.
 fn source_of(p: &[u8], at: usize, next: usize) -> usize
     requires { (at ≡ next → ⊥) → at + entry_size + source_bytes ≤ length p.now }
-    ensures { result ≡ source_in (was p) at next }
+    ensures { result ≡ source_in p.now at next }
 {
     if at == next {
         return 0;
@@ -95,7 +94,7 @@ fn source_of(p: &[u8], at: usize, next: usize) -> usize
 
 fn size_of(p: &[u8], at: usize, next: usize) -> usize
     requires { (at ≡ next → ⊥) → at + entry_size + size_bytes ≤ length p.now }
-    ensures { result ≡ size_in (was p) at next }
+    ensures { result ≡ size_in p.now at next }
 {
     if at == next {
         return 0;
@@ -106,7 +105,7 @@ fn size_of(p: &[u8], at: usize, next: usize) -> usize
 // Whether the bytes from `from` to `to` are parameters, for n components.
 pub fn params_fit(p: &[u8], from: usize, to: usize, n: usize) -> bool
     requires { (0 < from) × (from ≤ to) × (to ≤ length p.now) }
-    ensures { result ≡ accepted (Rule.params_in n (part (was p) from (to - from))) }
+    ensures { result ≡ accepted (Rule.params_in n (part p.now from (to - from))) }
 {
     let a = optional(p, from, to, codes::URI, 1, Controller::URI_BYTES);
     if a == 0 {
@@ -136,7 +135,7 @@ pub fn params_fit(p: &[u8], from: usize, to: usize, n: usize) -> bool
 // The parameters from `from` to `to`, which are well formed.
 pub fn take_params(p: &[u8], from: usize, to: usize) -> Params
     requires { ParametersAt p.now from to }
-    ensures { (x : ParametersAt (was p) from to) → Taken (was p) from to x result }
+    ensures { (x : ParametersAt p.now from to) → Taken p.now from to x result }
 {
     let a = past(p, from, to, codes::URI);
     let b = past(p, a, to, codes::SOURCE);

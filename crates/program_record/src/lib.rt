@@ -1,6 +1,5 @@
 // One record of a command in a program: whether it is well formed.
 ghost use Rattle.std.specs.Prelude.{◌≡◌, ◌+◌, ◌≤◌, ◌<◌, length, get_or};
-ghost use Rattle.rules.specs.Lent.{was};
 ghost use Rattle.rules.specs.ProgramFormat.{code_from, record_size};
 ghost use Rattle.rules.specs.Tables.{codes, by_number};
 ghost use Rattle.rules.specs.Got.{accepted};
@@ -25,7 +24,7 @@ pub fn command_fits(
     n: usize,
 ) -> bool
     requires { (at + record_size ≤ next) × (next ≤ length p.now) × (table.now ≡ by_number) × (get_or p.now (at + code_from) 0 < codes) }
-    ensures { result ≡ accepted (command_at group components total n (was p) at next) }
+    ensures { result ≡ accepted (command_at group components total n p.now at next) }
 {
     let entry = entry_at(table, wide(p[at + CODE]));
     let sections = entry.sections;

@@ -1,6 +1,5 @@
 // Records of commands in a program, one after the other: whether each is well formed, and where the last one ends.
 ghost use Rattle.std.specs.Prelude.{◌≡◌, ◌≤◌, length, drop};
-ghost use Rattle.rules.specs.Lent.{was};
 ghost use Rattle.rules.specs.Limits.{limits};
 ghost use Rattle.rules.specs.Tables.{by_number};
 ghost use Rattle.rules.specs.ProgramTest as Rule;
@@ -14,7 +13,7 @@ use rules::program_format::CODE;
 use rules_tables::{CODES, Table};
 
 // The place after the records, 0 if one is not well formed; and how many of them are commands and not jumps.
-#[derive(Drop)]
+#[derive(Clone, Copy)]
 pub struct Records {
     pub next: usize,
     pub commands: usize,
@@ -39,7 +38,7 @@ pub fn test_records(
     total: usize,
 ) -> Records
     requires { (at ≤ length p.now) × (table.now ≡ by_number) × (total ≤ limits.records) }
-    ensures { result ≡ records_are (length (was p)) (Rule.records_in group components total total 0 (drop at (was p))) }
+    ensures { result ≡ records_are (length p.now) (Rule.records_in group components total total 0 (drop at p.now)) }
 {
     let mut next = at;
     let mut jumps = 0;

@@ -20,7 +20,7 @@ fn run_tested(
     trace: &mut [u8],
 ) -> Outcome
     requires { Known p.now t }
-    ensures { Runs p verdict device slots answers trace result }
+    ensures { Runs p.now verdict device slots answers.now trace result }
 {
     let group = t.group;
     let request = Request {
@@ -64,7 +64,7 @@ pub fn run_program(
     answers: &[u8],
     trace: &mut [u8],
 ) -> Outcome
-    ensures { Runs p verdict device slots answers trace result }
+    ensures { Runs p.now verdict device slots answers.now trace result }
 {
     let t = test_program(p);
     let good = t.good;

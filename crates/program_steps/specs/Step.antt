@@ -106,19 +106,19 @@ pub record Ran (p : Bytes) (total from : ℕ) (vendor class answers slots : Byte
   pub few : r.events ≤ limits.commands
 
 -- what each function promises of what it is lent: for every job that it is asked for, the run was taken on as the rule says
-abbrev pub Executes : Lent → ProgramState → Lent → Lent → Lent → Lent → Lent → Lent → ProgramState → Type 0
+abbrev pub Executes : Bytes → ProgramState → Bytes → Bytes → Bytes → Lent → Lent → Lent → ProgramState → Type 0
 Executes p current vendor class answers slots memory trace r =
-    (j : ExecJob (was p) current (was vendor) (was class) (was answers) (was slots) (was memory) (was trace)) →
-    Executed (was p) current (was vendor) (was class) (was answers) (was slots) (was memory) (was trace) j r (left slots) (left memory) (left trace)
+    (j : ExecJob p current vendor class answers (was slots) (was memory) (was trace)) →
+    Executed p current vendor class answers (was slots) (was memory) (was trace) j r (left slots) (left memory) (left trace)
 
-abbrev pub Steps : Lent → ℕ → ProgramState → Lent → Lent → Lent → Lent → Lent → Lent → ProgramState → Type 0
+abbrev pub Steps : Bytes → ℕ → ProgramState → Bytes → Bytes → Bytes → Lent → Lent → Lent → ProgramState → Type 0
 Steps p total current vendor class answers slots memory trace r =
-    (j : StepAsked (was p) total current (was vendor) (was class) (was answers) (was slots) (was memory) (was trace)) →
-    Stepped (was p) total current (was vendor) (was class) (was answers) (was slots) (was memory) (was trace) j.0 r
+    (j : StepAsked p total current vendor class answers (was slots) (was memory) (was trace)) →
+    Stepped p total current vendor class answers (was slots) (was memory) (was trace) j.0 r
     (left slots) (left memory) (left trace)
 
-abbrev pub RecordsRun : Lent → ℕ → ℕ → Lent → Lent → Lent → Lent → Lent → Lent → ProgramState → Type 0
+abbrev pub RecordsRun : Bytes → ℕ → ℕ → Bytes → Bytes → Bytes → Lent → Lent → Lent → ProgramState → Type 0
 RecordsRun p total from vendor class answers slots memory trace r =
-    (j : RunJob (was p) total (start_at from) (was vendor) (was class) (was answers) (was slots) (was memory) (was trace)) →
-    Ran (was p) total from (was vendor) (was class) (was answers) (was slots) (was memory) (was trace) j r
+    (j : RunJob p total (start_at from) vendor class answers (was slots) (was memory) (was trace)) →
+    Ran p total from vendor class answers (was slots) (was memory) (was trace) j r
     (left slots) (left memory) (left trace)

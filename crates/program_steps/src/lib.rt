@@ -1,5 +1,4 @@
 // The run of a program's records, step by step: one record each.
-ghost use Rattle.rules.specs.Lent.{was};
 ghost use Rattle.program_steps.specs.Step.{OnwardJob, Onward, ExecJob, Executes, StepAsked, Steps, RunJob, start_at, RecordsRun};
 
 use byte_buffer::{two, wide};
@@ -13,7 +12,7 @@ use run_commands::event::put_event;
 
 // How far a run is: the next record and its number, events written, answers used, and the number of the end of what was done last,
 // 0 to go on.
-#[derive(Drop)]
+#[derive(Clone, Copy)]
 pub struct ProgramState {
     pub at: usize,
     pub n: usize,
@@ -25,7 +24,7 @@ pub struct ProgramState {
 // Where a run goes on after a command whose next record is record n at `at`: there or, where its condition failed, at its target.
 fn onward(p: &[u8], at: usize, n: usize, target: usize, done: Progress) -> ProgramState
     requires { OnwardJob p.now at n target }
-    ensures { (j : OnwardJob (was p) at n target) → Onward (was p) j.group j.components j.total n at j.place target done result }
+    ensures { (j : OnwardJob p.now at n target) → Onward p.now j.group j.components j.total n at j.place target done result }
 {
     let end = done.end;
     if end == End::CONDITION_FAILED {
@@ -60,7 +59,7 @@ fn execute(
     trace: &mut [u8],
 ) -> ProgramState
     requires { ExecJob p.now current vendor.now class.now answers.now slots.old memory.old trace.old }
-    ensures { Executes p current vendor class answers slots memory trace result }
+    ensures { Executes p.now current vendor.now class.now answers.now slots memory trace result }
 {
     let at = current.at;
     let events = current.events;
@@ -92,7 +91,7 @@ fn step(
     trace: &mut [u8],
 ) -> ProgramState
     requires { StepAsked p.now records current vendor.now class.now answers.now slots.old memory.old trace.old }
-    ensures { Steps p records current vendor class answers slots memory trace result }
+    ensures { Steps p.now records current vendor.now class.now answers.now slots memory trace result }
 {
     let at = current.at;
     if wide(p[at + CODE]) == JUMP {
@@ -121,7 +120,7 @@ pub fn run_records(
     trace: &mut [u8],
 ) -> ProgramState
     requires { RunJob p.now records (start_at from) vendor.now class.now answers.now slots.old memory.old trace.old }
-    ensures { RecordsRun p records from vendor class answers slots memory trace result }
+    ensures { RecordsRun p.now records from vendor.now class.now answers.now slots memory trace result }
 {
     let mut current = ProgramState {
         at: from,

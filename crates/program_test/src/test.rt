@@ -1,7 +1,6 @@
 // The program test: refusal 97, or what a run of the program needs.
 ghost use Rattle.std.specs.Prelude.{◌≡◌, ◌≤◌};
 ghost use Rattle.std.proofs.Math.Option.{some};
-ghost use Rattle.rules.specs.Lent.{was};
 ghost use Rattle.rules.specs.ProgramTest as Rule;
 ghost use Rattle.program_test.specs.Test.{start_fits, no_program, TestedAs};
 
@@ -21,7 +20,7 @@ const START_CODE: u8 = START as u8;
 
 // The group and the number, how many components and records there are, where the first record is, and the places of the components'
 // identifiers; all 0 where the program is refused.
-#[derive(Drop)]
+#[derive(Clone, Copy)]
 pub struct Tested {
     pub good: bool,
     pub group: Group,
@@ -48,7 +47,7 @@ fn bad() -> Tested
 
 // Whether the start is well formed: its mark, the group, and how many components and records it names.
 fn start_fits(p: &[u8]) -> bool
-    ensures { result ≡ start_fits (was p) }
+    ensures { result ≡ start_fits p.now }
 {
     if Controller::PROGRAM_BYTES < p.len() {
         return false;
@@ -89,7 +88,7 @@ fn group_of(mark: u8) -> Group
 }
 
 pub fn test_program(p: &[u8]) -> Tested
-    ensures { TestedAs (was p) (Rule.program_in (was p)) result }
+    ensures { TestedAs p.now (Rule.program_in p.now) result }
 {
     if !start_fits(p) {
         return bad();

@@ -1,10 +1,10 @@
--- Lent memory: a reference as a function was given it, and as it leaves it. Contracts name it by these two.
+-- Lent memory that a function may write: as it was given, and as it is left. Definitions that take a `&mut` name it by these two.
 use Rattle.std.specs.Prelude.{ℕ, List}
-use Rattle.std.specs.Borrow.{Bor}
+use Rattle.std.specs.Borrow.{MutBor}
 use denote.Triple.Both.{Both}
 
 abbrev pub Lent : Type 0
-Lent = Both (Bor (List ℕ)) (Bor (List ℕ))
+Lent = Both (MutBor (List ℕ)) (MutBor (List ℕ))
 
 abbrev pub was : Lent → List ℕ
 was x = x.entry.now

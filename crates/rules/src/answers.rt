@@ -3,7 +3,7 @@ ghost use Rattle.std.specs.Prelude.{◌≡◌};
 ghost use Rattle.rules.specs.Answers.{group_number, refusal_number, refusal_of, failure_number, failure_of, end_number, end_of};
 
 // What a run or a program is for.
-#[derive(Drop)]
+#[derive(Clone, Copy)]
 pub enum Group {
     Install,
     Boot,
@@ -21,7 +21,7 @@ impl Group {
 }
 
 // Why a job refuses, in the order of the table. Each number of document 01 stands here once.
-#[derive(Drop)]
+#[derive(Clone, Copy)]
 pub enum Refusal {
     EnvelopeTooLong,
     NotCbor,
@@ -143,7 +143,7 @@ impl Refusal {
 }
 
 // Why a command fails in a way that nothing catches.
-#[derive(Drop)]
+#[derive(Clone, Copy)]
 pub enum Failure {
     ParameterUnset,
     Aborted,
@@ -200,7 +200,7 @@ impl Failure {
 }
 
 // How a command, a sequence or a run ended.
-#[derive(Drop)]
+#[derive(Clone, Copy)]
 pub enum End {
     Finished,
     ConditionFailed,

@@ -3,7 +3,7 @@ ghost use Rattle.std.specs.Prelude.{◌≡◌};
 ghost use Rattle.rules.specs.Limits.{limits};
 
 // A device as a run sees it.
-#[derive(Drop)]
+#[derive(Clone, Copy)]
 pub struct Controller {
     pub vendor: Sixteen,
     pub class: Sixteen,
@@ -79,7 +79,7 @@ pub const MEMORY_NUMBERS: usize = Controller::COMPONENTS
 pub type Memory = [usize; MEMORY_NUMBERS];
 
 // The limits as a value, which ties the constants to the numbers of specs/Limits.
-#[derive(Drop)]
+#[derive(Clone, Copy)]
 pub struct Limits {
     pub envelope: usize,
     pub largest: usize,

@@ -1,7 +1,7 @@
 // The types of which the tables of commands and parameters are made.
 
 // What stands after a command's code.
-#[derive(Drop)]
+#[derive(Clone, Copy)]
 pub enum Argument {
     Sixteen,
     Nil,
@@ -11,7 +11,7 @@ pub enum Argument {
     Sequence,
 }
 
-#[derive(Drop)]
+#[derive(Clone, Copy)]
 pub struct Command {
     pub code: u8,
     // its failure is one that a run sequence or a try each may catch
@@ -20,13 +20,13 @@ pub struct Command {
     pub sections: u8,
 }
 
-#[derive(Drop)]
+#[derive(Clone, Copy)]
 pub enum Listed {
     Command(Command),
     Unlisted,
 }
 
-#[derive(Drop)]
+#[derive(Clone, Copy)]
 pub enum Parameter {
     Coerce,
     Uri,
@@ -35,13 +35,13 @@ pub enum Parameter {
     Size,
 }
 
-#[derive(Drop)]
+#[derive(Clone, Copy)]
 pub struct ParameterRow {
     pub key: u8,
     pub parameter: Parameter,
 }
 
-#[derive(Drop)]
+#[derive(Clone, Copy)]
 pub enum Known {
     Parameter(Parameter),
     Unknown,

@@ -53,7 +53,7 @@ fn condition_in(entry: u16) -> bool
 }
 
 // An entry, taken apart; sections 0 where nothing is listed.
-#[derive(Drop)]
+#[derive(Clone, Copy)]
 pub struct Entry {
     pub sections: u8,
     pub kind: u16,

@@ -30,21 +30,21 @@ abbrev pub SourceAt : Env → State → ℕ → List ℕ → Type 0
 SourceAt env st source memory = 0 < source → slot_no env (source - 1) st ≡ get_or memory (source - 1) 0
 
 -- the end of number r is the rule's for an image match, with the parameters p over the bytes s, at the slot of number k
-abbrev pub Matches : Lent → Params → Lent → ℕ → ℕ → Type 0
-Matches s p slots k r = (env : Env) (i : ℕ) (st : State) → At env i st (was slots) k (meaning (was s) p) → out (end_of r) st ≡ matches env i st
+abbrev pub Matches : Bytes → Params → Bytes → ℕ → ℕ → Type 0
+Matches s p slots k r = (env : Env) (i : ℕ) (st : State) → At env i st slots k (meaning s p) → out (end_of r) st ≡ matches env i st
 
 -- for a run of the image in that slot
-abbrev pub Runs : Lent → ℕ → ℕ → Type 0
-Runs slots k r = (env : Env) (i : ℕ) (st : State) → st.slots ≡ was slots → slot_no env i st ≡ k → out (end_of r) st ≡ acts env Rules.run i st
+abbrev pub Runs : Bytes → ℕ → ℕ → Type 0
+Runs slots k r = (env : Env) (i : ℕ) (st : State) → st.slots ≡ slots → slot_no env i st ≡ k → out (end_of r) st ≡ acts env Rules.run i st
 
 -- the end and the slots that are left are the rule's, for a copy or a swap from the source's slot
-abbrev pub Fills : (Env → ℕ → State → Out) → Params → Lent → Lent → ℕ → ℕ → Type 0
+abbrev pub Fills : (Env → ℕ → State → Out) → Params → Bytes → Lent → ℕ → ℕ → Type 0
 Fills does p memory slots k r =
-    (s : Bytes) (env : Env) (i : ℕ) (st : State) → At env i st (was slots) k (meaning s p) → SourceAt env st p.source (was memory) →
+    (s : Bytes) (env : Env) (i : ℕ) (st : State) → At env i st (was slots) k (meaning s p) → SourceAt env st p.source memory →
     out (end_of r) (with_slots st (left slots)) ≡ does env i st
 
 -- and, with the answers used, for a fetch
-abbrev pub Fetches : Params → Lent → ℕ → Lent → ℕ → Effect → Type 0
+abbrev pub Fetches : Params → Bytes → ℕ → Lent → ℕ → Effect → Type 0
 Fetches p answers used slots k r =
-    (s : Bytes) (env : Env) (i : ℕ) (st : State) → At env i st (was slots) k (meaning s p) → env.answers ≡ was answers → st.used ≡ used →
+    (s : Bytes) (env : Env) (i : ℕ) (st : State) → At env i st (was slots) k (meaning s p) → env.answers ≡ answers → st.used ≡ used →
     out (end_of r.end) (with_used (with_slots st (left slots)) r.used) ≡ fetches env i st

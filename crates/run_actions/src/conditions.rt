@@ -1,6 +1,5 @@
 // The commands that look at the device or a slot, and change nothing.
 ghost use Rattle.std.specs.Prelude.{◌≡◌, ◌+◌, ◌≤◌, ◌<◌, length};
-ghost use Rattle.rules.specs.Lent.{was};
 ghost use Rattle.rules.specs.Answers.{end_of};
 ghost use Rattle.rules.specs.Bytes.{part, same};
 ghost use Rattle.rules.specs.Limits.{limits};
@@ -18,7 +17,7 @@ use run_slots::slot::{present, size};
 // 1 and 2: pass on equal bytes.
 pub fn equal_sixteen(s: &[u8], at: usize, own: &Sixteen) -> usize
     requires { at + limits.class ≤ length s.now }
-    ensures { Ends result × ((st : Step.State) → Step.out (end_of result) st ≡ Step.passes (same (part (was s) at limits.class) (was own)) st) }
+    ensures { Ends result × ((st : Step.State) → Step.out (end_of result) st ≡ Step.passes (same (part s.now at limits.class) own.now) st) }
 {
     if !equal(s, at, own, 0, Controller::CLASS_BYTES) {
         return End::CONDITION_FAILED;
@@ -29,7 +28,7 @@ pub fn equal_sixteen(s: &[u8], at: usize, own: &Sixteen) -> usize
 // 3, with the parameters p, for the slot of number k.
 pub fn matches(s: &[u8], p: Params, slots: &[u8], k: usize) -> usize
     requires { Holds slots.now k × (0 < p.digest → p.digest + limits.digest ≤ length s.now) }
-    ensures { Ends result × Matches s p slots k result }
+    ensures { Ends result × Matches s.now p slots.now k result }
 {
     let digest = p.digest;
     if digest == 0 {
@@ -60,7 +59,7 @@ pub fn matches(s: &[u8], p: Params, slots: &[u8], k: usize) -> usize
 // 23, for the slot of number k.
 pub fn runs(slots: &[u8], k: usize) -> usize
     requires { Holds slots.now k }
-    ensures { Ends result × Runs slots k result }
+    ensures { Ends result × Runs slots.now k result }
 {
     if present(slots, k) {
         return End::STARTED;

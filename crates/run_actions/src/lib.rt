@@ -4,7 +4,7 @@ ghost use Rattle.std.specs.Prelude.{◌≡◌};
 pub mod conditions;
 
 // How far a run is: events written, answers used, and the number of the end of what was done last, 0 to go on.
-#[derive(Drop)]
+#[derive(Clone, Copy)]
 pub struct Progress {
     pub events: usize,
     pub used: usize,
@@ -12,7 +12,7 @@ pub struct Progress {
 }
 
 // What a command leaves beside its event: answers used, and the number of its end.
-#[derive(Drop)]
+#[derive(Clone, Copy)]
 pub struct Effect {
     pub used: usize,
     pub end: usize,

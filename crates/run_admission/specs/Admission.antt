@@ -28,6 +28,6 @@ Tested request ids x memory r =
     (r ≡ refusal_in (admit request.group request.number ids x)) × (r ≡ 0 → Found ids x.slots (was memory) (left memory))
     × (left memory ≡ assigned_after request.group request.number ids x (was memory))
 
-abbrev pub Admits : Lent → Request → Lent → Controller → Lent → Lent → Lent → Lent → ℕ → Type 0
+abbrev pub Admits : Bytes → Request → Bytes → Controller → Bytes → Bytes → Bytes → Lent → ℕ → Type 0
 Admits s request ids device slots answers trace memory r =
-    Tested request (names_at (was s) (was ids) request.components) (given request.verdict device slots answers trace) memory r
+    Tested request (names_at s ids request.components) (given request.verdict device slots answers trace) memory r

@@ -31,7 +31,7 @@ fn number_fits(group: Group, number: usize, device: Controller) -> bool
 }
 
 // What a run asks for: the group, the sequence number and the components of what is run, and whether its signature was verified.
-#[derive(Drop)]
+#[derive(Clone, Copy)]
 pub struct Request {
     pub group: Group,
     pub number: usize,
@@ -51,7 +51,7 @@ pub fn admit(
     memory: &mut Memory,
 ) -> usize
     requires { Requested s.now request ids.now }
-    ensures { Admits s request ids device slots answers trace memory result }
+    ensures { Admits s.now request ids.now device slots.now answers.now trace.now memory result }
 {
     let group = request.group;
     if !request.verdict {

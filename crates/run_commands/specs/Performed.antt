@@ -34,16 +34,16 @@ RoomFor events trace = event_bytes * events + event_bytes ≤ length trace
 
 -- op at component i, its event aside: for every environment that the lent memory is of, it does what the rule says, to whatever trace. The
 -- memory still fits each number of components that the parameters it gives fit, and keeps the numbers of slots
-pub record Acts (s : Lent) (op : Op) (i used : ℕ) (Gives : ℕ → Type 0) (vendor class answers slots memory : Lent) (r : Effect) : Type 0 where
+pub record Acts (s : Bytes) (op : Op) (i used : ℕ) (Gives : ℕ → Type 0) (vendor class answers : Bytes) (slots memory : Lent) (r : Effect) : Type 0 where
   pub ends : Ends r.end
-  pub does : (env : Env) (trace : Bytes) (events : ℕ) → Host env (was vendor) (was class) (was answers) (was memory) (was slots) → i < length env.ids →
-      FitAll (was s) (length env.ids) (was memory) →
-      out (end_of r.end) (state_at (was s) (length env.ids) (left memory) (left slots) trace events r.used)
-      ≡ acts env op i (state_at (was s) (length env.ids) (was memory) (was slots) trace events used)
-  pub fit : (n : ℕ) → FitAll (was s) n (was memory) → Gives n → FitAll (was s) n (left memory)
+  pub does : (env : Env) (trace : Bytes) (events : ℕ) → Host env vendor class answers (was memory) (was slots) → i < length env.ids →
+      FitAll s (length env.ids) (was memory) →
+      out (end_of r.end) (state_at s (length env.ids) (left memory) (left slots) trace events r.used)
+      ≡ acts env op i (state_at s (length env.ids) (was memory) (was slots) trace events used)
+  pub fit : (n : ℕ) → FitAll s n (was memory) → Gives n → FitAll s n (left memory)
   pub kept : SlotsKept (was memory) (left memory)
 
 -- the command was done
-abbrev pub Acted : Lent → Command → Params → Lent → Lent → Lent → Lent → Lent → Effect → Type 0
+abbrev pub Acted : Bytes → Command → Params → Bytes → Bytes → Bytes → Lent → Lent → Effect → Type 0
 Acted s x given vendor class answers slots memory r =
-    Acts s (command_of (was s) x given) x.index x.used (λ n. Fit (was s) n given) vendor class answers slots memory r
+    Acts s (command_of s x given) x.index x.used (λ n. Fit s n given) vendor class answers slots memory r

@@ -15,7 +15,7 @@ use run_slots::params::{Params, load, over, store};
 
 // A command: its code, what it has beside its parameters, the component that it is done at, and the place of its code; the events written
 // and the answers used before it.
-#[derive(Drop)]
+#[derive(Clone, Copy)]
 pub struct Command {
     pub code: usize,
     pub value: usize,
@@ -37,7 +37,7 @@ pub fn act(
     memory: &mut Memory,
 ) -> Effect
     requires { Commanded s.now command given answers.now slots.old memory.old }
-    ensures { Acted s command given vendor class answers slots memory result }
+    ensures { Acted s.now command given vendor.now class.now answers.now slots memory result }
 {
     let i = command.index;
     let k = memory[i];

@@ -1,6 +1,5 @@
 // The event of a command.
 ghost use Rattle.std.specs.Prelude.{◌≡◌, ◌+◌, ◌*◌, ◌≤◌, ◌<◌, length};
-ghost use Rattle.rules.specs.Lent.{was, left};
 ghost use Rattle.rules.specs.Answers.{end_of, result_number};
 ghost use Rattle.rules.specs.Bytes.{put};
 ghost use Rattle.rules.specs.Step.{event_bytes, event};
@@ -33,7 +32,7 @@ pub fn put_event(
     end: usize,
 )
     requires { (event_bytes * events + event_bytes ≤ length trace.old) × (code < 256) × (component < 256) × Ends end }
-    ensures { left trace ≡ put (was trace) (event_bytes * events) (event code component place (result_number (end_of end))) }
+    ensures { trace.new ≡ put trace.old (event_bytes * events) (event code component place (result_number (end_of end))) }
 {
     let at = EVENT_BYTES * events;
     trace[at] = MARK;

@@ -14,7 +14,7 @@ use run_slots::slot::{capacity, present, size};
 // 22, with the parameters p, to the slot of number k.
 pub fn copy(p: Params, memory: &Memory, slots: &mut [u8], k: usize) -> usize
     requires { Holds slots.old k × AllHold memory.now slots.old × (p.source ≤ limits.components) }
-    ensures { Ends result × Fills Step.copies p memory slots k result }
+    ensures { Ends result × Fills Step.copies p memory.now slots k result }
 {
     let source = p.source;
     if source == 0 {
@@ -34,7 +34,7 @@ pub fn copy(p: Params, memory: &Memory, slots: &mut [u8], k: usize) -> usize
 // 32, with the parameters p, between the slot of number k and the source's.
 pub fn swap(p: Params, memory: &Memory, slots: &mut [u8], k: usize) -> usize
     requires { Holds slots.old k × AllHold memory.now slots.old × (p.source ≤ limits.components) }
-    ensures { Ends result × Fills Step.swaps p memory slots k result }
+    ensures { Ends result × Fills Step.swaps p memory.now slots k result }
 {
     let source = p.source;
     if source == 0 {

@@ -18,8 +18,8 @@ input_of verdict device slots answers trace =
     record { verdict = verdict; device = device; slots = slots; answers = answers; trace = trace }
 
 -- the same of lent memory
-abbrev pub given : Bool → Controller → Lent → Lent → Lent → Input
-given verdict device slots answers trace = input_of verdict device (was slots) (was answers) (was trace)
+abbrev pub given : Bool → Controller → Bytes → Bytes → Bytes → Input
+given verdict device slots answers trace = input_of verdict device slots answers trace
 
 -- 'A refusal returns its number and place, and nothing lent is altered'
 abbrev pub outcome_of : Controller → Got Ran → Outcome

@@ -1,6 +1,5 @@
 // What a run answers: a refusal, or how it ended; and the device's number after it.
 ghost use Rattle.std.specs.Prelude.{◌≡◌, cond, eqb};
-ghost use Rattle.rules.specs.Lent.{was};
 ghost use Rattle.rules.specs.Answers.{end_of};
 ghost use Rattle.rules.specs.Got as Got;
 ghost use Rattle.rules.specs.Run.{last_place, number_after};
@@ -12,7 +11,7 @@ use rules::controller::Controller;
 use rules::event_format::{EVENT_BYTES, PLACE};
 
 // How a run ended.
-#[derive(Drop)]
+#[derive(Clone, Copy)]
 pub struct Ending {
     pub end: End,
     // the place of the last event, 0 where the run finished
@@ -22,14 +21,14 @@ pub struct Ending {
 }
 
 // A refusal with its place, or how the run ended.
-#[derive(Drop)]
+#[derive(Clone, Copy)]
 pub enum Answer {
     Refused(Refusal, usize),
     Ran(Ending),
 }
 
 // The answer, and the device's number after the run.
-#[derive(Drop)]
+#[derive(Clone, Copy)]
 pub struct Outcome {
     pub answer: Answer,
     pub number: usize,
@@ -51,7 +50,7 @@ const FROM_PLACE: usize = EVENT_BYTES - PLACE;
 // The place of the last event, 0 where the run finished.
 fn last_place(end: usize, events: usize, trace: &[u8]) -> usize
     requires { LastEvent end events trace.now }
-    ensures { result ≡ cond (eqb end 0) 0 (last_place events (was trace)) }
+    ensures { result ≡ cond (eqb end 0) 0 (last_place events trace.now) }
 {
     if end == End::FINISHED {
         return 0;
@@ -62,7 +61,7 @@ fn last_place(end: usize, events: usize, trace: &[u8]) -> usize
 // How a run ended, by the number of its end.
 pub fn ended(end: usize, events: usize, used: usize, trace: &[u8]) -> Ending
     requires { LastEvent end events trace.now }
-    ensures { result ≡ ending_of end events used (was trace) }
+    ensures { result ≡ ending_of end events used trace.now }
 {
     Ending {
         end: End::of(end),

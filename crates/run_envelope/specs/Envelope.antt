@@ -8,5 +8,5 @@ use Rattle.run_ending.specs.declared.Outcome.{Outcome}
 use Rattle.run_ending.specs.Answer.{given, Settled}
 
 -- the outcome, the slots and the trace are those of the rule's run
-abbrev pub Runs : Lent → Group → Bool → Controller → Lent → Lent → Lent → Outcome → Type 0
-Runs s group verdict device slots answers trace r = Settled device (run_envelope (was s) group (given verdict device slots answers trace)) slots trace r
+abbrev pub Runs : List ℕ → Group → Bool → Controller → Lent → List ℕ → Lent → Outcome → Type 0
+Runs s group verdict device slots answers trace r = Settled device (run_envelope s group (given verdict device (was slots) answers (was trace))) slots trace r

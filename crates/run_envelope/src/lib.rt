@@ -23,7 +23,7 @@ fn run_checked(
     trace: &mut [u8],
 ) -> Outcome
     requires { Accepted s.now request.number request.components ids.now sections.now }
-    ensures { Runs s request.group request.verdict device slots answers trace result }
+    ensures { Runs s.now request.group request.verdict device slots answers.now trace result }
 {
     let mut memory = [0usize; MEMORY_NUMBERS];
     let refusal = admit(s, request, ids, device, slots, answers, trace, &mut memory);
@@ -62,7 +62,7 @@ pub fn run(
     answers: &[u8],
     trace: &mut [u8],
 ) -> Outcome
-    ensures { Runs s group verdict device slots answers trace result }
+    ensures { Runs s.now group verdict device slots answers.now trace result }
 {
     let report = check(s);
     let answer = report.answer;

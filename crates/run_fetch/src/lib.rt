@@ -15,7 +15,7 @@ use run_slots::slot::capacity;
 // 21, with the parameters p, for the slot of number k.
 pub fn fetch(p: Params, answers: &[u8], used: usize, slots: &mut [u8], k: usize) -> Effect
     requires { Holds slots.old k × (length answers.now % answer_bytes ≡ 0) }
-    ensures { Ends result.end × Fetches p answers used slots k result }
+    ensures { Ends result.end × Fetches p answers.now used slots k result }
 {
     let uri = p.uri;
     if uri == 0 {

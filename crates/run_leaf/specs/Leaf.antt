@@ -67,8 +67,8 @@ pub record CommandRan (s : Bytes) (env : Env) (cmd : Cmd) (to : ℕ) (run : Run)
   pub coerce : is_true r.coerce ≡ coerce_after cmd (is_true run.coerce)
 
 -- what a command that holds no sequence promises of what it is lent: for every job that it is asked for, it ran as the rule says
-abbrev pub LeafRuns : Lent → Opened → Run → Lent → Lent → Lent → Lent → Lent → Lent → Run → Type 0
+abbrev pub LeafRuns : Bytes → Opened → Run → Bytes → Bytes → Bytes → Lent → Lent → Lent → Run → Type 0
 LeafRuns s head run vendor class answers slots memory trace r =
-    (j : LeafJob (was s) head run (was vendor) (was class) (was answers) (was slots) (was memory) (was trace)) →
-    CommandRan (was s) j.ready.env (one run.next j.argument.op j.argument.coerce) j.argument.to run (was slots) (was memory) (was trace)
+    (j : LeafJob s head run vendor class answers (was slots) (was memory) (was trace)) →
+    CommandRan s j.ready.env (one run.next j.argument.op j.argument.coerce) j.argument.to run (was slots) (was memory) (was trace)
     r (left slots) (left memory) (left trace)

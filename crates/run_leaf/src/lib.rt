@@ -13,7 +13,7 @@ use run_slots::params::either;
 
 // Where the next command is, the index and coerce of the sequence, events written, answers used, and the number of the
 // end of what was done last.
-#[derive(Drop)]
+#[derive(Clone, Copy)]
 pub struct Run {
     pub next: usize,
     pub index: usize,
@@ -36,7 +36,7 @@ pub fn leaf(
     trace: &mut [u8],
 ) -> Run
     requires { LeafJob s.now head run vendor.now class.now answers.now slots.old memory.old trace.old }
-    ensures { LeafRuns s head run vendor class answers slots memory trace result }
+    ensures { LeafRuns s.now head run vendor.now class.now answers.now slots memory trace result }
 {
     let code = head.value;
     let a = read_one(s, code, head.next);

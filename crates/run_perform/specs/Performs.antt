@@ -11,13 +11,13 @@ use Rattle.run_commands.specs.Machine.{state_at, out_at, Host}
 use Rattle.run_commands.specs.Performed.{command_of}
 
 -- the command was done, and its event put after those of the trace
-pub record Performs (s : Lent) (x : Command) (given : Params) (vendor class answers slots memory trace : Lent) (r : Progress) : Type 0 where
+pub record Performs (s : Bytes) (x : Command) (given : Params) (vendor class answers : Bytes) (slots memory trace : Lent) (r : Progress) : Type 0 where
   pub events : r.events ≡ x.events + 1
   pub ends : Ends r.end
-  pub does : (env : Env) → Host env (was vendor) (was class) (was answers) (was memory) (was slots) → x.index < length env.ids →
-      FitAll (was s) (length env.ids) (was memory) →
-      out_at (was s) (length env.ids) (left memory) (left slots) (left trace) r
-      ≡ step env (command_of (was s) x given) x.index x.place
-      (state_at (was s) (length env.ids) (was memory) (was slots) (was trace) x.events x.used)
-  pub fit : (n : ℕ) → FitAll (was s) n (was memory) → Fit (was s) n given → FitAll (was s) n (left memory)
+  pub does : (env : Env) → Host env vendor class answers (was memory) (was slots) → x.index < length env.ids →
+      FitAll s (length env.ids) (was memory) →
+      out_at s (length env.ids) (left memory) (left slots) (left trace) r
+      ≡ step env (command_of s x given) x.index x.place
+      (state_at s (length env.ids) (was memory) (was slots) (was trace) x.events x.used)
+  pub fit : (n : ℕ) → FitAll s n (was memory) → Fit s n given → FitAll s n (left memory)
   pub kept : SlotsKept (was memory) (left memory)

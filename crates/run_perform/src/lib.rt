@@ -20,7 +20,7 @@ pub fn perform(
     trace: &mut [u8],
 ) -> Progress
     requires { Commanded s.now command given answers.now slots.old memory.old × RoomFor command.events trace.old }
-    ensures { Performs s command given vendor class answers slots memory trace result }
+    ensures { Performs s.now command given vendor.now class.now answers.now slots memory trace result }
 {
     let events = command.events;
     let place = command.place;

@@ -33,7 +33,7 @@ pub record PlanRan (s : Bytes) (env : Env) (plan : List Seq) (slots : Bytes) (me
   pub late : end_number Finished < r.end → 0 < r.events
 
 -- what the function promises of what it is lent: the sequences of the plan were run
-abbrev pub PlanRuns : Lent → Lent → ℕ → Lent → Lent → Lent → Lent → Lent → Lent → Progress → Type 0
+abbrev pub PlanRuns : Bytes → Bytes → ℕ → Bytes → Bytes → Bytes → Lent → Lent → Lent → Progress → Type 0
 PlanRuns s starts total vendor class answers slots memory trace r =
-    (j : PlanJob (was s) (was starts) total (was vendor) (was class) (was answers) (was slots) (was memory) (was trace)) →
-    PlanRan (was s) j.ready.env j.plan (was slots) (was memory) (was trace) r (left slots) (left memory) (left trace)
+    (j : PlanJob s starts total vendor class answers (was slots) (was memory) (was trace)) →
+    PlanRan s j.ready.env j.plan (was slots) (was memory) (was trace) r (left slots) (left memory) (left trace)

@@ -36,7 +36,7 @@ pub fn run_plan(
     trace: &mut [u8],
 ) -> Progress
     requires { PlanJob s.now starts.now total vendor.now class.now answers.now slots.old memory.old trace.old }
-    ensures { PlanRuns s starts total vendor class answers slots memory trace result }
+    ensures { PlanRuns s.now starts.now total vendor.now class.now answers.now slots memory trace result }
 {
     let level = Level {
         depth: Controller::DEPTH,

@@ -35,13 +35,13 @@ pub record SequenceRan (s : Bytes) (env : Env) (seq : Seq) (coercible : Bool) (r
   pub late : end_number Finished < r.end → 0 < r.events
 
 -- what each function promises of what it is lent: for every job that it is asked for, it ran as the rule says
-abbrev pub CommandRuns : Lent → ℕ → Run → Lent → Lent → Lent → Lent → Lent → Lent → Run → Type 0
+abbrev pub CommandRuns : Bytes → ℕ → Run → Bytes → Bytes → Bytes → Lent → Lent → Lent → Run → Type 0
 CommandRuns s depth run vendor class answers slots memory trace r =
-    (j : CommandJob (was s) depth run (was vendor) (was class) (was answers) (was slots) (was memory) (was trace)) →
-    CommandRan (was s) j.ready.env j.place.cmd j.place.to run (was slots) (was memory) (was trace) r (left slots) (left memory) (left trace)
+    (j : CommandJob s depth run vendor class answers (was slots) (was memory) (was trace)) →
+    CommandRan s j.ready.env j.place.cmd j.place.to run (was slots) (was memory) (was trace) r (left slots) (left memory) (left trace)
 
-abbrev pub SequenceRuns : Lent → Level → Run → Lent → Lent → Lent → Lent → Lent → Lent → Progress → Type 0
+abbrev pub SequenceRuns : Bytes → Level → Run → Bytes → Bytes → Bytes → Lent → Lent → Lent → Progress → Type 0
 SequenceRuns s level run vendor class answers slots memory trace r =
-    (j : SequenceJob (was s) level.depth run (was vendor) (was class) (was answers) (was slots) (was memory) (was trace)) →
-    SequenceRan (was s) j.ready.env j.place.seq level.coercible run (was slots) (was memory) (was trace)
+    (j : SequenceJob s level.depth run vendor class answers (was slots) (was memory) (was trace)) →
+    SequenceRan s j.ready.env j.place.seq level.coercible run (was slots) (was memory) (was trace)
     r (left slots) (left memory) (left trace)

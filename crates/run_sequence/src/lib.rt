@@ -11,7 +11,7 @@ use run_leaf::{Run, caught, leaf, run_at};
 
 // How a sequence is run: how deep it and those in it may be. `coercible`: a run sequence runs it, so that its coerce makes a failed condition
 // a success.
-#[derive(Drop)]
+#[derive(Clone, Copy)]
 pub struct Level {
     pub depth: usize,
     pub coercible: bool,
@@ -31,7 +31,7 @@ pub fn run_sequence(
     trace: &mut [u8],
 ) -> Progress
     requires { SequenceJob s.now level.depth run vendor.now class.now answers.now slots.old memory.old trace.old }
-    ensures { SequenceRuns s level run vendor class answers slots memory trace result }
+    ensures { SequenceRuns s.now level run vendor.now class.now answers.now slots memory trace result }
 {
     let h = open(s, run.next);
     let mut left = h.value / 2;
@@ -79,7 +79,7 @@ fn run_command(
     trace: &mut [u8],
 ) -> Run
     requires { CommandJob s.now depth run vendor.now class.now answers.now slots.old memory.old trace.old }
-    ensures { CommandRuns s depth run vendor class answers slots memory trace result }
+    ensures { CommandRuns s.now depth run vendor.now class.now answers.now slots memory trace result }
 {
     let c = open(s, run.next);
     let code = c.value;

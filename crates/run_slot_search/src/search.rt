@@ -1,6 +1,5 @@
 // Slots are found by identifier, never by position.
 ghost use Rattle.std.specs.Prelude.{◌≡◌, ◌+◌, ◌*◌, ◌≤◌, length, get_or};
-ghost use Rattle.rules.specs.Lent.{was};
 ghost use Rattle.rules.specs.Bytes.{part, same, InBytes};
 ghost use Rattle.rules.specs.Limits.{limits};
 ghost use Rattle.rules.specs.Slots.{slot_bytes, slot_at, slot_of};
@@ -14,7 +13,7 @@ use rules::slot_format::{IDENTIFIER, SLOT_BYTES};
 // Whether the slot of number k has the identifier of n bytes at `at`.
 pub(crate) fn named(s: &[u8], at: usize, n: usize, slots: &[u8], k: usize) -> bool
     requires { (at + n ≤ length s.now) × Holds slots.now k × (get_or slots.now (slot_bytes * k) 0 ≤ limits.identifier) }
-    ensures { result ≡ same (part (was s) at n) (slot_at (was slots) k).id }
+    ensures { result ≡ same (part s.now at n) (slot_at slots.now k).id }
 {
     let length = slots[SLOT_BYTES * k] as usize;
     if n != length {
@@ -26,7 +25,7 @@ pub(crate) fn named(s: &[u8], at: usize, n: usize, slots: &[u8], k: usize) -> bo
 // The number of the slot with that identifier, or how many slots there are.
 pub fn slot_of(s: &[u8], at: usize, n: usize, slots: &[u8]) -> usize
     requires { (at + n ≤ length s.now) × Short slots.now }
-    ensures { result ≡ slot_of (part (was s) at n) (was slots) }
+    ensures { result ≡ slot_of (part s.now at n) slots.now }
 {
     let count = slots.len() / SLOT_BYTES;
     let mut k = 0;
@@ -43,7 +42,7 @@ pub fn slot_of(s: &[u8], at: usize, n: usize, slots: &[u8]) -> usize
 // before it are assigned.
 pub fn find_slots(s: &[u8], ids: &Places, n: usize, slots: &[u8], memory: &mut Memory) -> bool
     requires { (n ≤ limits.components) × InBytes ids.now n (length s.now) × Short slots.now }
-    ensures { SlotsFound (names_at (was s) (was ids) n) (was slots) memory result }
+    ensures { SlotsFound (names_at s.now ids.now n) slots.now memory result }
 {
     let numbers: &mut [usize] = memory;
     let count = slots.len() / SLOT_BYTES;

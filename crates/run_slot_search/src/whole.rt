@@ -1,6 +1,5 @@
 // 85: whole slots, 1 to 8 of them, each good, no identifier twice.
 ghost use Rattle.std.specs.Prelude.{◌≡◌, ◌+◌, ◌*◌, ◌≤◌, ◌<◌, length};
-ghost use Rattle.rules.specs.Lent.{was};
 ghost use Rattle.rules.specs.Bytes.{member, repeats};
 ghost use Rattle.rules.specs.Slots.{slot_bytes, slot_at, all_good, good_slots};
 ghost use Rattle.run_slots.specs.Slot.{Short};
@@ -14,7 +13,7 @@ use run_slots::slot::good_slot;
 // Whether each of the n slots is good.
 pub(crate) fn all_good(slots: &[u8], n: usize) -> bool
     requires { slot_bytes * n ≤ length slots.now }
-    ensures { result ≡ all_good (slots_from (was slots) 0 n) }
+    ensures { result ≡ all_good (slots_from slots.now 0 n) }
 {
     let mut k = 0;
     while k < n {
@@ -29,7 +28,7 @@ pub(crate) fn all_good(slots: &[u8], n: usize) -> bool
 // Whether one of the slots after number i has its identifier.
 pub(crate) fn named_again(slots: &[u8], i: usize, n: usize) -> bool
     requires { (i < n) × (slot_bytes * n ≤ length slots.now) × Short slots.now }
-    ensures { result ≡ member (slot_at (was slots) i).id (names_from (was slots) (i + 1) n) }
+    ensures { result ≡ member (slot_at slots.now i).id (names_from slots.now (i + 1) n) }
 {
     let at = SLOT_BYTES * i;
     let length = slots[at] as usize;
@@ -45,7 +44,7 @@ pub(crate) fn named_again(slots: &[u8], i: usize, n: usize) -> bool
 
 pub(crate) fn one_twice(slots: &[u8], n: usize) -> bool
     requires { (slot_bytes * n ≤ length slots.now) × Short slots.now }
-    ensures { result ≡ repeats (names_from (was slots) 0 n) }
+    ensures { result ≡ repeats (names_from slots.now 0 n) }
 {
     let mut i = 0;
     while i < n {
@@ -58,7 +57,7 @@ pub(crate) fn one_twice(slots: &[u8], n: usize) -> bool
 }
 
 pub fn good_slots(slots: &[u8]) -> bool
-    ensures { result ≡ good_slots (was slots) }
+    ensures { result ≡ good_slots slots.now }
 {
     let bytes = slots.len();
     if bytes % SLOT_BYTES != 0 {

@@ -1,6 +1,5 @@
 // The image of a slot: present, size and digest, laid out as an answer of the host.
 ghost use Rattle.std.specs.Prelude.{◌≡◌, ◌+◌, ◌≤◌, length};
-ghost use Rattle.rules.specs.Lent.{was, left};
 ghost use Rattle.rules.specs.Bytes.{part};
 ghost use Rattle.rules.specs.Slots.{answer_bytes, image_at, put_image};
 ghost use Rattle.run_slots.specs.Slot.{Holds};
@@ -10,7 +9,7 @@ use rules::slot_format::{IMAGE, IMAGE_BYTES, Image, SLOT_BYTES};
 // The answer or the image at `at`.
 pub fn take(b: &[u8], at: usize) -> Image
     requires { at + answer_bytes ≤ length b.now }
-    ensures { result ≡ part (was b) at answer_bytes }
+    ensures { result ≡ part b.now at answer_bytes }
 {
     let mut image = [0u8; IMAGE_BYTES];
     let mut k = 0;
@@ -23,7 +22,7 @@ pub fn take(b: &[u8], at: usize) -> Image
 
 pub fn image(slots: &[u8], k: usize) -> Image
     requires { Holds slots.now k }
-    ensures { result ≡ image_at (was slots) k }
+    ensures { result ≡ image_at slots.now k }
 {
     take(slots, SLOT_BYTES * k + IMAGE)
 }
@@ -31,7 +30,7 @@ pub fn image(slots: &[u8], k: usize) -> Image
 // Puts the image into the slot of number k.
 pub fn put_image(slots: &mut [u8], k: usize, image: Image)
     requires { Holds slots.old k }
-    ensures { left slots ≡ put_image (was slots) k image }
+    ensures { slots.new ≡ put_image slots.old k image }
 {
     let at = SLOT_BYTES * k + IMAGE;
     let mut i = 0;

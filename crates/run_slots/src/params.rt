@@ -1,13 +1,12 @@
 // The parameters of components, as numbers in lent memory: a string as its place in the bytes that the commands stand in.
 ghost use Rattle.std.specs.Prelude.{◌≡◌, ◌+◌, ◌≤◌, ◌<◌, cond, eqb, length};
-ghost use Rattle.rules.specs.Lent.{was, left};
 ghost use Rattle.rules.specs.Limits.{limits, param_numbers};
 ghost use Rattle.run_slots.specs.Params.{params_from, params_at, stored, over_params};
 
 use rules::controller::{Controller, Memory, PARAMETER_NUMBERS};
 
 // 0 is unset: where the URI and the digest start, and one more than the source and the size.
-#[derive(Drop)]
+#[derive(Clone, Copy)]
 pub struct Params {
     pub uri: usize,
     pub length: usize,
@@ -18,7 +17,7 @@ pub struct Params {
 
 pub fn load(memory: &Memory, i: usize) -> Params
     requires { i < limits.components }
-    ensures { result ≡ params_at (was memory) i }
+    ensures { result ≡ params_at memory.now i }
 {
     let at = Controller::COMPONENTS + PARAMETER_NUMBERS * i;
     Params {
@@ -32,7 +31,7 @@ pub fn load(memory: &Memory, i: usize) -> Params
 
 pub fn store(memory: &mut [usize], i: usize, p: Params)
     requires { params_from i + param_numbers ≤ length memory.old }
-    ensures { left memory ≡ stored (was memory) i p }
+    ensures { memory.new ≡ stored memory.old i p }
 {
     let at = Controller::COMPONENTS + PARAMETER_NUMBERS * i;
     memory[at] = p.uri;

@@ -1,6 +1,5 @@
 // Text in lent room. Each function writes from `at` on, as far as the room goes, and gives the place after what it wrote.
 ghost use Rattle.std.specs.Prelude.{◌≡◌, [], ◌∷◌, map, ◌≤◌, length, replicate};
-ghost use Rattle.rules.specs.Lent.{was};
 ghost use Rattle.text.specs.Text.{Writes, quoted};
 ghost use Rattle.text.specs.Text.{least as Text·least, printable as Text·printable, position as Text·position};
 
@@ -22,7 +21,7 @@ pub fn least(a: usize, b: usize) -> usize
 
 // The first place of a number, or the length.
 pub fn position(s: &[u8], n: usize) -> usize
-    ensures { (result ≡ Text·position n (was s)) × (result ≤ length (was s)) }
+    ensures { (result ≡ Text·position n s.now) × (result ≤ length s.now) }
 {
     let mut i = 0;
     while i < s.len() {
@@ -45,7 +44,7 @@ pub fn put_byte(room: &mut [u8], at: usize, b: u8) -> usize
 }
 
 pub fn put(room: &mut [u8], at: usize, s: &[u8]) -> usize
-    ensures { Writes (was s) at room result }
+    ensures { Writes s.now at room result }
 {
     let mut to = at;
     let mut i = 0;
@@ -88,7 +87,7 @@ fn printable(b: u8) -> u8
 }
 
 fn put_printed(room: &mut [u8], at: usize, s: &[u8]) -> usize
-    ensures { Writes (map Text·printable (was s)) at room result }
+    ensures { Writes (map Text·printable s.now) at room result }
 {
     let mut to = at;
     let mut i = 0;
@@ -101,7 +100,7 @@ fn put_printed(room: &mut [u8], at: usize, s: &[u8]) -> usize
 
 // A text in quotes.
 pub fn put_quoted(room: &mut [u8], at: usize, s: &[u8]) -> usize
-    ensures { Writes (quoted (was s)) at room result }
+    ensures { Writes (quoted s.now) at room result }
 {
     let a = put_byte(room, at, QUOTE);
     let b = put_printed(room, a, s);

@@ -1,5 +1,4 @@
 // A name as it is shown, in lent room: control bytes and the backslash are escaped.
-ghost use Rattle.rules.specs.Lent.{was};
 ghost use Rattle.text.specs.Text.{Writes};
 ghost use Rattle.text_escaped.specs.Escaped.{escape, escaped_byte, escaped};
 
@@ -35,7 +34,7 @@ fn put_escaped_byte(room: &mut [u8], at: usize, b: u8) -> usize
 }
 
 pub fn put_escaped(room: &mut [u8], at: usize, s: &[u8]) -> usize
-    ensures { Writes (escaped (was s)) at room result }
+    ensures { Writes (escaped s.now) at room result }
 {
     let mut to = at;
     let mut i = 0;

@@ -1,6 +1,5 @@
 // Numbers as text in lent room: in decimal, behind spaces up to a width, and bytes in hexadecimal.
 ghost use Rattle.std.specs.Prelude.{◌≡◌, [], ◌∷◌, ◌<◌, length};
-ghost use Rattle.rules.specs.Lent.{was};
 ghost use Rattle.text.specs.Text.{Writes, decimal, padded, hex};
 ghost use Rattle.text.specs.Text.{digits as Text·digits, digit as Text·digit};
 
@@ -65,7 +64,7 @@ pub fn put_padded(room: &mut [u8], at: usize, n: usize, width: usize) -> usize
 }
 
 pub fn put_hex(room: &mut [u8], at: usize, s: &[u8]) -> usize
-    ensures { Writes (hex (was s)) at room result }
+    ensures { Writes (hex s.now) at room result }
 {
     let mut to = at;
     let mut i = 0;

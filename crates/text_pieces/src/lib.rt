@@ -1,13 +1,12 @@
 // What lines of text are made of, in lent room: numbers behind a label, and parts of lent bytes in hexadecimal. A part is cut where the bytes end.
 ghost use Rattle.std.specs.Prelude.{◌≡◌, [], ◌∷◌, ◌≤◌, length};
-ghost use Rattle.rules.specs.Lent.{was};
 ghost use Rattle.text.specs.Text.{Writes, hex};
 ghost use Rattle.text_pieces.specs.Pieces.{between, spaced, labelled, counted, coded};
 
 use text::{put, put_byte};
 use text_numbers::{put_decimal, put_hex};
 
-#[derive(Drop)]
+#[derive(Clone, Copy)]
 pub struct Range {
     pub from: usize,
     pub to: usize,
@@ -15,7 +14,7 @@ pub struct Range {
 
 // The part's own places in the bytes.
 pub fn within(s: &[u8], from: usize, to: usize) -> Range
-    ensures { (result.from ≤ result.to) × (result.to ≤ length (was s)) × (between (was s) result.from result.to ≡ between (was s) from to) }
+    ensures { (result.from ≤ result.to) × (result.to ≤ length s.now) × (between s.now result.from result.to ≡ between s.now from to) }
 {
     let end = s.len();
     if to <= from {
@@ -32,7 +31,7 @@ pub fn within(s: &[u8], from: usize, to: usize) -> Range
 
 // The bytes from one place to before another.
 pub fn put_part(room: &mut [u8], at: usize, s: &[u8], from: usize, to: usize) -> usize
-    ensures { Writes (hex (between (was s) from to)) at room result }
+    ensures { Writes (hex (between s.now from to)) at room result }
 {
     let p = within(s, from, to);
     let a = p.from;
@@ -42,7 +41,7 @@ pub fn put_part(room: &mut [u8], at: usize, s: &[u8], from: usize, to: usize) ->
 
 // The same, each byte behind a space.
 pub fn put_spaced(room: &mut [u8], at: usize, s: &[u8], from: usize, to: usize) -> usize
-    ensures { Writes (spaced (between (was s) from to)) at room result }
+    ensures { Writes (spaced (between s.now from to)) at room result }
 {
     let p = within(s, from, to);
     let a = p.from;
@@ -51,7 +50,7 @@ pub fn put_spaced(room: &mut [u8], at: usize, s: &[u8], from: usize, to: usize) 
 }
 
 fn put_each(room: &mut [u8], at: usize, s: &[u8]) -> usize
-    ensures { Writes (spaced (was s)) at room result }
+    ensures { Writes (spaced s.now) at room result }
 {
     let mut to = at;
     let mut i = 0;
@@ -70,14 +69,14 @@ fn put_one(room: &mut [u8], at: usize, b: u8) -> usize
 }
 
 pub fn put_labelled(room: &mut [u8], at: usize, label: &[u8], n: usize) -> usize
-    ensures { Writes (labelled (was label) n) at room result }
+    ensures { Writes (labelled label.now n) at room result }
 {
     let to = put(room, at, label);
     put_decimal(room, to, n)
 }
 
 pub fn put_counted(room: &mut [u8], at: usize, label: &[u8], n: usize, thing: &[u8]) -> usize
-    ensures { Writes (counted (was label) n (was thing)) at room result }
+    ensures { Writes (counted label.now n thing.now) at room result }
 {
     let a = put_labelled(room, at, label, n);
     let b = put(room, a, thing);

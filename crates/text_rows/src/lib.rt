@@ -1,6 +1,5 @@
 // A table of words by number, in lent room: the numbers, and the words in the same order with a bar after each.
 ghost use Rattle.std.specs.Prelude.{◌≡◌, ◌≤◌, length, take, drop};
-ghost use Rattle.rules.specs.Lent.{was};
 ghost use Rattle.text.specs.Text.{Writes};
 ghost use Rattle.text.specs.Text.{position as Text·position};
 ghost use Rattle.text_rows.specs.Rows.{wide, before, after};
@@ -11,7 +10,7 @@ const BAR: u8 = 124;
 
 // A word, and spaces up to a width.
 fn put_wide(room: &mut [u8], at: usize, word: &[u8], width: usize) -> usize
-    ensures { Writes (wide width (was word)) at room result }
+    ensures { Writes (wide width word.now) at room result }
 {
     let to = put(room, at, word);
     let count = word.len();
@@ -23,7 +22,7 @@ fn put_wide(room: &mut [u8], at: usize, word: &[u8], width: usize) -> usize
 
 // The place after k bars.
 fn skip(s: &[u8], k: usize) -> usize
-    ensures { (result ≤ length (was s)) × (drop result (was s) ≡ after k (was s)) }
+    ensures { (result ≤ length s.now) × (drop result s.now ≡ after k s.now) }
 {
     let mut left = k;
     let mut i = 0;
@@ -41,7 +40,7 @@ fn skip(s: &[u8], k: usize) -> usize
 
 // The place of the first bar, or the length.
 fn bar(s: &[u8]) -> usize
-    ensures { (result ≤ length (was s)) × (take result (was s) ≡ before (was s)) }
+    ensures { (result ≤ length s.now) × (take result s.now ≡ before s.now) }
 {
     let mut i = 0;
     while i < s.len() {
@@ -62,7 +61,7 @@ pub fn put_word(
     n: usize,
     width: usize,
 ) -> usize
-    ensures { Writes (wide width (before (after (Text·position n (was numbers)) (was words)))) at room result }
+    ensures { Writes (wide width (before (after (Text·position n numbers.now) words.now))) at room result }
 {
     let from = skip(words, position(numbers, n));
     let rest = &words[from..];

@@ -1,6 +1,5 @@
 // Translate: the program of an accepted envelope's group, written to lent room.
 ghost use Rattle.std.specs.Prelude.{length};
-ghost use Rattle.rules.specs.Lent.{was, left};
 ghost use Rattle.rules.specs.Program as Rule;
 ghost use Rattle.manifest_accessors.specs.Accepted.{Accepted};
 ghost use Rattle.translate.specs.Translate.{Translates};
@@ -17,7 +16,7 @@ use translate_start::names::{size_names, write_names};
 use translate_start::start::put_start;
 
 // A refusal with its place, or how long the program is.
-#[derive(Drop)]
+#[derive(Clone, Copy)]
 pub enum Translated {
     Refused(Refusal, usize),
     Program(usize),
@@ -34,7 +33,7 @@ fn translate_checked(
     room: &mut [u8],
 ) -> Translated
     requires { Accepted s.now number n ids.now sections.now }
-    ensures { Translates (Rule.translate (was s) group (length (was room))) result (was room) (left room) }
+    ensures { Translates (Rule.translate s.now group (length room.old)) result room.old room.new }
 {
     let table = tables();
     let mut starts = [0usize; PLAN_SEQUENCES];
@@ -53,7 +52,7 @@ fn translate_checked(
 
 // Translates the envelope s for a group into the room. On a refusal the room is as lent; else the program is at its start.
 pub fn translate(s: &[u8], group: Group, room: &mut [u8]) -> Translated
-    ensures { Translates (Rule.translate (was s) group (length (was room))) result (was room) (left room) }
+    ensures { Translates (Rule.translate s.now group (length room.old)) result room.old room.new }
 {
     let report = check(s);
     let answer = report.answer;

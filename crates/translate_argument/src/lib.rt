@@ -1,6 +1,5 @@
 // The argument of a record, written to lent room. Each function gives the place after what it wrote.
 ghost use Rattle.std.specs.Prelude.{[], ◌∷◌, ◌+◌, ◌-◌, ◌≤◌, ◌<◌, length};
-ghost use Rattle.rules.specs.Lent.{was, left};
 ghost use Rattle.rules.specs.Bytes.{be4};
 ghost use Rattle.rules.specs.Program.{entry, param_bytes};
 ghost use Rattle.run_slots.specs.Params.{optional, meaning, Fit};
@@ -20,7 +19,7 @@ use rules_tables::Table;
 // The URI or the digest under that key: the n bytes of s from `from` on; 0 is unset.
 fn put_string(s: &[u8], key: u8, from: usize, n: usize, room: &mut [u8], to: usize) -> usize
     requires { (0 < from → from + n ≤ length s.now) × (n < 256) × (to + length (string_entry s.now key from n) ≤ length room.old) }
-    ensures { Filled (string_entry (was s) key from n) to (was room) result (left room) }
+    ensures { Filled (string_entry s.now key from n) to room.old result room.new }
 {
     if from == 0 {
         return to;
@@ -34,7 +33,7 @@ fn put_string(s: &[u8], key: u8, from: usize, n: usize, room: &mut [u8], to: usi
 // The source, which is one less than the number; 0 is unset.
 fn put_source(source: usize, room: &mut [u8], to: usize) -> usize
     requires { (source ≤ 256) × (to + length (entry source_key (λ n. n ∷ []) (optional source (source - 1))) ≤ length room.old) }
-    ensures { Filled (entry source_key (λ n. n ∷ []) (optional source (source - 1))) to (was room) result (left room) }
+    ensures { Filled (entry source_key (λ n. n ∷ []) (optional source (source - 1))) to room.old result room.new }
 {
     if source == 0 {
         return to;
@@ -48,7 +47,7 @@ fn put_source(source: usize, room: &mut [u8], to: usize) -> usize
 // The size, which is one less than the number; 0 is unset.
 fn put_size(size: usize, room: &mut [u8], to: usize) -> usize
     requires { to + length (entry size_key be4 (optional size (size - 1))) ≤ length room.old }
-    ensures { Filled (entry size_key be4 (optional size (size - 1))) to (was room) result (left room) }
+    ensures { Filled (entry size_key be4 (optional size (size - 1))) to room.old result room.new }
 {
     if size == 0 {
         return to;
@@ -62,7 +61,7 @@ fn put_size(size: usize, room: &mut [u8], to: usize) -> usize
 // The parameters that are set.
 fn put_parameters(s: &[u8], a: Args, room: &mut [u8], to: usize) -> usize
     requires { Within s.now a.params × Fit s.now 256 a.params × (to + length (param_bytes (meaning s.now a.params)) ≤ length room.old) }
-    ensures { Filled (param_bytes (meaning (was s) a.params)) to (was room) result (left room) }
+    ensures { Filled (param_bytes (meaning s.now a.params)) to room.old result room.new }
 {
     let g = a.params;
     let p = put_string(s, codes::URI as u8, g.uri, g.length, room, to);
@@ -88,7 +87,7 @@ pub fn put_argument(
     to: usize,
 ) -> usize
     requires { ArgumentFits s.now table.now code a room.old to }
-    ensures { Filled (argument_of (was s) code a) to (was room) result (left room) }
+    ensures { Filled (argument_of s.now code a) to room.old result room.new }
 {
     match kind_of(table, code) {
         Argument::Sixteen => {

@@ -37,6 +37,6 @@ pub record PlanJob (s : Bytes) (table starts : List ℕ) (total to : ℕ) (room 
   pub small : length room ≤ most
 
 -- for every such job: the records of the plan were written from `to` on
-abbrev pub PlanWrites : Lent → Lent → Lent → ℕ → ℕ → Lent → Type 0
+abbrev pub PlanWrites : Bytes → Bytes → Bytes → ℕ → ℕ → Lent → Type 0
 PlanWrites s table starts total to room =
-    (j : PlanJob (was s) (was table) (was starts) total to (was room)) → left room ≡ put (was room) to (written (flat_all j.here.plan 0))
+    (j : PlanJob s table starts total to (was room)) → left room ≡ put (was room) to (written (flat_all j.here.plan 0))

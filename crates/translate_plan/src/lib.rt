@@ -1,5 +1,4 @@
 // The plan of a group: its sequences sized, and written one after the other.
-ghost use Rattle.rules.specs.Lent.{was};
 ghost use Rattle.translate_plan.specs.Plan.{PlanHere, PlanSized, PlanJob, PlanWrites};
 
 use manifest_accessors::arguments::COERCE_FALSE;
@@ -13,7 +12,7 @@ use translate_size::sizes::{Size, size_sequence};
 // The size of the plan, from where its sequences start.
 pub fn size_plan(s: &[u8], table: &Table, starts: &PlanStarts, total: usize) -> Size
     requires { PlanHere s.now table.now starts.now total }
-    ensures { (j : PlanHere (was s) (was table) (was starts) total) → PlanSized j.plan result }
+    ensures { (j : PlanHere s.now table.now starts.now total) → PlanSized j.plan result }
 {
     let mut now = Size {
         next: 0,
@@ -43,7 +42,7 @@ pub fn write_plan(
     room: &mut [u8],
 )
     requires { PlanJob s.now table.now starts.now total to room.old }
-    ensures { PlanWrites s table starts total to room }
+    ensures { PlanWrites s.now table.now starts.now total to room }
 {
     let mut n = 0;
     let mut at = to;

@@ -50,7 +50,7 @@ pub record LeafJob (s : Bytes) (table : List ℕ) (code at : ℕ) (state : Write
   pub count : state.n < limits.records
 
 -- for every such job: its record was written from the state on
-abbrev pub LeafWrites : Lent → Lent → ℕ → ℕ → ℕ → WriteState → Lent → WriteState → Type 0
+abbrev pub LeafWrites : Bytes → Bytes → ℕ → ℕ → ℕ → WriteState → Lent → WriteState → Type 0
 LeafWrites s table code at target state room r =
-    (j : LeafJob (was s) (was table) code at state (was room)) →
+    (j : LeafJob s table code at state (was room)) →
     CommandWrote (one state.next j.argument.op j.argument.coerce) j.argument.to j.argument.n target state (was room) r (left room)

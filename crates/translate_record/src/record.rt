@@ -1,6 +1,5 @@
 // A record, written to lent room.
 ghost use Rattle.std.specs.Prelude.{◌≡◌, cond, ◌+◌, ◌≤◌, ◌<◌, length};
-ghost use Rattle.rules.specs.Lent.{was, left};
 ghost use Rattle.rules.specs.Bytes.{put};
 ghost use Rattle.rules.specs.Commands.{commands, row_of, condition_in};
 ghost use Rattle.rules.specs.Limits.{limits};
@@ -18,7 +17,7 @@ use run_slots::params::either;
 use translate_argument::put_argument;
 
 // Where the next command is, the index and coerce of the sequence, the number of the next record, and its place in the room.
-#[derive(Drop)]
+#[derive(Clone, Copy)]
 pub struct WriteState {
     pub next: usize,
     pub index: usize,
@@ -38,7 +37,7 @@ fn put_head(
     size: usize,
 )
     requires { (to + record_size ≤ length room.old) × (code < 256) × (component < 256) }
-    ensures { left room ≡ put (was room) to (head_bytes code component place target size) }
+    ensures { room.new ≡ put room.old to (head_bytes code component place target size) }
 {
     room[to] = program_format::MARK;
     room[to + 1] = program_format::MARK_2;
@@ -63,7 +62,7 @@ fn target_of(table: &Table, code: usize, target: usize) -> usize
 // A jump to the record of that number.
 pub fn put_jump(target: usize, state: WriteState, room: &mut [u8]) -> WriteState
     requires { (state.to + record_size ≤ length room.old) × (state.n < limits.records) }
-    ensures { JumpWrote target state (was room) result (left room) }
+    ensures { JumpWrote target state room.old result room.new }
 {
     put_head(room, state.to, JUMP, 0, 0, target, 0);
     WriteState {
@@ -86,7 +85,7 @@ pub fn put_command(
     room: &mut [u8],
 ) -> WriteState
     requires { LeafJob s.now table.now code at state room.old }
-    ensures { LeafWrites s table code at target state room result }
+    ensures { LeafWrites s.now table.now code at target state room result }
 {
     let a = read_one(s, code, at);
     let index = component(code, a.value, state.index);

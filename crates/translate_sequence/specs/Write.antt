@@ -41,11 +41,11 @@ pub record SequenceWrote (rs : List Rec) (to : ℕ) (state : WriteState) (room :
   pub coerce : r.coerce ≡ state.coerce
 
 -- for every such job: the records of the sequence, and of the command, were written from the state on
-abbrev pub SequenceWrites : Lent → Lent → ℕ → Bool → ℕ → ℕ → WriteState → Lent → WriteState → Type 0
+abbrev pub SequenceWrites : Bytes → Bytes → ℕ → Bool → ℕ → ℕ → WriteState → Lent → WriteState → Type 0
 SequenceWrites s table depth coercible target beyond state room r =
-    (j : SequenceJob (was s) (was table) depth state (was room)) →
+    (j : SequenceJob s table depth state (was room)) →
     SequenceWrote (flat_seq j.place.seq coercible state.index false target beyond state.n) j.place.to state (was room) r (left room)
 
-abbrev pub CommandWrites : Lent → Lent → ℕ → ℕ → WriteState → Lent → WriteState → Type 0
+abbrev pub CommandWrites : Bytes → Bytes → ℕ → ℕ → WriteState → Lent → WriteState → Type 0
 CommandWrites s table depth target state room r =
-    (j : CommandJob (was s) (was table) depth state (was room)) → CommandWrote j.place.cmd j.place.to j.n target state (was room) r (left room)
+    (j : CommandJob s table depth state (was room)) → CommandWrote j.place.cmd j.place.to j.n target state (was room) r (left room)

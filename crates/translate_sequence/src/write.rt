@@ -36,7 +36,7 @@ pub fn write_sequence(
     room: &mut [u8],
 ) -> WriteState
     requires { SequenceJob s.now table.now depth state room.old }
-    ensures { SequenceWrites s table depth coercible target beyond state room result }
+    ensures { SequenceWrites s.now table.now depth coercible target beyond state room result }
 {
     let h = open(s, state.next);
     let mut now = WriteState {
@@ -66,7 +66,7 @@ fn write_command(
     room: &mut [u8],
 ) -> WriteState
     requires { CommandJob s.now table.now depth state room.old }
-    ensures { CommandWrites s table depth target state room result }
+    ensures { CommandWrites s.now table.now depth target state room result }
 {
     let c = open(s, state.next);
     let code = c.value;

@@ -1,6 +1,5 @@
 // How many records a sequence has, and how many bytes their arguments have.
 ghost use Rattle.std.specs.Prelude.{◌≡◌, ◌≤◌};
-ghost use Rattle.rules.specs.Lent.{was};
 ghost use Rattle.translate_size.specs.Size.{parameters_size, argument_size, most, SequenceHere, CommandHere, SequenceSized, CommandSized};
 
 use manifest_accessors::arguments::{Args, read_one};
@@ -20,7 +19,7 @@ const DIGEST_ENTRY: usize = ENTRY_BYTES + Controller::DIGEST_BYTES;
 const SIZE_ENTRY: usize = ENTRY_BYTES + SIZE_BYTES;
 
 // Records, the bytes of their arguments, and the place after what was read.
-#[derive(Drop)]
+#[derive(Clone, Copy)]
 pub struct Size {
     pub next: usize,
     pub records: usize,
@@ -60,7 +59,7 @@ fn argument_size(kind: Argument, a: Args) -> usize
 #[cycle(size_command_size_sequence)]
 pub fn size_sequence(s: &[u8], table: &Table, depth: usize, at: usize) -> Size
     requires { SequenceHere s.now table.now depth at }
-    ensures { (j : SequenceHere (was s) (was table) depth at) → SequenceSized j.place.seq j.place.to result }
+    ensures { (j : SequenceHere s.now table.now depth at) → SequenceSized j.place.seq j.place.to result }
 {
     let h = open(s, at);
     let mut now = Size {
@@ -85,7 +84,7 @@ pub fn size_sequence(s: &[u8], table: &Table, depth: usize, at: usize) -> Size
 #[cycle(size_command_size_sequence)]
 pub fn size_command(s: &[u8], table: &Table, depth: usize, at: usize) -> Size
     requires { CommandHere s.now table.now depth at }
-    ensures { (j : CommandHere (was s) (was table) depth at) → CommandSized j.place.cmd j.place.to result }
+    ensures { (j : CommandHere s.now table.now depth at) → CommandSized j.place.cmd j.place.to result }
 {
     let c = open(s, at);
     let code = c.value;

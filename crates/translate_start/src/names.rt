@@ -1,6 +1,5 @@
 // The identifiers of the components: their records, sized and written.
 ghost use Rattle.std.specs.Prelude.{◌≡◌, ◌+◌, ◌≤◌, ◌<◌, length};
-ghost use Rattle.rules.specs.Lent.{was, left};
 ghost use Rattle.rules.specs.Bytes.{Bytes, part, InBytes};
 ghost use Rattle.rules.specs.Limits.{limits};
 ghost use Rattle.rules.specs.ProgramFormat.{name_size};
@@ -16,7 +15,7 @@ use rules::program_format::NAME_BYTES;
 // How many bytes the records of the n identifiers have.
 pub fn size_names(ids: &Places, n: usize) -> usize
     requires { (n ≤ limits.components) × InBytes ids.now n limits.envelope }
-    ensures { (s : Bytes) → InBytes (was ids) n (length s) → result ≡ length (name_records s (was ids) n) }
+    ensures { (s : Bytes) → InBytes ids.now n (length s) → result ≡ length (name_records s ids.now n) }
 {
     let mut sum = 0;
     let mut k = 0;
@@ -30,7 +29,7 @@ pub fn size_names(ids: &Places, n: usize) -> usize
 // The record of the identifier of n bytes at `from`: the place after it.
 fn put_name(s: &[u8], from: usize, n: usize, room: &mut [u8], to: usize) -> usize
     requires { (from + n ≤ length s.now) × (n < 256) × (to + name_size + n ≤ length room.old) }
-    ensures { Filled (id_bytes (part (was s) from n)) to (was room) result (left room) }
+    ensures { Filled (id_bytes (part s.now from n)) to room.old result room.new }
 {
     room[to] = program_format::MARK;
     room[to + 1] = program_format::MARK_2;
@@ -43,7 +42,7 @@ fn put_name(s: &[u8], from: usize, n: usize, room: &mut [u8], to: usize) -> usiz
 // The records of the n identifiers at the places `ids` of s, written from `at` on: the place after them.
 pub fn write_names(s: &[u8], ids: &Places, n: usize, room: &mut [u8], at: usize) -> usize
     requires { NamesFit s.now ids.now n room.old at }
-    ensures { Filled (name_records (was s) (was ids) n) at (was room) result (left room) }
+    ensures { Filled (name_records s.now ids.now n) at room.old result room.new }
 {
     let mut to = at;
     let mut k = 0;

@@ -1,6 +1,5 @@
 // The start of a program, written to lent room.
 ghost use Rattle.std.specs.Prelude.{◌≡◌, ◌≤◌, ◌<◌, length};
-ghost use Rattle.rules.specs.Lent.{was, left};
 ghost use Rattle.rules.specs.Bytes.{put};
 ghost use Rattle.rules.specs.ProgramFormat.{start_size};
 ghost use Rattle.translate_start.specs.Start.{start_bytes};
@@ -12,7 +11,7 @@ use rules::program_format;
 // Mark, code of a start, group, sequence number in 4, component count, record count in 2.
 pub fn put_start(room: &mut [u8], group: Group, number: usize, components: usize, records: usize)
     requires { (start_size ≤ length room.old) × (components < 256) }
-    ensures { left room ≡ put (was room) 0 (start_bytes group number components records) }
+    ensures { room.new ≡ put room.old 0 (start_bytes group number components records) }
 {
     room[0] = program_format::MARK;
     room[1] = program_format::MARK_2;
