@@ -1,5 +1,5 @@
-// The five jobs and the program test for C: numbers, slices, and structs by value (pitvorgas_answers). The promises give refusals and ends
-// by their numbers in document 01 (rules/specs/Answers.antt: refusalNumber, endNumber).
+// The five jobs and the program test as C has them: numbers, slices, and structs by value (pitvorgas_answers); pitvorgas_c exports each under
+// its name. The promises give refusals and ends by their numbers in document 01 (rules/specs/Answers.antt: refusal_number, end_number).
 ghost use Rattle.std.specs.Prelude.{◌≡◌, length};
 ghost use Rattle.rules.specs.Got.{accepted};
 ghost use Rattle.rules.specs.Check as Check;
@@ -21,15 +21,13 @@ use program_test::test::test_program;
 use run_envelope::run;
 use translate::{Translated, translate};
 
-#[unsafe(no_mangle)]
-pub extern "C" fn pitvorgas_check(envelope: &[u8]) -> CheckAnswer
+pub fn pitvorgas_check(envelope: &[u8]) -> CheckAnswer
     ensures { result ≡ checked_of (Check.check envelope.now) }
 {
     pitvorgas_check_answer::answer_of(check(envelope))
 }
 
-#[unsafe(no_mangle)]
-pub extern "C" fn pitvorgas_newer(first: &[u8], second: &[u8]) -> NewerAnswer
+pub fn pitvorgas_newer(first: &[u8], second: &[u8]) -> NewerAnswer
     ensures { result ≡ newer_of (Newer.newer first.now second.now) }
 {
     let n = choose(first, second);
@@ -40,12 +38,7 @@ pub extern "C" fn pitvorgas_newer(first: &[u8], second: &[u8]) -> NewerAnswer
     }
 }
 
-#[unsafe(no_mangle)]
-pub extern "C" fn pitvorgas_translate(
-    envelope: &[u8],
-    boot: bool,
-    room: &mut [u8],
-) -> TranslateAnswer
+pub fn pitvorgas_translate(envelope: &[u8], boot: bool, room: &mut [u8]) -> TranslateAnswer
     ensures { Translation (Program.translate envelope.now (group_of boot) (length room.old)) room result }
 {
     let answer = translate(envelope, group_of(boot), room);
@@ -63,16 +56,14 @@ pub extern "C" fn pitvorgas_translate(
     }
 }
 
-#[unsafe(no_mangle)]
-pub extern "C" fn pitvorgas_test_program(program: &[u8]) -> bool
+pub fn pitvorgas_test_program(program: &[u8]) -> bool
     ensures { result ≡ accepted (program_in program.now) }
 {
     let t = test_program(program);
     t.good
 }
 
-#[unsafe(no_mangle)]
-pub extern "C" fn pitvorgas_run(
+pub fn pitvorgas_run(
     envelope: &[u8],
     boot: bool,
     verdict: bool,
@@ -95,8 +86,7 @@ pub extern "C" fn pitvorgas_run(
     pitvorgas_run_answer::answer_of(o)
 }
 
-#[unsafe(no_mangle)]
-pub extern "C" fn pitvorgas_run_program(
+pub fn pitvorgas_run_program(
     program: &[u8],
     verdict: bool,
     device: Device,
