@@ -1,6 +1,6 @@
 /* Pitvorgas: check, compare, run and translate SUIT manifests for gate controllers.
  *
- * Link target/staticlib/libpitvorgas.a, which `rt staticlib pitvorgas` writes. Nothing is allocated, nothing is kept between calls, and
+ * Link target/staticlib/libpitvorgas.a, which tools/staticlib writes. Nothing is allocated, nothing is kept between calls, and
  * no call keeps a pointer. A slice is a pointer and a length.
  *
  * Every function is proved: whatever its slices hold and however long they are, and whatever its numbers and bools are, it ends, reads and
@@ -290,19 +290,19 @@ PITVORGAS_FUNCTION
 struct pitvorgas_translate_answer pitvorgas_translate(const uint8_t *envelope, size_t envelope_length, bool boot,
                                                       uint8_t *room, size_t room_length);
 
-/* True exactly where the bytes are a well-formed program by the rule ProgramTest.programIn: a run of them is never refused with 97, and of
+/* True exactly where the bytes are a well-formed program by the rule ProgramTest.program_in: a run of them is never refused with 97, and of
  * any other bytes always. Nothing is run, and nothing is changed. */
 PITVORGAS_FUNCTION
 bool pitvorgas_test_program(const uint8_t *program, size_t program_length);
 
-/* The answer, every byte of slots and every byte of trace are those of the rule Run.runEnvelope for the envelope, the group and the input:
+/* The answer, every byte of slots and every byte of trace are those of the rule Run.run_envelope for the envelope, the group and the input:
  * check's refusal, then 80, 81, 82, 85, 83, 86, 84 at place 0, with slots and trace as lent and the number the device's; or the run. */
 PITVORGAS_FUNCTION
 struct pitvorgas_run_answer pitvorgas_run(const uint8_t *envelope, size_t envelope_length, bool boot, bool verdict,
                                           struct pitvorgas_device device, uint8_t *slots, size_t slots_length,
                                           const uint8_t *answers, size_t answers_length, uint8_t *trace, size_t trace_length);
 
-/* The same by the rule ProgramRun.runProgram: 97 at place 0 where the program is not well formed, then 80, 81, 82, 85, 83, 86, 84; or the
+/* The same by the rule ProgramRun.run_program: 97 at place 0 where the program is not well formed, then 80, 81, 82, 85, 83, 86, 84; or the
  * run. For the program of an envelope, and equal input, it is what pitvorgas_run gives (demand 3: agreement::agree). */
 PITVORGAS_FUNCTION
 struct pitvorgas_run_answer pitvorgas_run_program(const uint8_t *program, size_t program_length, bool verdict,

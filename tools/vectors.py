@@ -21,17 +21,14 @@ one refl, as in proofs/BenchSheet.antt. A table that is not proved is tried agai
 import argparse, collections, gzip, pathlib, re, shutil, subprocess, sys, time
 
 REPOSITORY = pathlib.Path(__file__).resolve().parent.parent
-SPECS, PROOFS = 'Rattle·rules·specs.specs', 'Rattle·rules·proofs.proofs'
-TRUTH, GROUP, NEWER = {'0': 'false', '1': 'true'}, {'0': 'Boot', '1': 'Install'}, {'0': 'inFirst', '1': 'inSecond'}
+SPECS, PROOFS = 'Rattle.rules.specs', 'Rattle.rules.proofs'
+TRUTH, GROUP, NEWER = {'0': 'false', '1': 'true'}, {'0': 'Boot', '1': 'Install'}, {'0': 'in_first', '1': 'in_second'}
 
 # The prover stops a declaration at 50 million steps. What a row takes grows as the square of its envelope's length.
 ROW_COST, TABLE_COST, BATCH_COST = 100_000, 2 * 4096 ** 2, 8 * 4096 ** 2
 
 HELPERS = f"""-- What the generated tables share.
-use Prim.Native.Nat.{{ℕ}}
-use mathlib.Core.List.{{List, [], _∷_, map}}
-use mathlib.Core.Bool.{{Bool, true, false, cond}}
-use lib.Dec.{{eqb}}
+use Rattle.std.specs.Prelude.{{ℕ, List, [], ◌∷◌, map, Bool, true, false, cond, eqb}}
 use {SPECS}.Bytes.{{Bytes}}
 use {SPECS}.Run.{{Input}}
 use {PROOFS}.Cases as Cases
@@ -55,7 +52,7 @@ told (program b) = program b
 told (ended e p n u s slots trace) = ended e p n u s slots trace
 
 abbrev pub given : List Case → List Answer
-given cs = map (λ c. told (Cases.answer (c .job))) cs
+given cs = map (λ c. told (Cases.answer c.job)) cs
 """
 
 
@@ -163,7 +160,7 @@ class Copy:
         self.folder = work / 'vectors'
         self.proofs = self.folder / 'crates/rules/proofs'
         shutil.rmtree(self.folder / 'crates', ignore_errors=True)
-        shutil.copytree(REPOSITORY / 'crates/rules', self.folder / 'crates/rules')
+        shutil.copytree(REPOSITORY / 'crates/rules', self.folder / 'crates/rules', ignore=shutil.ignore_patterns('out'))
         (self.folder / 'crates.txt').write_text('rules:\n')
         (self.proofs / 'Vectors.antt').write_text(HELPERS)
         with open(self.proofs / 'Lib.antt', 'a') as root:
@@ -173,8 +170,7 @@ class Copy:
         self.unfolding = re.search(r'^unfolding .*(\n .*)*', sheet, re.MULTILINE)[0]
         sheet = sheet.splitlines()
         self.head = '\n'.join([
-            'use mathlib.Core.Path.{_≡_, refl}', 'use mathlib.Core.List.{List, [], _∷_, _++_}',
-            'use mathlib.Core.Bool.{true, false}', 'use lib.ListN.{replicate}',
+            'use mathlib.Core.Path.{refl}', 'use Rattle.std.specs.Prelude.{◌≡◌, List, [], ◌∷◌, ◌++◌, true, false, replicate}',
             *(line for line in sheet if line.startswith(f'use {SPECS}.')), f'use {SPECS}.Newer as Newer',
             f'use {PROOFS}.Cases.{{checks, newest, runs, translates, executes}}',
             f'use {PROOFS}.Cases.{{refusal, accepted, part, program, ended, Case, case, wanted}}',
@@ -188,7 +184,7 @@ class Copy:
             text += (f'\nabbrev cases{n} : List Case\ncases{n} =\n    {table}\n\n'
                      f'pub agree{n} : Vectors.given cases{n} ≡ wanted cases{n}\n{self.unfolding}\nagree{n} = refl\n')
         (self.proofs / 'VectorsTables.antt').write_text(text)
-        run = subprocess.run(['rt', 'dev', 'rules'], cwd=self.folder, text=True, stdout=subprocess.PIPE, stderr=subprocess.STDOUT)
+        run = subprocess.run(['rt', 'check'], cwd=self.folder / 'crates/rules', text=True, stdout=subprocess.PIPE, stderr=subprocess.STDOUT)
         errors = [line for line in run.stdout.splitlines() if ': error' in line]
         found = [re.search(r'/VectorsTables\.antt:\d+:\d+: error: `agree(\d+)`: (.*)', line) for line in errors]
         proved = run.returncode == 0 and 'logic=proved' in run.stdout
