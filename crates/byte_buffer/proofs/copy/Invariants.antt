@@ -1,0 +1,17 @@
+use Prim.Native.Nat.{◌-◌, ◌≤◌}
+use mathlib.Core.Path.{◌≡◌, refl, sym, ◌∙◌}
+use native.Mathlib.Omega.{arith}
+use borrow.Author.Rules.{rules}
+use lib.ListN.{length, length-set}
+use lib.Seq.{sets}
+use Rattle.rules.specs.Bytes.{part}
+use Rattle.byte_buffer.proofs.ByteLoops.{put_from, put-start, part-next, put-end}
+use Rattle.rules.proofs.BytesLaws.{length_part}
+use Rattle.byte_buffer.proofs.copy.Given as goal
+
+abbrev pub invariant-loop-i : goal.invariant-loop-i
+invariant-loop-i l =
+    (l.i ≤ l.n) × (length l.room ≡ length l.initial.room) × (sets l.initial.room l.to (part l.s l.from l.n) ≡ put_from l.to (part l.s l.from l.n) l.i l.room)
+
+abbrev pub decreases-loop-i : goal.decreases-loop-i
+decreases-loop-i l = l.n - l.i

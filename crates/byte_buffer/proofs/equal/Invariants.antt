@@ -1,0 +1,15 @@
+use Prim.Native.Nat.{◌-◌, ◌≤◌}
+use mathlib.Core.Path.{◌≡◌, sym, ◌∙◌}
+use mathlib.Core.Bool.{◌&&◌}
+use mathlib.Core.Logic.{⊎_elim}
+use native.Mathlib.Omega.{arith}
+use Rattle.rules.specs.Bytes as Bytes
+use Rattle.rules.proofs.SameLaws.{same_from, same_start}
+use Rattle.byte_buffer.proofs.ByteLoops.{flag_end, flag_stop, flag_next}
+use Rattle.byte_buffer.proofs.equal.Given as goal
+
+abbrev pub invariant-loop-k : goal.invariant-loop-k
+invariant-loop-k l = (l.k ≤ l.n) × (Bytes.same (Bytes.part l.a l.i l.n) (Bytes.part l.b l.j l.n) ≡ (l.same && same_from l.a l.i l.b l.j l.n l.k))
+
+abbrev pub decreases-loop-k : goal.decreases-loop-k
+decreases-loop-k l = l.n - l.k

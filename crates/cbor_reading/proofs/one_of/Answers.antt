@@ -1,0 +1,13 @@
+use mathlib.Core.Path.{◌∙◌}
+use borrow.Author.Rules.{rules}
+use Rattle.cbor_reading.proofs.ReadingLaws.{answered}
+use Rattle.cbor_reading.proofs.one_of.Goals as goal
+
+pub returns-in-Item : goal.returns-in-Item
+returns-in-Item c = answered _ _ _ c.read_one_of.ensures c.in-Item.is
+
+pub returns-in-NotCbor : goal.returns-in-NotCbor
+returns-in-NotCbor c = c.refuse.ensures ∙ answered _ _ _ c.read_one_of.ensures c.in-NotCbor.is
+
+pub returns-in-Malformed : goal.returns-in-Malformed
+returns-in-Malformed c = c.refuse-in-Malformed.ensures ∙ answered _ _ _ c.read_one_of.ensures c.in-Malformed.is

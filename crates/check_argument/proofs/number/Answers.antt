@@ -1,0 +1,8 @@
+use mathlib.Core.Path.{◌∙◌}
+use borrow.Author.Rules.{rules}
+use Rattle.rules.specs.Cbor.{item}
+use Rattle.check_argument.proofs.ArgumentLaws.{number-reading}
+use Rattle.check_argument.proofs.number.Goals as goal
+
+pub returns : goal.returns
+returns c = c.item.ensures ∙ number-reading _ _ _

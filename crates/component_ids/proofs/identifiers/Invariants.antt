@@ -1,0 +1,15 @@
+use Prim.Native.Nat.{◌-◌, ◌≤◌}
+use mathlib.Core.Path.{◌≡◌}
+use native.Mathlib.Omega.{arith}
+use borrow.Author.Rules.{rules}
+use lib.ListN.{length}
+use lib.Seq.{lt-length-set}
+use Rattle.rules.specs.Limits.{places}
+use Rattle.component_ids.proofs.IdentifierLaws.{Sofar, listing_start, listing_stop, listing-next, listing-end}
+use Rattle.component_ids.proofs.identifiers.Given as goal
+
+abbrev pub invariant-loop-k : goal.invariant-loop-k
+invariant-loop-k l = (l.k ≤ l.count) × (length l.initial.places ≡ places) × (length l.places ≡ places) × Sofar l.s l.count l.end l.at l.k l.p l.initial.places l.places
+
+abbrev pub decreases-loop-k : goal.decreases-loop-k
+decreases-loop-k l = l.count - l.k

@@ -1,0 +1,21 @@
+use Prim.Native.Nat.{ℕ}
+use lib.ListN.{length, length-replicate}
+use Rattle.conformance_cases.specs.Cases.{translate_line}
+use borrow.Author.Rules.{rules}
+use Rattle.conformance_cases.proofs.jobs.translate_into.Goals as goal
+
+pub fill-requires : goal.fill-requires
+fill-requires c = tt
+
+pub pitvorgas_translate-answer-requires : goal.pitvorgas_translate-answer-requires
+pitvorgas_translate-answer-requires c = tt
+
+pub put_translation-requires : goal.put_translation-requires
+put_translation-requires c = tt
+
+pub returns : goal.returns
+unfolding translate_line
+returns c =
+    let n = length c.args.lent.now in
+    let t = rw (c.fill.ensures, length-replicate {A = ℕ} n 160) at c.pitvorgas_translate-answer.ensures in
+    rw (t.0, t.1) at c.put_translation.ensures

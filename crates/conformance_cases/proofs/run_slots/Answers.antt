@@ -1,0 +1,29 @@
+use borrow.Author.Tests.{eq-eqb, ne_eqb}
+use Rattle.conformance_cases.specs.Cases.{run_slots}
+use Rattle.rules.proofs.BytesLaws.{part-rest}
+use borrow.Author.Rules.{rules}
+use Rattle.conformance_cases.proofs.run_slots.Goals as goal
+
+pub string_end-end-requires : goal.string_end-end-requires
+string_end-end-requires c = tt
+
+pub put_malformed-requires : goal.put_malformed-requires
+put_malformed-requires c = tt
+
+pub returns-then-end-eq0 : goal.returns-then-end-eq0
+unfolding run_slots
+returns-then-end-eq0 c =
+    rw (← c.string_end-end.ensures.end, eq-eqb _ _ c.if-end-eq0.true) c.put_malformed.ensures
+
+pub slice_bounds-run_answers-count : goal.slice_bounds-run_answers-count
+slice_bounds-run_answers-count c =
+    c.string_end-end.ensures.whole c.if-end-eq0.false
+
+pub slice_bounds-run_answers-start : goal.slice_bounds-run_answers-start
+slice_bounds-run_answers-start c =
+    c.string_end-end.ensures.whole c.if-end-eq0.false
+
+pub returns : goal.returns
+unfolding run_slots
+returns c =
+    rw (← c.string_end-end.ensures.end, ne_eqb _ _ c.if-end-eq0.false) (rw (part-rest c.args.b.now c.string_end-end.result) at c.run_answers.ensures)

@@ -1,0 +1,26 @@
+use borrow.Author.Rules.{rules}
+use Prim.Native.Nat.{◌-◌, ◌≤◌}
+use native.Mathlib.Omega.{arith}
+use Rattle.text.specs.Text.{Wrote}
+use Rattle.text_pieces.specs.Pieces.{lines}
+use Rattle.text.proofs.TextLaws.{wrote-length}
+use Rattle.text_pieces.proofs.PieceLaws.{lines_none, lines_next, lines-all}
+use Rattle.conformance_check_lines.specs.CheckLines.{place_text, places_text}
+use Rattle.conformance_check_lines.proofs.put_places.Goals as goal
+
+pub loop-k-init : goal.loop-k-init
+loop-k-init c = (search rules, lines_none _ _ _)
+
+pub put_place-to-requires : goal.put_place-to-requires
+put_place-to-requires c = omega (arith, c.least-end.ensures)
+
+pub loop-k-preserved : goal.loop-k-preserved
+loop-k-preserved c =
+    (search rules, lines_next _ _ c.loop-k.invariant.1 c.put_place-to.ensures)
+
+pub shape_of-room : goal.shape_of-room
+shape_of-room c = wrote-length c.loop-k.invariant.1
+
+pub returns : goal.returns
+unfolding places_text
+returns c = rw (← c.least-end.ensures) (lines-all _ _ _ (search rules) (search rules) c.loop-k.invariant.1)

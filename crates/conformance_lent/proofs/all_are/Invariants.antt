@@ -1,0 +1,14 @@
+use Prim.Native.Nat.{◌-◌}
+use mathlib.Core.Path.{◌≡◌, refl, sym, ◌∙◌}
+use native.Mathlib.Omega.{arith}
+use lib.ListN.{length, drop}
+use Rattle.conformance_lent.specs.Lent.{all_are}
+use Rattle.conformance_lent.proofs.LentLaws.{are_next, are_stop, are_end}
+use borrow.Author.Rules.{rules}
+use Rattle.conformance_lent.proofs.all_are.Given as goal
+
+abbrev pub invariant-loop-i : goal.invariant-loop-i
+invariant-loop-i l = all_are l.x (drop l.at l.b) ≡ all_are l.x (drop l.i l.b)
+
+abbrev pub decreases-loop-i : goal.decreases-loop-i
+decreases-loop-i l = length l.b - l.i

@@ -1,0 +1,11 @@
+use borrow.Author.Rules.{rules}
+use Rattle.depot_identifiers.specs.Identifier.{parts_text}
+use Rattle.depot_identifiers.proofs.IdentifierLaws.{Rest, rest-start, rest-length, rest_more, rest-done, parts_none, parts_next}
+use Rattle.depot_items.proofs.ItemLaws.{lies_of}
+use Rattle.depot_identifiers.proofs.put_parts.Given as goal
+
+abbrev pub invariant-loop-left : goal.invariant-loop-left
+invariant-loop-left l = Rest (parts_text l.s l.n l.from) l.at l.initial.room (parts_text l.s l.left l.next) l.to l.room
+
+abbrev pub decreases-loop-left : goal.decreases-loop-left
+decreases-loop-left l = l.left

@@ -1,0 +1,24 @@
+use borrow.Author.Tests.{lt-ltb, le-ltb, eq-eqb, ne_eqb}
+use Rattle.depot_items.specs.Line.{string_text}
+use borrow.Author.Rules.{rules}
+use Rattle.depot_items.proofs.line.put_string.Goals as goal
+
+pub returns-then-s-end : goal.returns-then-s-end
+unfolding string_text
+returns-then-s-end c =
+    rw (lt-ltb _ _ c.if-s-end.true) c.put.ensures
+
+pub returns-then-end-from : goal.returns-then-end-from
+unfolding string_text
+returns-then-end-from c =
+    rw (le-ltb _ _ c.if-s-end.false, lt-ltb _ _ c.if-end-from.true) c.put-then-end-from.ensures
+
+pub returns-then-kind-eq-TEXT : goal.returns-then-kind-eq-TEXT
+unfolding string_text
+returns-then-kind-eq-TEXT c =
+    rw (le-ltb _ _ c.if-s-end.false, le-ltb _ _ c.if-end-from.false, eq-eqb _ _ c.if-kind-eq-TEXT.true) c.put_quoted.ensures
+
+pub returns : goal.returns
+unfolding string_text
+returns c =
+    rw (le-ltb _ _ c.if-s-end.false, le-ltb _ _ c.if-end-from.false, ne_eqb _ _ c.if-kind-eq-TEXT.false) c.put_hex.ensures

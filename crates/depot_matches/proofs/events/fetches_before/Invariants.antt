@@ -1,0 +1,13 @@
+use Prim.Native.Nat.{◌-◌, ◌≤◌}
+use mathlib.Core.Path.{◌≡◌}
+use native.Mathlib.Omega.{arith}
+use Rattle.depot_matches.specs.Events.{fetches_before}
+use Rattle.depot_matches.proofs.TurnLaws.{fetches-start, fetches-next}
+use borrow.Author.Rules.{rules}
+use Rattle.depot_matches.proofs.events.fetches_before.Given as goal
+
+abbrev pub invariant-loop-i : goal.invariant-loop-i
+invariant-loop-i l = (l.i ≤ l.n) × (l.count ≡ fetches_before l.trace l.i) × (l.count ≤ l.i)
+
+abbrev pub decreases-loop-i : goal.decreases-loop-i
+decreases-loop-i l = l.n - l.i

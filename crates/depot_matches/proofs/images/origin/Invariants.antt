@@ -1,0 +1,13 @@
+use Prim.Native.Nat.{◌≤◌}
+use mathlib.Core.Path.{◌≡◌, refl, sym, ◌∙◌}
+use native.Mathlib.Omega.{arith}
+use Rattle.depot_matches.specs.Images.{origin}
+use Rattle.depot_matches.proofs.TurnLaws.{origin_fetched, origin-moved, origin-start}
+use borrow.Author.Rules.{rules}
+use Rattle.depot_matches.proofs.images.origin.Given as goal
+
+abbrev pub invariant-loop-i : goal.invariant-loop-i
+invariant-loop-i l = (l.i ≤ l.n) × (origin l.p l.trace l.from l.i ≡ origin l.p l.trace l.c l.n)
+
+abbrev pub decreases-loop-i : goal.decreases-loop-i
+decreases-loop-i l = l.i

@@ -1,0 +1,19 @@
+use native.Mathlib.Omega.{arith}
+use borrow.Author.Tests.{eq-eqb, ne_eqb}
+use borrow.Author.Rules.{rules}
+use Rattle.text.proofs.TextLaws.{wrote_then}
+use Rattle.depot_outcome.specs.Outcome.{run_text}
+use Rattle.depot_outcome.proofs.put_run.Goals as goal
+
+pub put_slots-requires : goal.put_slots-requires
+put_slots-requires c = omega (arith, c.least-n.ensures)
+
+pub returns-then-answer-eq0 : goal.returns-then-answer-eq0
+unfolding run_text
+returns-then-answer-eq0 c =
+    rw (eq-eqb _ 0 c.if-answer-eq0.true, ← c.least-n.ensures) (wrote_then (wrote_then c.put_events-a.ensures c.put_ran-b.ensures) c.put_slots.ensures)
+
+pub returns : goal.returns
+unfolding run_text
+returns c =
+    rw (ne_eqb _ 0 c.if-answer-eq0.false) c.put_stopped.ensures

@@ -1,0 +1,13 @@
+use mathlib.Core.Path.{◌≡◌, sym, ◌∙◌}
+use Prim.Native.Nat.{◌-◌}
+use borrow.Author.Rules.{rules}
+use Rattle.depot_reasons.specs.First.{first}
+use Rattle.depot_reasons.specs.Reasons.{has_no_slot}
+use Rattle.depot_reasons.proofs.ReasonLaws.{first-start, first_hit, first_next, first-end}
+use Rattle.depot_reasons.proofs.first_without.Given as goal
+
+abbrev pub invariant-loop-k : goal.invariant-loop-k
+invariant-loop-k l = first (has_no_slot l.s l.ids l.slots) l.n 0 ≡ first (has_no_slot l.s l.ids l.slots) (l.n - l.k) l.k
+
+abbrev pub decreases-loop-k : goal.decreases-loop-k
+decreases-loop-k l = l.n - l.k

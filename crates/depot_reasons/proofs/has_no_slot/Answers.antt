@@ -1,0 +1,9 @@
+use borrow.Author.Rules.{rules}
+use Rattle.text_pieces.specs.Pieces.{between}
+use Rattle.depot_slot_names.proofs.NameLaws.{first_slot}
+use Rattle.depot_reasons.specs.Reasons.{has_no_slot}
+use Rattle.depot_reasons.proofs.has_no_slot.Goals as goal
+
+pub returns : goal.returns
+unfolding has_no_slot between
+returns c = rw (← first_slot _ _, ← c.within-p.ensures.2, ← c.slot_with-found.ensures)

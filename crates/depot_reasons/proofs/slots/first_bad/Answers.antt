@@ -1,0 +1,26 @@
+use mathlib.Core.Path.{◌≡◌, sym, ◌∙◌, ap}
+use mathlib.Core.Bool.{Bool, not}
+use Prim.Native.Nat.{◌-◌}
+use native.Mathlib.Omega.{arith}
+use borrow.Author.Rules.{rules}
+use Rattle.depot_reasons.specs.First.{first}
+use Rattle.depot_reasons.specs.BadSlots.{is_bad}
+use Rattle.depot_reasons.proofs.ReasonLaws.{first-start, first_hit, first_next, first-end}
+use Rattle.depot_reasons.proofs.slots.first_bad.Goals as goal
+
+pub loop-k-init : goal.loop-k-init
+loop-k-init c = first-start _ _
+
+pub good_slot-requires : goal.good_slot-requires
+good_slot-requires c = omega (arith, c.loop-k-test.true, c.requires)
+
+pub returns-then-not-good_slot : goal.returns-then-not-good_slot
+returns-then-not-good_slot c =
+    first_hit _ _ _ c.loop-k.invariant c.loop-k-test.true (ap (λ (t : Bool). not t) (sym c.good_slot.ensures) ∙ c.if-not-good_slot.true)
+
+pub loop-k-preserved : goal.loop-k-preserved
+loop-k-preserved c =
+    first_next _ _ _ c.loop-k.invariant c.loop-k-test.true (ap (λ (t : Bool). not t) (sym c.good_slot.ensures) ∙ c.if-not-good_slot.false)
+
+pub returns : goal.returns
+returns c = first-end _ _ _ c.loop-k.invariant c.loop-k-test.false

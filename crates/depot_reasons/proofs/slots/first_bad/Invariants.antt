@@ -1,0 +1,15 @@
+use mathlib.Core.Path.{◌≡◌, sym, ◌∙◌, ap}
+use mathlib.Core.Bool.{Bool, not}
+use Prim.Native.Nat.{◌-◌}
+use native.Mathlib.Omega.{arith}
+use borrow.Author.Rules.{rules}
+use Rattle.depot_reasons.specs.First.{first}
+use Rattle.depot_reasons.specs.BadSlots.{is_bad}
+use Rattle.depot_reasons.proofs.ReasonLaws.{first-start, first_hit, first_next, first-end}
+use Rattle.depot_reasons.proofs.slots.first_bad.Given as goal
+
+abbrev pub invariant-loop-k : goal.invariant-loop-k
+invariant-loop-k l = first (is_bad l.slots) l.n 0 ≡ first (is_bad l.slots) (l.n - l.k) l.k
+
+abbrev pub decreases-loop-k : goal.decreases-loop-k
+decreases-loop-k l = l.n - l.k

@@ -1,0 +1,26 @@
+use mathlib.Core.Path.{◌≡◌}
+use Prim.Native.Nat.{◌-◌}
+use native.Mathlib.Omega.{arith}
+use borrow.Author.Tests.{lt-ltb, le-ltb}
+use borrow.Author.Rules.{rules}
+use Rattle.depot_reasons.specs.First.{first}
+use Rattle.depot_reasons.specs.BadSlots.{is_twice}
+use Rattle.depot_reasons.proofs.ReasonLaws.{first-start, first_hit, first_next, first-end}
+use Rattle.depot_reasons.proofs.slots.first_twice.Goals as goal
+
+pub loop-i-init : goal.loop-i-init
+loop-i-init c = first-start _ _
+
+pub twin-requires : goal.twin-requires
+twin-requires c = omega (arith, c.loop-i-test.true, c.requires)
+
+pub returns-then-twin-n : goal.returns-then-twin-n
+returns-then-twin-n c =
+    first_hit _ _ _ c.loop-i.invariant c.loop-i-test.true (rw (← c.twin.ensures) (lt-ltb _ _ c.if-twin-n.true))
+
+pub loop-i-preserved : goal.loop-i-preserved
+loop-i-preserved c =
+    first_next _ _ _ c.loop-i.invariant c.loop-i-test.true (rw (← c.twin.ensures) (le-ltb _ _ c.if-twin-n.false))
+
+pub returns : goal.returns
+returns c = first-end _ _ _ c.loop-i.invariant c.loop-i-test.false

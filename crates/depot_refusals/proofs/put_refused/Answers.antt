@@ -1,0 +1,22 @@
+use borrow.Author.Rules.{rules}
+use Rattle.rules.specs.declared.answers.Refusal.TheVariants.{NotCbor, NotVerified}
+use Rattle.rules.specs.Answers.{refusal_number}
+use Rattle.text.proofs.TextLaws.{wrote_then}
+use Rattle.depot_refusals.specs.Refusals.{refused_text}
+use borrow.Author.Tests.{lt-ltb, le-ltb}
+use Rattle.depot_refusals.proofs.put_refused.Goals as goal
+
+pub returns-then-number-lt-NOT_CBOR : goal.returns-then-number-lt-NOT_CBOR
+unfolding refused_text
+returns-then-number-lt-NOT_CBOR c = rw (lt-ltb _ (refusal_number NotCbor) c.if-number-lt-NOT_CBOR.true) c.put_refused_line-to.ensures
+
+pub returns-then-number-lt-NOT_VERIFIED : goal.returns-then-number-lt-NOT_VERIFIED
+unfolding refused_text
+returns-then-number-lt-NOT_VERIFIED c =
+    rw (le-ltb _ (refusal_number NotCbor) c.if-number-lt-NOT_CBOR.false, lt-ltb _ (refusal_number NotVerified) c.if-number-lt-NOT_VERIFIED.true)
+    (wrote_then (wrote_then c.put_refused_line-to.ensures c.put_path_line-a.ensures) c.put_around.ensures)
+
+pub returns : goal.returns
+unfolding refused_text
+returns c =
+    rw (le-ltb _ (refusal_number NotCbor) c.if-number-lt-NOT_CBOR.false, le-ltb _ (refusal_number NotVerified) c.if-number-lt-NOT_VERIFIED.false) c.put_refused_line-to.ensures

@@ -1,0 +1,23 @@
+use borrow.Author.Rules.{rules}
+use Prim.Native.Nat.{◌-◌, ◌≤◌}
+use Rattle.rules.specs.Limits.{section_count}
+use Rattle.text.specs.Text.{Wrote}
+use Rattle.text.proofs.TextLaws.{wrote-length}
+use Rattle.text_pieces.specs.Pieces.{lines}
+use Rattle.text_pieces.proofs.PieceLaws.{lines_none, lines_next, lines-all}
+use Rattle.depot_report.specs.Report.{section_text, sections_text}
+use Rattle.depot_report.proofs.put_sections.Goals as goal
+
+pub loop-j-init : goal.loop-j-init
+loop-j-init c = (search rules, lines_none _ _ _)
+
+pub loop-j-preserved : goal.loop-j-preserved
+loop-j-preserved c =
+    (search rules, lines_next _ _ c.loop-j.invariant.1 c.put_one_section-to.ensures)
+
+pub shape_of-room : goal.shape_of-room
+shape_of-room c = wrote-length c.loop-j.invariant.1
+
+pub returns : goal.returns
+unfolding sections_text
+returns c = lines-all _ _ section_count (search rules) (search rules) c.loop-j.invariant.1

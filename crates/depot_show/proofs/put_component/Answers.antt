@@ -1,0 +1,10 @@
+use Rattle.text.proofs.TextLaws.{wrote_then}
+use Rattle.depot_show.specs.Manifest.{component_text}
+use borrow.Author.Rules.{rules}
+use Rattle.depot_show.proofs.put_component.Goals as goal
+
+pub returns : goal.returns
+unfolding component_text
+returns c =
+    wrote_then (wrote_then (wrote_then (wrote_then c.put_labelled-a.ensures c.put-b.ensures) c.put_identifier_at-c.ensures)
+    c.put_labelled-d.ensures) c.put_byte.ensures

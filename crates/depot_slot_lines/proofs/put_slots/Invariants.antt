@@ -1,0 +1,15 @@
+use Prim.Native.Nat.{◌-◌, ◌≤◌}
+use native.Mathlib.Omega.{arith}
+use borrow.Author.Rules.{rules}
+use Rattle.text.specs.Text.{Wrote}
+use Rattle.text.proofs.TextLaws.{wrote-length}
+use Rattle.text_pieces.specs.Pieces.{lines}
+use Rattle.text_pieces.proofs.PieceLaws.{lines_none, lines_next, lines-all}
+use Rattle.depot_slot_lines.specs.SlotLines.{owned_text, slots_text}
+use Rattle.depot_slot_lines.proofs.put_slots.Given as goal
+
+abbrev pub invariant-loop-k : goal.invariant-loop-k
+invariant-loop-k l = (l.k ≤ l.end) × Wrote (lines (owned_text l.slots l.s l.ids l.n) l.k) l.at l.initial.room l.to l.room
+
+abbrev pub decreases-loop-k : goal.decreases-loop-k
+decreases-loop-k l = l.end - l.k

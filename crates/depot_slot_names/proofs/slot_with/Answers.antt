@@ -1,0 +1,27 @@
+use mathlib.Core.Path.{◌≡◌, refl, sym, ◌∙◌}
+use Prim.Native.Nat.{◌+◌, ◌-◌}
+use native.Mathlib.Omega.{arith}
+use borrow.Author.Rules.{rules}
+use Rattle.depot_slot_names.specs.Names.{slot_with}
+use Rattle.rules.specs.Bytes.{index_of}
+use Rattle.run_slot_search.specs.Search.{names_from}
+use Rattle.run_slot_search.proofs.SearchLaws.{find_hit, find-next, find-end}
+use Rattle.depot_slot_names.proofs.slot_with.Goals as goal
+
+pub loop-k-init : goal.loop-k-init
+unfolding slot_with
+loop-k-init c = refl
+
+pub has_name-requires : goal.has_name-requires
+has_name-requires c = omega (arith, c.loop-k-test.true)
+
+pub returns-then-has_name : goal.returns-then-has_name
+returns-then-has_name c =
+    sym (find_hit _ _ _ _ _ c.loop-k.invariant c.loop-k-test.true (sym c.has_name.ensures ∙ c.if-has_name.true))
+
+pub loop-k-preserved : goal.loop-k-preserved
+loop-k-preserved c =
+    find-next _ _ _ _ _ c.loop-k.invariant c.loop-k-test.true (sym c.has_name.ensures ∙ c.if-has_name.false)
+
+pub returns : goal.returns
+returns c = sym (find-end _ _ _ _ _ c.loop-k.invariant c.loop-k-test.false)

@@ -1,0 +1,100 @@
+use mathlib.Core.Path.{sym, ◌∙◌}
+use borrow.Author.Rules.{rules}
+use Rattle.depot_usage.specs.Usage.{job_of}
+use Rattle.depot_usage.proofs.job_of.Goals as goal
+
+pub returns-then-is : goal.returns-then-is
+unfolding job_of
+returns-then-is c =
+    rw (sym c.is.ensures ∙ c.if-is.true)
+
+pub returns-then-is-2 : goal.returns-then-is-2
+unfolding job_of
+returns-then-is-2 c =
+    rw (
+      sym c.is.ensures ∙ c.if-is.false,
+      sym c.is-2.ensures ∙ c.if-is-2.true,
+    )
+
+pub returns-then-is-3 : goal.returns-then-is-3
+unfolding job_of
+returns-then-is-3 c =
+    rw (
+      sym c.is.ensures ∙ c.if-is.false,
+      sym c.is-2.ensures ∙ c.if-is-2.false,
+      sym c.is-3.ensures ∙ c.if-is-3.true,
+    )
+
+pub returns-then-is-4 : goal.returns-then-is-4
+unfolding job_of
+returns-then-is-4 c =
+    rw (
+      sym c.is.ensures ∙ c.if-is.false,
+      sym c.is-2.ensures ∙ c.if-is-2.false,
+      sym c.is-3.ensures ∙ c.if-is-3.false,
+      sym c.is-4.ensures ∙ c.if-is-4.true,
+    )
+
+pub returns-then-is-5 : goal.returns-then-is-5
+unfolding job_of
+returns-then-is-5 c =
+    rw (
+      sym c.is.ensures ∙ c.if-is.false,
+      sym c.is-2.ensures ∙ c.if-is-2.false,
+      sym c.is-3.ensures ∙ c.if-is-3.false,
+      sym c.is-4.ensures ∙ c.if-is-4.false,
+      sym c.is-5.ensures ∙ c.if-is-5.true,
+    )
+
+pub returns-then-is-6 : goal.returns-then-is-6
+unfolding job_of
+returns-then-is-6 c =
+    rw (
+      sym c.is.ensures ∙ c.if-is.false,
+      sym c.is-2.ensures ∙ c.if-is-2.false,
+      sym c.is-3.ensures ∙ c.if-is-3.false,
+      sym c.is-4.ensures ∙ c.if-is-4.false,
+      sym c.is-5.ensures ∙ c.if-is-5.false,
+      sym c.is-6.ensures ∙ c.if-is-6.true,
+    )
+
+pub returns-then-is-7 : goal.returns-then-is-7
+unfolding job_of
+returns-then-is-7 c =
+    rw (
+      sym c.is.ensures ∙ c.if-is.false,
+      sym c.is-2.ensures ∙ c.if-is-2.false,
+      sym c.is-3.ensures ∙ c.if-is-3.false,
+      sym c.is-4.ensures ∙ c.if-is-4.false,
+      sym c.is-5.ensures ∙ c.if-is-5.false,
+      sym c.is-6.ensures ∙ c.if-is-6.false,
+      sym c.is-7.ensures ∙ c.if-is-7.true,
+    )
+
+pub returns-then-is-8 : goal.returns-then-is-8
+unfolding job_of
+returns-then-is-8 c =
+    rw (
+      sym c.is.ensures ∙ c.if-is.false,
+      sym c.is-2.ensures ∙ c.if-is-2.false,
+      sym c.is-3.ensures ∙ c.if-is-3.false,
+      sym c.is-4.ensures ∙ c.if-is-4.false,
+      sym c.is-5.ensures ∙ c.if-is-5.false,
+      sym c.is-6.ensures ∙ c.if-is-6.false,
+      sym c.is-7.ensures ∙ c.if-is-7.false,
+      sym c.is-8.ensures ∙ c.if-is-8.true,
+    )
+
+pub returns : goal.returns
+unfolding job_of
+returns c =
+    rw (
+      sym c.is.ensures ∙ c.if-is.false,
+      sym c.is-2.ensures ∙ c.if-is-2.false,
+      sym c.is-3.ensures ∙ c.if-is-3.false,
+      sym c.is-4.ensures ∙ c.if-is-4.false,
+      sym c.is-5.ensures ∙ c.if-is-5.false,
+      sym c.is-6.ensures ∙ c.if-is-6.false,
+      sym c.is-7.ensures ∙ c.if-is-7.false,
+      sym c.is-8.ensures ∙ c.if-is-8.false,
+    ) c.told_of.ensures

@@ -1,0 +1,46 @@
+use mathlib.Core.Path.{sym, ◌∙◌}
+use borrow.Author.Rules.{rules}
+use Rattle.depot_usage.specs.Usage.{told_of}
+use Rattle.depot_usage.proofs.told_of.Goals as goal
+
+pub returns-then-is : goal.returns-then-is
+unfolding told_of
+returns-then-is c =
+    rw (sym c.is.ensures ∙ c.if-is.true)
+
+pub returns-then-is-2 : goal.returns-then-is-2
+unfolding told_of
+returns-then-is-2 c =
+    rw (
+      sym c.is.ensures ∙ c.if-is.false,
+      sym c.is-2.ensures ∙ c.if-is-2.true,
+    )
+
+pub returns-then-is-3 : goal.returns-then-is-3
+unfolding told_of
+returns-then-is-3 c =
+    rw (
+      sym c.is.ensures ∙ c.if-is.false,
+      sym c.is-2.ensures ∙ c.if-is-2.false,
+      sym c.is-3.ensures ∙ c.if-is-3.true,
+    )
+
+pub returns-then-is-4 : goal.returns-then-is-4
+unfolding told_of
+returns-then-is-4 c =
+    rw (
+      sym c.is.ensures ∙ c.if-is.false,
+      sym c.is-2.ensures ∙ c.if-is-2.false,
+      sym c.is-3.ensures ∙ c.if-is-3.false,
+      sym c.is-4.ensures ∙ c.if-is-4.true,
+    )
+
+pub returns : goal.returns
+unfolding told_of
+returns c =
+    rw (
+      sym c.is.ensures ∙ c.if-is.false,
+      sym c.is-2.ensures ∙ c.if-is-2.false,
+      sym c.is-3.ensures ∙ c.if-is-3.false,
+      sym c.is-4.ensures ∙ c.if-is-4.false,
+    )

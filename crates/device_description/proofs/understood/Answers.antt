@@ -1,0 +1,9 @@
+use mathlib.Core.Path.{refl}
+use borrow.Author.Rules.{rules}
+use Rattle.device_description.proofs.understood.Goals as goal
+
+pub returns-then-known : goal.returns-then-known
+returns-then-known c = rw c.if-known.true refl
+
+pub returns : goal.returns
+returns c = rw c.if-known.false c.refuse.ensures

@@ -1,0 +1,9 @@
+use mathlib.Core.Path.{◌∙◌}
+use borrow.Author.Rules.{rules}
+use Rattle.rules.proofs.BytesLaws.{part-rest}
+use Rattle.device_text.specs.Words as Words
+use Rattle.device_text.proofs.rest.Goals as goal
+
+pub returns : goal.returns
+unfolding Words.rest
+returns c = c.skip.ensures ∙ rw (part-rest _ _, c.first_blank-n.ensures.0)

@@ -1,0 +1,26 @@
+use Prim.Native.Nat.{◌-◌, ◌≤◌}
+use native.Mathlib.Omega.{arith}
+use borrow.Author.Rules.{rules}
+use Rattle.text.specs.Text.{Wrote}
+use Rattle.text.proofs.TextLaws.{wrote-length}
+use Rattle.text_pieces.specs.Pieces.{lines}
+use Rattle.text_pieces.proofs.PieceLaws.{lines_none, lines_next, lines-all}
+use Rattle.device_writing.specs.Device.{slot_of, slot_lines}
+use Rattle.device_writing.proofs.slots.put_slots.Goals as goal
+
+pub loop-k-init : goal.loop-k-init
+loop-k-init c = (search rules, lines_none _ _ _)
+
+pub put_slot_of-to-requires : goal.put_slot_of-to-requires
+put_slot_of-to-requires c = omega (arith, c.loop-k-test.true)
+
+pub loop-k-preserved : goal.loop-k-preserved
+loop-k-preserved c =
+    (search rules, lines_next _ _ c.loop-k.invariant.1 c.put_slot_of-to.ensures)
+
+pub shape_of-room : goal.shape_of-room
+shape_of-room c = wrote-length c.loop-k.invariant.1
+
+pub returns : goal.returns
+unfolding slot_lines
+returns c = lines-all _ _ _ (search rules) (search rules) c.loop-k.invariant.1

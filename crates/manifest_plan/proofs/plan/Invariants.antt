@@ -1,0 +1,12 @@
+use Prim.Native.Nat.{◌-◌}
+use native.Mathlib.Omega.{arith}
+use borrow.Author.Rules.{rules}
+use Rattle.rules.specs.Limits.{section_count}
+use Rattle.manifest_plan.proofs.StartLaws.{Putting, putting_starts, putting_fits, putting_on, none-put, some-put}
+use Rattle.manifest_plan.proofs.plan.Given as goal
+
+abbrev pub invariant-loop-k : goal.invariant-loop-k
+invariant-loop-k l = Putting l.group l.sections l.initial.starts l.starts l.n l.k
+
+abbrev pub decreases-loop-k : goal.decreases-loop-k
+decreases-loop-k l = section_count - l.k

@@ -1,0 +1,24 @@
+use Prim.Native.Nat.{ℕ, ◌+◌, ◌-◌, ◌≤◌}
+use mathlib.Core.Path.{◌≡◌, sym, ◌∙◌}
+use mathlib.Core.List.{[]}
+use native.Mathlib.Omega.{arith}
+use borrow.Author.Rules.{rules}
+use lib.ListN.{length, drop}
+use Rattle.rules.specs.declared.tables.Command.{Command}
+use Rattle.rules.specs.declared.tables.Listed.TheVariants as L
+use Rattle.rules.specs.Commands.{commands}
+use Rattle.rules.specs.Tables.{codes, keys, packed, table_of}
+use Rattle.rules_tables.proofs.StoreLaws.{below, stored, turn}
+use Rattle.rules_tables.proofs.with_commands.Given as goal
+
+abbrev pub place : Command → ℕ
+place r = r.code
+
+abbrev pub value : Command → ℕ
+value r = packed (L.Command r)
+
+abbrev pub invariant-loop-i : goal.invariant-loop-i
+invariant-loop-i l = (l.i ≤ length commands) × (stored place value (drop l.i l.rows) l.table ≡ table_of commands [])
+
+abbrev pub decreases-loop-i : goal.decreases-loop-i
+decreases-loop-i l = length commands - l.i

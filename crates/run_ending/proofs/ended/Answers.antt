@@ -1,0 +1,5 @@
+use borrow.Author.Rules.{rules}
+use Rattle.run_ending.proofs.ended.Goals as goal
+
+pub returns : goal.returns
+returns c = rw (c.of.ensures, c.last_place.ensures)

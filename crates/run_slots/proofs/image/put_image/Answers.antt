@@ -1,0 +1,19 @@
+use Prim.Native.Nat.{◌-◌, ◌≤◌}
+use mathlib.Core.Path.{◌≡◌, refl, sym, ◌∙◌}
+use native.Mathlib.Omega.{arith}
+use borrow.Author.Rules.{rules}
+use lib.ListN.{length, length-set}
+use lib.Seq.{sets}
+use Rattle.rules.specs.Slots.{answer_bytes, put_image}
+use Rattle.byte_buffer.proofs.ByteLoops.{put_from, put-start, put_next, put-end}
+use Rattle.run_slots.proofs.image.put_image.Goals as goal
+
+pub loop-i-init : goal.loop-i-init
+loop-i-init c = (omega arith, refl, put-start _ _ _)
+
+pub loop-i-preserved : goal.loop-i-preserved
+loop-i-preserved c = (omega arith, simp length-set (search rules), c.loop-i.invariant.2 ∙ put_next _ _ _ _ (omega arith))
+
+pub returns : goal.returns
+unfolding put_image
+returns c = sym (c.loop-i.invariant.2 ∙ put-end _ _ _ _ (omega arith))

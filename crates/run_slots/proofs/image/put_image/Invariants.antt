@@ -1,0 +1,16 @@
+use Prim.Native.Nat.{◌-◌, ◌≤◌}
+use mathlib.Core.Path.{◌≡◌, refl, sym, ◌∙◌}
+use native.Mathlib.Omega.{arith}
+use borrow.Author.Rules.{rules}
+use lib.ListN.{length, length-set}
+use lib.Seq.{sets}
+use Rattle.rules.specs.Slots.{answer_bytes, put_image}
+use Rattle.byte_buffer.proofs.ByteLoops.{put_from, put-start, put_next, put-end}
+use Rattle.run_slots.proofs.image.put_image.Given as goal
+
+abbrev pub invariant-loop-i : goal.invariant-loop-i
+invariant-loop-i l =
+    (l.i ≤ answer_bytes) × (length l.slots ≡ length l.initial.slots) × (sets l.initial.slots l.at l.image ≡ put_from l.at l.image l.i l.slots)
+
+abbrev pub decreases-loop-i : goal.decreases-loop-i
+decreases-loop-i l = answer_bytes - l.i

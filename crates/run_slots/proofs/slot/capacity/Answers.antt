@@ -1,0 +1,11 @@
+use Prim.Native.Nat.{◌+◌, ◌*◌}
+use mathlib.Core.Path.{sym, ◌∙◌}
+use native.Mathlib.Omega.{arith}
+use borrow.Author.Rules.{rules}
+use Rattle.rules.specs.Slots.{slot_bytes, capacity_from, slot_at}
+use Rattle.rules.proofs.BytesLaws.{num_4}
+use Rattle.run_slots.proofs.slot.capacity.Goals as goal
+
+pub returns : goal.returns
+unfolding slot_at
+returns c = c.four.ensures.0 ∙ sym (num_4 c.args.slots.now (slot_bytes * c.args.k + capacity_from) (omega arith))

@@ -1,0 +1,14 @@
+use Prim.Native.Nat.{◌-◌, ◌≤◌}
+use borrow.Author.Rules.{rules}
+use lib.ListN.{length, take}
+use Rattle.text.specs.Text.{Wrote}
+use Rattle.text.proofs.TextLaws.{wrote-length, each_next, each_all}
+use Rattle.text_pieces.specs.Pieces.{spaced}
+use Rattle.text_pieces.proofs.PieceLaws.{spaced-append, spaced-none}
+use Rattle.text_pieces.proofs.put_each.Given as goal
+
+abbrev pub invariant-loop-i : goal.invariant-loop-i
+invariant-loop-i l = (l.i ≤ length l.s) × Wrote (spaced (take l.i l.s)) l.at l.initial.room l.to l.room
+
+abbrev pub decreases-loop-i : goal.decreases-loop-i
+decreases-loop-i l = length l.s - l.i

@@ -1,0 +1,8 @@
+use borrow.Author.Rules.{rules}
+use Rattle.text_pieces.specs.Pieces.{between}
+use Rattle.text_pieces.proofs.put_spaced.Goals as goal
+
+pub returns : goal.returns
+unfolding between
+returns c =
+    rw (← c.within-p.ensures.2) c.put_each.ensures

@@ -1,0 +1,30 @@
+use Prim.Native.Nat.{◌+◌, ◌-◌, ◌*◌, ◌≤◌}
+use mathlib.Core.Path.{◌≡◌, ap}
+use native.Mathlib.Omega.{arith}
+use lib.ListN.{length}
+use borrow.Author.Rules.{rules}
+use Rattle.rules.specs.Limits.{limits}
+use Rattle.rules.specs.ProgramFormat.{name_size}
+use Rattle.rules.specs.Bytes.{Bytes, InBytes}
+use Rattle.translate_start.proofs.NameLaws.{named, names_left, names-all, names-none, left-size}
+use Rattle.translate_start.proofs.names.size_names.Goals as goal
+
+pub loop-k-init : goal.loop-k-init
+loop-k-init c = (omega arith, omega arith, λ s i. omega (arith, ap length (names-all s c.args.ids.now c.args.n)))
+
+pub overflow_add-sum-in-loop-k : goal.overflow_add-sum-in-loop-k
+overflow_add-sum-in-loop-k c = omega (arith, c.requires.1 _ c.loop-k-test.true)
+
+pub overflow_sub-sum : goal.overflow_sub-sum
+overflow_sub-sum c = omega (arith, c.requires.1 _ c.loop-k-test.true)
+
+pub overflow_add-sum-in-loop-k-2 : goal.overflow_add-sum-in-loop-k-2
+overflow_add-sum-in-loop-k-2 c = omega (arith, c.requires.1 _ c.loop-k-test.true)
+
+pub loop-k-preserved : goal.loop-k-preserved
+loop-k-preserved c =
+    let i = c.requires.1 c.loop-k.k c.loop-k-test.true in (
+      omega arith,
+      omega (arith, i),
+      λ s j. omega (arith, i, c.loop-k.invariant.2 s j, left-size s c.args.ids.now c.args.n c.loop-k.k c.loop-k-test.true j),
+    )

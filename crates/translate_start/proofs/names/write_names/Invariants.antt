@@ -1,0 +1,15 @@
+use Prim.Native.Nat.{◌+◌, ◌-◌, ◌≤◌}
+use mathlib.Core.Path.{◌≡◌, refl, sym, ap, ◌∙◌}
+use native.Mathlib.Omega.{arith}
+use lib.ListN.{length}
+use borrow.Author.Rules.{rules}
+use Rattle.rules.specs.Bytes.{put}
+use Rattle.translate_start.proofs.NameLaws.{named, names_left, names-all, names-none, left-size, left-put, left-next}
+use Rattle.translate_start.proofs.names.write_names.Given as goal
+
+abbrev pub invariant-loop-k : goal.invariant-loop-k
+invariant-loop-k l =
+    (l.k ≤ l.n) × (length l.room ≡ length l.initial.room) × (put l.initial.room l.at (named l.s l.ids l.n) ≡ put l.room l.to (names_left l.s l.ids l.n l.k)) × (l.to + length (names_left l.s l.ids l.n l.k) ≡ l.at + length (named l.s l.ids l.n))
+
+abbrev pub decreases-loop-k : goal.decreases-loop-k
+decreases-loop-k l = l.n - l.k
