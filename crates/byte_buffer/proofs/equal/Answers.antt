@@ -7,18 +7,20 @@ use Rattle.rules.specs.Bytes as Bytes
 use Rattle.rules.proofs.SameLaws.{same_from, same_start}
 use Rattle.byte_buffer.proofs.ByteLoops.{flag_end, flag_stop, flag_next}
 use Rattle.byte_buffer.proofs.equal.Goals as goal
+use Rattle.byte_buffer.proofs.equal.Goals.{then-a-i, else-a-i}
 
 pub loop-k-init : goal.loop-k-init
 loop-k-init c = (omega arith, same_start _ _ _ _ _)
 
 pub loop-k-preserved : goal.loop-k-preserved
-loop-k-preserved c =
-    (
-      omega arith,
-      c.loop-k.invariant.1
-          ∙ ⊎_elim (λ w. flag_stop _ _ _ _ _ _ (omega arith) c.requires c.loop-k.same c.if-a-i.same w.0.taken w.1)
-          (λ w. flag_next _ _ _ _ _ _ (omega arith) c.requires c.loop-k.same c.if-a-i.same w.0.left w.1) c.if-a-i.branch,
-    )
+loop-k-preserved c = (
+  omega arith,
+  c.loop-k.invariant.1
+      ∙ elim c.if-a-i.branch [
+          then-a-i w ↦ flag_stop _ _ _ _ _ _ (omega arith) c.requires c.loop-k.same c.if-a-i.same w.if-a-i.true w.same-is |
+          else-a-i w ↦ flag_next _ _ _ _ _ _ (omega arith) c.requires c.loop-k.same c.if-a-i.same w.if-a-i.false w.same-is
+        ],
+)
 
 pub returns : goal.returns
 returns c = sym (c.loop-k.invariant.1 ∙ flag_end _ _ _ _ _ _ _ (omega arith))
