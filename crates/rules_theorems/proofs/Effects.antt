@@ -174,7 +174,7 @@ module _ (env : Env) where
   answer-length i st = omega (arith, length-take 36 (drop 1 (part env.answers (answer_bytes * st.used) answer_bytes)))
 
   swapped : (i j : ℕ) (st : State) → (params_of env i st).source ≡ some j → among (slot_no env j (filled env i (image env j st) st)) (named env swap i st) ≡ true
-  swapped i j st e = rw (same_number j i (image env j st) st (image-length j st), e) (second (slot_no env i st) (slot_no env j st))
+  swapped i j st e = rw (e, same_number j i (image env j st) st (image-length j st)) (second (slot_no env i st) (slot_no env j st))
 
   acts_law : (op : Op) (i : ℕ) (st : State) → Acted st (acts env op i st).state (named env op i st)
   unfolding acts matches fetches copies swaps
