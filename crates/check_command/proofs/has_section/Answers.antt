@@ -19,5 +19,5 @@ returns-in-12 c = rw c.in-12.is
 
 pub returns-in_default : goal.returns-in_default
 returns-in_default c =
-    let (((((u, a), b), d), e), f) = c.in_default-own.rest in
+    let (((((u, a), b), d), e), f) = c.in_default.in_default-own.rest in
     rw (ne_eqb _ PAYLOAD_FETCH a, ne_eqb _ INSTALL b, ne_eqb _ VALIDATE d, ne_eqb _ LOAD e, ne_eqb _ RUN f)

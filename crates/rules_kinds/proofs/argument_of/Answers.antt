@@ -33,5 +33,5 @@ returns-in-30 c = rw c.in-30.is refl
 
 pub returns-in_default : goal.returns-in_default
 returns-in_default c =
-    let (((((((_, a), b), c₁), d), e), f), g) = c.in_default-own.rest in
+    let (((((((_, a), b), c₁), d), e), f), g) = c.in_default.in_default-own.rest in
     no_argument _ a b c₁ d e f g

@@ -33,7 +33,7 @@ overflow_add-next-in-11 c =
 
 pub overflow_add-p-in_default : goal.overflow_add-p-in_default
 overflow_add-p-in_default c =
-    let y = entry-size _ _ _ c.requires c.if-key-eq-COERCE.false c.in_default-own.rest.0.0.1 c.in_default-own.rest.0.1 c.in_default-own.rest.1 in
+    let y = entry-size _ _ _ c.requires c.if-key-eq-COERCE.false c.in_default.in_default-own.rest.0.0.1 c.in_default.in_default-own.rest.0.1 c.in_default.in_default-own.rest.1 in
     omega (arith, (goal.at.overflow_add-p-in_default c).After-open-h.«open».ensures y.headed, y.small)
 
 pub returns-in-6 : goal.returns-in-6
@@ -48,4 +48,4 @@ returns-in-11 c = λ x. put-digest _ _ _ x c.args.a _ _ (goal.at.returns-in-11 c
 pub returns-in_default : goal.returns-in_default
 returns-in_default c = λ x.
     put-size _ _ _ x c.args.a _ _ (goal.at.returns-in_default c).After-open-h.«open».ensures
-    c.if-key-eq-COERCE.false c.in_default-own.rest.0.0.1 c.in_default-own.rest.0.1 c.in_default-own.rest.1
+    c.if-key-eq-COERCE.false c.in_default.in_default-own.rest.0.0.1 c.in_default.in_default-own.rest.0.1 c.in_default.in_default-own.rest.1
