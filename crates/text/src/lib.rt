@@ -1,4 +1,6 @@
 // Text in lent room. Each function writes from `at` on, as far as the room goes, and gives the place after what it wrote.
+#![tactic(auto)]
+
 ghost use Rattle.std.specs.Prelude.{◌≡◌, [], ◌∷◌, map, ◌≤◌, length, replicate};
 ghost use Rattle.text.specs.Text.{Writes, quoted};
 ghost use Rattle.text.specs.Text.{least as Text·least, printable as Text·printable, position as Text·position};

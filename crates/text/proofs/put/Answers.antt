@@ -1,8 +1,5 @@
-use Prim.Native.Nat.{◌-◌, ◌≤◌}
 use mathlib.Core.Path.{refl}
 use borrow.Author.Rules.{rules}
-use lib.ListN.{length, take}
-use Rattle.text.specs.Text.{Wrote}
 use Rattle.text.proofs.TextLaws.{wrote_none, wrote-length, each_next, each_all}
 use Rattle.text.proofs.put.Goals as goal
 

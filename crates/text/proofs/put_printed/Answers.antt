@@ -1,7 +1,5 @@
-use Prim.Native.Nat.{◌-◌, ◌≤◌}
 use mathlib.Core.List.{map, map-append}
-use lib.ListN.{length, take}
-use Rattle.text.specs.Text.{Wrote, printable}
+use Rattle.text.specs.Text.{printable}
 use Rattle.text.proofs.TextLaws.{wrote_none, wrote-length, each_next, each_all}
 use borrow.Author.Rules.{rules}
 use Rattle.text.proofs.put_printed.Goals as goal

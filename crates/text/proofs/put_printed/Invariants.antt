@@ -1,9 +1,7 @@
 use Prim.Native.Nat.{◌-◌, ◌≤◌}
-use mathlib.Core.List.{map, map-append}
+use mathlib.Core.List.{map}
 use lib.ListN.{length, take}
 use Rattle.text.specs.Text.{Wrote, printable}
-use Rattle.text.proofs.TextLaws.{wrote_none, wrote-length, each_next, each_all}
-use borrow.Author.Rules.{rules}
 use Rattle.text.proofs.put_printed.Given as goal
 
 -- The invariant: the bytes passed were written.

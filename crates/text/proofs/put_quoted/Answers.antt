@@ -1,6 +1,5 @@
 use Rattle.text.proofs.TextLaws.{wrote_then}
 use Rattle.text.specs.Text.{quoted}
-use borrow.Author.Rules.{rules}
 use Rattle.text.proofs.put_quoted.Goals as goal
 
 pub returns : goal.returns
