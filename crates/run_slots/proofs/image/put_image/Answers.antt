@@ -1,11 +1,9 @@
-use Prim.Native.Nat.{◌-◌, ◌≤◌}
-use mathlib.Core.Path.{◌≡◌, refl, sym, ◌∙◌}
+use mathlib.Core.Path.{refl, sym, ◌∙◌}
 use native.Mathlib.Omega.{arith}
 use borrow.Author.Rules.{rules}
-use lib.ListN.{length, length-set}
-use lib.Seq.{sets}
-use Rattle.rules.specs.Slots.{answer_bytes, put_image}
-use Rattle.byte_buffer.proofs.ByteLoops.{put_from, put-start, put_next, put-end}
+use lib.ListN.{length-set}
+use Rattle.rules.specs.Slots.{put_image}
+use Rattle.byte_buffer.proofs.ByteLoops.{put-start, put_next, put-end}
 use Rattle.run_slots.proofs.image.put_image.Goals as goal
 
 pub loop-i-init : goal.loop-i-init

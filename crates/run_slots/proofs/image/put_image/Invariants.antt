@@ -1,11 +1,9 @@
 use Prim.Native.Nat.{◌-◌, ◌≤◌}
-use mathlib.Core.Path.{◌≡◌, refl, sym, ◌∙◌}
-use native.Mathlib.Omega.{arith}
-use borrow.Author.Rules.{rules}
-use lib.ListN.{length, length-set}
+use mathlib.Core.Path.{◌≡◌}
+use lib.ListN.{length}
 use lib.Seq.{sets}
-use Rattle.rules.specs.Slots.{answer_bytes, put_image}
-use Rattle.byte_buffer.proofs.ByteLoops.{put_from, put-start, put_next, put-end}
+use Rattle.rules.specs.Slots.{answer_bytes}
+use Rattle.byte_buffer.proofs.ByteLoops.{put_from}
 use Rattle.run_slots.proofs.image.put_image.Given as goal
 
 abbrev pub invariant-loop-i : goal.invariant-loop-i

@@ -1,9 +1,7 @@
-use Prim.Native.Nat.{◌-◌, ◌≤◌}
 use mathlib.Core.Path.{◌≡◌, refl, ◌∙◌}
 use native.Mathlib.Omega.{arith}
-use lib.ListN.{length}
 use Rattle.rules.specs.Slots.{answer_bytes}
-use Rattle.byte_buffer.proofs.ByteLoops.{copied, copy_start, copy-next, copy-end}
+use Rattle.byte_buffer.proofs.ByteLoops.{copy_start, copy-next, copy-end}
 use Rattle.run_slots.proofs.image.take.Goals as goal
 
 pub loop-k-init : goal.loop-k-init

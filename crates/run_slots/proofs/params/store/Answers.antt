@@ -1,7 +1,6 @@
 use mathlib.Core.List.{[], ◌∷◌}
 use native.Mathlib.Omega.{arith}
 use lib.ListN.{length-set}
-use borrow.Author.Rules.{rules}
 use Rattle.byte_buffer.proofs.PutLaws.{in_a_row}
 use Rattle.run_slots.specs.Params.{params_from, stored}
 use Rattle.run_slots.proofs.params.store.Goals as goal

@@ -1,7 +1,6 @@
 use Prim.Native.Nat.{◌+◌, ◌*◌}
 use mathlib.Core.Path.{sym, ◌∙◌}
 use native.Mathlib.Omega.{arith}
-use borrow.Author.Rules.{rules}
 use Rattle.rules.specs.Slots.{slot_bytes, capacity_from, slot_at}
 use Rattle.rules.proofs.BytesLaws.{num_4}
 use Rattle.run_slots.proofs.slot.capacity.Goals as goal

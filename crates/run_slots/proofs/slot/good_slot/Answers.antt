@@ -1,6 +1,5 @@
 use mathlib.Core.Path.{sym, ◌∙◌}
 use mir.Facts.{Fits-widen}
-use borrow.Author.Rules.{rules}
 use Rattle.run_slots.proofs.GoodSlot.{good-empty, good-long, good-present, good_absent}
 use Rattle.run_slots.proofs.slot.good_slot.Goals as goal
 

@@ -1,5 +1,4 @@
 use mathlib.Core.Path.{refl}
-use borrow.Author.Rules.{rules}
 use Rattle.rules.specs.Slots.{slot_at}
 use Rattle.run_slots.proofs.slot.present.Goals as goal
 
