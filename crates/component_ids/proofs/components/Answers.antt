@@ -6,8 +6,9 @@ use Rattle.rules.specs.Limits.{limits}
 use Rattle.component_ids.specs.declared.Repeat.TheVariants.{At}
 use Rattle.component_ids.proofs.IdentifierLaws.{components_stop, components-head, components-places, repeated-below, components-repeated, components-refused, components-good}
 use Rattle.component_ids.proofs.components.Goals as goal
+use Rattle.component_ids.proofs.components.Goals.{After-repeated_one}
 
-below : (c : goal.After-repeated_one) (j : ℕ) → c.repeated-one.result ≡ At j → j < limits.components
+below : (c : After-repeated_one) (j : ℕ) → c.repeated_one.result ≡ At j → j < limits.components
 below c j g =
     let (f, _) = components-places _ _ _ _ c.item-h.ensures c.if-h-ne0.false _ _ _ c.identifiers-r.ensures c.requires in
     let l = repeated-below _ _ _ _ c.item-h.ensures c.if-h-ne0.false _ _ _ c.identifiers-r.ensures _ c.repeated_one.ensures j g in
@@ -31,7 +32,7 @@ pub offset_bounds-ids-j : goal.offset_bounds-ids-j
 offset_bounds-ids-j c = omega (arith, below (goal.at.offset_bounds-ids-j c).After-repeated_one _ c.in-At.is)
 
 pub bounds-ids-j : goal.bounds-ids-j
-bounds-ids-j c = omega (arith, below (goal.at.bounds-ids-j c).In-At-1 _ c.in-At.is)
+bounds-ids-j c = omega (arith, below (goal.at.bounds-ids-j c).After-repeated_one _ c.in-At.is)
 
 pub returns-then-refusal-ne0 : goal.returns-then-refusal-ne0
 returns-then-refusal-ne0 c =
