@@ -1,4 +1,6 @@
 // Lent bytes: big-endian numbers read and put, parts compared and copied.
+#![tactic(auto)]
+
 ghost use Rattle.std.specs.Prelude.{◌≡◌, ◌+◌, ◌≤◌, ◌<◌, length};
 ghost use Rattle.rules.specs.Bytes.{part, put, two_at, four_at, be2, be4, same};
 

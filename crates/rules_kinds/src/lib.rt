@@ -1,4 +1,6 @@
 // What stands after the code of a command, by the table.
+#![tactic(auto)]
+
 ghost use Rattle.std.specs.Prelude.{◌≡◌};
 ghost use Rattle.rules.specs.Commands.{commands, row_of, condition_in};
 ghost use Rattle.rules.specs.Tables.{by_number};

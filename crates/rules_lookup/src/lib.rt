@@ -1,4 +1,6 @@
 // Look-ups in the tables by number.
+#![tactic(auto)]
+
 ghost use Rattle.std.specs.Prelude.{◌≡◌, ◌<◌};
 ghost use Rattle.rules.specs.Commands.{commands, row_of, params, param_of};
 ghost use Rattle.rules.specs.Tables.{listed, known, argument_at, known_at, codes, by_number};

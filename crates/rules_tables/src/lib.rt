@@ -1,4 +1,6 @@
 // The tables of commands and parameters, as data: check, the program test and translation take codes and keys from here.
+#![tactic(auto)]
+
 ghost use Rattle.std.specs.Prelude.{◌≡◌, [], map, ◌≤◌, ◌<◌};
 ghost use Rattle.rules.specs.declared.tables.Listed.TheVariants as L;
 ghost use Rattle.rules.specs.Commands.{commands, params};

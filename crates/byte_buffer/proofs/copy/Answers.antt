@@ -1,11 +1,8 @@
-use Prim.Native.Nat.{◌-◌, ◌≤◌}
-use mathlib.Core.Path.{◌≡◌, refl, sym, ◌∙◌}
+use mathlib.Core.Path.{refl, sym, ◌∙◌}
 use native.Mathlib.Omega.{arith}
 use borrow.Author.Rules.{rules}
-use lib.ListN.{length, length-set}
-use lib.Seq.{sets}
-use Rattle.rules.specs.Bytes.{part}
-use Rattle.byte_buffer.proofs.ByteLoops.{put_from, put-start, part-next, put-end}
+use lib.ListN.{length-set}
+use Rattle.byte_buffer.proofs.ByteLoops.{put-start, part-next, put-end}
 use Rattle.rules.proofs.BytesLaws.{length_part}
 use Rattle.byte_buffer.proofs.copy.Goals as goal
 

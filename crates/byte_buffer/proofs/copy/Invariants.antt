@@ -1,12 +1,9 @@
 use Prim.Native.Nat.{◌-◌, ◌≤◌}
-use mathlib.Core.Path.{◌≡◌, refl, sym, ◌∙◌}
-use native.Mathlib.Omega.{arith}
-use borrow.Author.Rules.{rules}
-use lib.ListN.{length, length-set}
+use mathlib.Core.Path.{◌≡◌}
+use lib.ListN.{length}
 use lib.Seq.{sets}
 use Rattle.rules.specs.Bytes.{part}
-use Rattle.byte_buffer.proofs.ByteLoops.{put_from, put-start, part-next, put-end}
-use Rattle.rules.proofs.BytesLaws.{length_part}
+use Rattle.byte_buffer.proofs.ByteLoops.{put_from}
 use Rattle.byte_buffer.proofs.copy.Given as goal
 
 abbrev pub invariant-loop-i : goal.invariant-loop-i

@@ -1,10 +1,6 @@
-use Prim.Native.Nat.{◌-◌, ◌≤◌}
-use mathlib.Core.Path.{◌≡◌, sym, ◌∙◌}
-use mathlib.Core.Bool.{◌&&◌}
-use mathlib.Core.Logic.{⊎_elim}
+use mathlib.Core.Path.{sym, ◌∙◌}
 use native.Mathlib.Omega.{arith}
-use Rattle.rules.specs.Bytes as Bytes
-use Rattle.rules.proofs.SameLaws.{same_from, same_start}
+use Rattle.rules.proofs.SameLaws.{same_start}
 use Rattle.byte_buffer.proofs.ByteLoops.{flag_end, flag_stop, flag_next}
 use Rattle.byte_buffer.proofs.equal.Goals as goal
 use Rattle.byte_buffer.proofs.equal.Goals.{then-a-i, else-a-i}
@@ -17,9 +13,9 @@ loop-k-preserved c = (
   omega arith,
   c.loop-k.invariant.1
       ∙ elim c.if-a-i.branch [
-          then-a-i w ↦ flag_stop _ _ _ _ _ _ (omega arith) c.requires c.loop-k.same c.if-a-i.same w.if-a-i.true w.same-is |
-          else-a-i w ↦ flag_next _ _ _ _ _ _ (omega arith) c.requires c.loop-k.same c.if-a-i.same w.if-a-i.false w.same-is
-        ],
+        | then-a-i w ↦ flag_stop _ _ _ _ _ _ (omega arith) c.requires c.loop-k.same c.if-a-i.same w.if-a-i.true w.same-is
+        | else-a-i w ↦ flag_next _ _ _ _ _ _ (omega arith) c.requires c.loop-k.same c.if-a-i.same w.if-a-i.false w.same-is
+      ],
 )
 
 pub returns : goal.returns

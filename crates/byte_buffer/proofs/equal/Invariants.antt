@@ -1,11 +1,8 @@
 use Prim.Native.Nat.{◌-◌, ◌≤◌}
-use mathlib.Core.Path.{◌≡◌, sym, ◌∙◌}
+use mathlib.Core.Path.{◌≡◌}
 use mathlib.Core.Bool.{◌&&◌}
-use mathlib.Core.Logic.{⊎_elim}
-use native.Mathlib.Omega.{arith}
 use Rattle.rules.specs.Bytes as Bytes
-use Rattle.rules.proofs.SameLaws.{same_from, same_start}
-use Rattle.byte_buffer.proofs.ByteLoops.{flag_end, flag_stop, flag_next}
+use Rattle.rules.proofs.SameLaws.{same_from}
 use Rattle.byte_buffer.proofs.equal.Given as goal
 
 abbrev pub invariant-loop-k : goal.invariant-loop-k

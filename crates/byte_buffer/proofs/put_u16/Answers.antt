@@ -2,7 +2,6 @@ use Prim.Native.Nat.{◌/◌, ◌%◌}
 use mathlib.Core.List.{[], ◌∷◌}
 use native.Mathlib.Omega.{arith}
 use lib.ListN.{length-set}
-use borrow.Author.Rules.{rules}
 use Rattle.byte_buffer.proofs.PutLaws.{in_a_row}
 use Rattle.byte_buffer.proofs.put_u16.Goals as goal
 

@@ -4,7 +4,6 @@ use mathlib.Core.List.{[], ◌∷◌}
 use native.Mathlib.Omega.{arith}
 use lib.ListN.{length-set}
 use lib.Seq.{length-sets}
-use borrow.Author.Rules.{rules}
 use Rattle.rules.specs.Bytes.{be2}
 use Rattle.byte_buffer.proofs.PutLaws.{in_a_row}
 use Rattle.byte_buffer.proofs.put_u32.Goals as goal

@@ -1,5 +1,4 @@
 use mathlib.Core.Path.{sym, ap, ◌∙◌}
-use borrow.Author.Rules.{rules}
 use Rattle.rules.specs.Commands.{commands, row_of}
 use Rattle.rules_lookup.proofs.LookUpLaws.{condition_told, condition-told}
 use Rattle.rules_kinds.proofs.is_condition.Goals as goal

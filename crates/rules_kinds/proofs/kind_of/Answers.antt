@@ -1,5 +1,4 @@
 use mathlib.Core.Path.{sym, ap, ◌∙◌}
-use borrow.Author.Rules.{rules}
 use Rattle.rules_kinds.specs.Kinds.{kind_in, kind_of}
 use Rattle.rules_kinds.proofs.kind_of.Goals as goal
 

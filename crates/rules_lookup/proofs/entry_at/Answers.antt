@@ -1,4 +1,3 @@
-use borrow.Author.Rules.{rules}
 use Rattle.rules_lookup.proofs.LookUpLaws.{entry_at}
 use Rattle.rules_lookup.proofs.entry_at.Goals as goal
 

@@ -1,14 +1,11 @@
-use Prim.Native.Nat.{ℕ, ◌+◌, ◌-◌, ◌≤◌}
+use Prim.Native.Nat.{◌+◌}
 use mathlib.Core.Path.{◌≡◌, sym, ◌∙◌}
-use mathlib.Core.List.{[]}
 use native.Mathlib.Omega.{arith}
 use borrow.Author.Rules.{rules}
-use lib.ListN.{length, drop}
-use Rattle.rules.specs.declared.tables.Command.{Command}
-use Rattle.rules.specs.declared.tables.Listed.TheVariants as L
+use lib.ListN.{length}
 use Rattle.rules.specs.Commands.{commands}
-use Rattle.rules.specs.Tables.{codes, keys, packed, table_of}
-use Rattle.rules_tables.proofs.StoreLaws.{below, stored, turn}
+use Rattle.rules.specs.Tables.{codes, keys, table_of}
+use Rattle.rules_tables.proofs.StoreLaws.{below, turn}
 use Rattle.rules_tables.proofs.with_commands.Invariants.{place, value}
 use Rattle.rules_tables.proofs.with_commands.Goals as goal
 

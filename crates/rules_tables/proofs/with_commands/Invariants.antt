@@ -1,14 +1,12 @@
-use Prim.Native.Nat.{ℕ, ◌+◌, ◌-◌, ◌≤◌}
-use mathlib.Core.Path.{◌≡◌, sym, ◌∙◌}
+use Prim.Native.Nat.{ℕ, ◌-◌, ◌≤◌}
+use mathlib.Core.Path.{◌≡◌}
 use mathlib.Core.List.{[]}
-use native.Mathlib.Omega.{arith}
-use borrow.Author.Rules.{rules}
 use lib.ListN.{length, drop}
 use Rattle.rules.specs.declared.tables.Command.{Command}
 use Rattle.rules.specs.declared.tables.Listed.TheVariants as L
 use Rattle.rules.specs.Commands.{commands}
-use Rattle.rules.specs.Tables.{codes, keys, packed, table_of}
-use Rattle.rules_tables.proofs.StoreLaws.{below, stored, turn}
+use Rattle.rules.specs.Tables.{packed, table_of}
+use Rattle.rules_tables.proofs.StoreLaws.{stored}
 use Rattle.rules_tables.proofs.with_commands.Given as goal
 
 abbrev pub place : Command → ℕ

@@ -1,12 +1,10 @@
-use Prim.Native.Nat.{ℕ, ◌+◌, ◌-◌, ◌≤◌}
+use Prim.Native.Nat.{◌+◌}
 use mathlib.Core.Path.{◌≡◌, sym, ◌∙◌}
 use native.Mathlib.Omega.{arith}
 use borrow.Author.Rules.{rules}
-use lib.ListN.{drop}
-use Rattle.rules.specs.declared.tables.ParameterRow.{ParameterRow}
 use Rattle.rules.specs.Limits.{limits}
-use Rattle.rules.specs.Tables.{codes, keys, parameter_number, table_of, by_number}
-use Rattle.rules_tables.proofs.StoreLaws.{below, stored, turn}
+use Rattle.rules.specs.Tables.{codes, keys, table_of, by_number}
+use Rattle.rules_tables.proofs.StoreLaws.{below, turn}
 use Rattle.rules_tables.proofs.with_parameters.Invariants.{place, value}
 use Rattle.rules_tables.proofs.with_parameters.Goals as goal
 

@@ -1,12 +1,10 @@
 use Prim.Native.Nat.{ℕ, ◌+◌, ◌-◌, ◌≤◌}
-use mathlib.Core.Path.{◌≡◌, sym, ◌∙◌}
-use native.Mathlib.Omega.{arith}
-use borrow.Author.Rules.{rules}
+use mathlib.Core.Path.{◌≡◌}
 use lib.ListN.{drop}
 use Rattle.rules.specs.declared.tables.ParameterRow.{ParameterRow}
 use Rattle.rules.specs.Limits.{limits}
-use Rattle.rules.specs.Tables.{codes, keys, parameter_number, table_of, by_number}
-use Rattle.rules_tables.proofs.StoreLaws.{below, stored, turn}
+use Rattle.rules.specs.Tables.{codes, parameter_number, by_number}
+use Rattle.rules_tables.proofs.StoreLaws.{stored}
 use Rattle.rules_tables.proofs.with_parameters.Given as goal
 
 abbrev pub place : ParameterRow → ℕ
