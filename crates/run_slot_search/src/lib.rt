@@ -1,3 +1,5 @@
 // Slots by the identifiers of components, and all slots of a run.
+#![tactic(auto)]
+
 pub mod search;
 pub mod whole;

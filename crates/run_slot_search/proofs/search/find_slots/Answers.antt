@@ -1,10 +1,8 @@
-use Prim.Native.Nat.{ℕ, ◌-◌, ◌≤◌}
+use Prim.Native.Nat.{ℕ}
 use mathlib.Core.Path.{◌≡◌, sym}
 use native.Mathlib.Omega.{arith}
 use borrow.Author.Rules.{rules}
-use lib.ListN.{length}
-use Rattle.rules.specs.Limits.{memory_numbers}
-use Rattle.run_slot_search.proofs.SearchLaws.{Sofar, sofar_start, sofar_stop, sofar_kept, sofar_next, sofar_all, sofar_found, sofar_done}
+use Rattle.run_slot_search.proofs.SearchLaws.{sofar_start, sofar_stop, sofar_kept, sofar_next, sofar_all, sofar_found, sofar_done}
 use Rattle.run_slot_search.proofs.search.find_slots.Goals as goal
 
 pub loop-i-init : goal.loop-i-init

@@ -1,10 +1,8 @@
-use Prim.Native.Nat.{ℕ, ◌-◌, ◌≤◌}
-use mathlib.Core.Path.{◌≡◌, sym}
-use native.Mathlib.Omega.{arith}
-use borrow.Author.Rules.{rules}
+use Prim.Native.Nat.{◌-◌, ◌≤◌}
+use mathlib.Core.Path.{◌≡◌}
 use lib.ListN.{length}
 use Rattle.rules.specs.Limits.{memory_numbers}
-use Rattle.run_slot_search.proofs.SearchLaws.{Sofar, sofar_start, sofar_stop, sofar_kept, sofar_next, sofar_all, sofar_found, sofar_done}
+use Rattle.run_slot_search.proofs.SearchLaws.{Sofar}
 use Rattle.run_slot_search.proofs.search.find_slots.Given as goal
 
 abbrev pub invariant-loop-i : goal.invariant-loop-i

@@ -1,5 +1,4 @@
 use mathlib.Core.Path.{sym, ◌∙◌}
-use borrow.Author.Rules.{rules}
 use Rattle.run_slot_search.proofs.SearchLaws.{named_unlike, named_like}
 use Rattle.run_slot_search.proofs.search.named.Goals as goal
 

@@ -1,10 +1,6 @@
-use Prim.Native.Nat.{◌+◌, ◌-◌, ◌≤◌}
-use mathlib.Core.Path.{◌≡◌, sym, ◌∙◌}
+use mathlib.Core.Path.{sym, ◌∙◌}
 use native.Mathlib.Omega.{arith}
 use borrow.Author.Rules.{rules}
-use Rattle.rules.specs.Bytes.{part, index_of}
-use Rattle.rules.specs.Slots.{slot_of}
-use Rattle.run_slot_search.specs.Search.{names_from}
 use Rattle.run_slot_search.proofs.SearchLaws.{find-start, find_hit, find-next, find-end}
 use Rattle.run_slot_search.proofs.search.slot_of.Goals as goal
 

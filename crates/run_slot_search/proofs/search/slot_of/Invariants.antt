@@ -1,11 +1,8 @@
 use Prim.Native.Nat.{◌+◌, ◌-◌, ◌≤◌}
-use mathlib.Core.Path.{◌≡◌, sym, ◌∙◌}
-use native.Mathlib.Omega.{arith}
-use borrow.Author.Rules.{rules}
+use mathlib.Core.Path.{◌≡◌}
 use Rattle.rules.specs.Bytes.{part, index_of}
 use Rattle.rules.specs.Slots.{slot_of}
 use Rattle.run_slot_search.specs.Search.{names_from}
-use Rattle.run_slot_search.proofs.SearchLaws.{find-start, find_hit, find-next, find-end}
 use Rattle.run_slot_search.proofs.search.slot_of.Given as goal
 
 abbrev pub invariant-loop-k : goal.invariant-loop-k

@@ -1,10 +1,5 @@
-use Prim.Native.Nat.{◌-◌, ◌≤◌}
-use mathlib.Core.Path.{◌≡◌, refl, sym, ◌∙◌}
+use mathlib.Core.Path.{refl, sym, ◌∙◌}
 use native.Mathlib.Omega.{arith}
-use borrow.Author.Rules.{rules}
-use borrow.Author.Tests.{not-true, not-false}
-use Rattle.rules.specs.Slots.{all_good}
-use Rattle.run_slot_search.specs.Search.{slots_from}
 use Rattle.run_slot_search.proofs.SearchLaws.{good_miss, good-next, good-end}
 use Rattle.run_slot_search.proofs.whole.all_good.Goals as goal
 
@@ -12,10 +7,10 @@ pub loop-k-init : goal.loop-k-init
 loop-k-init c = (omega arith, refl)
 
 pub returns-then-not-good_slot : goal.returns-then-not-good_slot
-returns-then-not-good_slot c = sym (c.loop-k.invariant.1 ∙ good_miss _ _ _ (omega arith) (sym c.good_slot.ensures ∙ not-true _ c.if-not-good_slot.true))
+returns-then-not-good_slot c = sym (c.loop-k.invariant.1 ∙ good_miss _ _ _ (omega arith) (sym c.good_slot.ensures ∙ c.if-not-good_slot.true))
 
 pub loop-k-preserved : goal.loop-k-preserved
-loop-k-preserved c = (omega arith, c.loop-k.invariant.1 ∙ good-next _ _ _ (omega arith) (sym c.good_slot.ensures ∙ not-false _ c.if-not-good_slot.false))
+loop-k-preserved c = (omega arith, c.loop-k.invariant.1 ∙ good-next _ _ _ (omega arith) (sym c.good_slot.ensures ∙ c.if-not-good_slot.false))
 
 pub returns : goal.returns
 returns c = sym (c.loop-k.invariant.1 ∙ good-end _ _ _ (omega arith))

@@ -1,11 +1,7 @@
 use Prim.Native.Nat.{◌-◌, ◌≤◌}
-use mathlib.Core.Path.{◌≡◌, refl, sym, ◌∙◌}
-use native.Mathlib.Omega.{arith}
-use borrow.Author.Rules.{rules}
-use borrow.Author.Tests.{not-true, not-false}
+use mathlib.Core.Path.{◌≡◌}
 use Rattle.rules.specs.Slots.{all_good}
 use Rattle.run_slot_search.specs.Search.{slots_from}
-use Rattle.run_slot_search.proofs.SearchLaws.{good_miss, good-next, good-end}
 use Rattle.run_slot_search.proofs.whole.all_good.Given as goal
 
 abbrev pub invariant-loop-k : goal.invariant-loop-k

@@ -1,11 +1,8 @@
 use Prim.Native.Nat.{◌+◌, ◌-◌, ◌≤◌, ◌<◌}
-use mathlib.Core.Path.{◌≡◌, refl, sym, ap, ◌∙◌}
-use native.Mathlib.Omega.{arith}
-use borrow.Author.Rules.{rules}
-use Rattle.rules.specs.Bytes.{Bytes, same, member}
+use mathlib.Core.Path.{◌≡◌}
+use Rattle.rules.specs.Bytes.{member}
 use Rattle.rules.specs.Slots.{slot_at}
 use Rattle.run_slot_search.specs.Search.{names_from}
-use Rattle.run_slot_search.proofs.SearchLaws.{short-at, id-part, member_hit, member-next, member-end}
 use Rattle.run_slot_search.proofs.whole.named_again.Given as goal
 
 abbrev pub invariant-loop-k : goal.invariant-loop-k

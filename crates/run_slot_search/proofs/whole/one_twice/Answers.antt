@@ -1,9 +1,5 @@
-use Prim.Native.Nat.{◌-◌, ◌≤◌}
-use mathlib.Core.Path.{◌≡◌, refl, sym, ◌∙◌}
+use mathlib.Core.Path.{refl, sym, ◌∙◌}
 use native.Mathlib.Omega.{arith}
-use borrow.Author.Rules.{rules}
-use Rattle.rules.specs.Bytes.{repeats}
-use Rattle.run_slot_search.specs.Search.{names_from}
 use Rattle.run_slot_search.proofs.SearchLaws.{twice_hit, twice_next, twice_end}
 use Rattle.run_slot_search.proofs.whole.one_twice.Goals as goal
 

@@ -1,10 +1,7 @@
 use Prim.Native.Nat.{◌-◌, ◌≤◌}
-use mathlib.Core.Path.{◌≡◌, refl, sym, ◌∙◌}
-use native.Mathlib.Omega.{arith}
-use borrow.Author.Rules.{rules}
+use mathlib.Core.Path.{◌≡◌}
 use Rattle.rules.specs.Bytes.{repeats}
 use Rattle.run_slot_search.specs.Search.{names_from}
-use Rattle.run_slot_search.proofs.SearchLaws.{twice_hit, twice_next, twice_end}
 use Rattle.run_slot_search.proofs.whole.one_twice.Given as goal
 
 abbrev pub invariant-loop-i : goal.invariant-loop-i
