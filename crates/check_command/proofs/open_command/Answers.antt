@@ -22,7 +22,7 @@ returns-then-not-has_section c =
     (number_went _ _ _ _ c.number-c.ensures c.if-refusal-ne0.false)
     _ (sym c.look_up.ensures ∙ c.in-Command.is)
     c.requires.2
-    (sym c.has_section.ensures ∙ not-true _ c.if-not-has_section.true)
+    (sym c.has_section.ensures ∙ c.if-not-has_section.true)
 
 pub returns-then-most-commands : goal.returns-then-most-commands
 returns-then-most-commands c =
@@ -31,7 +31,7 @@ returns-then-most-commands c =
     (number_went _ _ _ _ c.number-c.ensures c.if-refusal-ne0.false)
     _ (sym c.look_up.ensures ∙ c.in-Command.is)
     c.requires.2
-    (sym c.has_section.ensures ∙ not-false _ c.if-not-has_section.false) (omega (arith, c.if-most-commands.true))
+    (sym c.has_section.ensures ∙ c.if-not-has_section.false) (omega (arith, c.if-most-commands.true))
 
 pub returns : goal.returns
 returns c =
@@ -39,4 +39,4 @@ returns c =
     (number_went _ _ _ _ c.number-c.ensures c.if-refusal-ne0.false)
     _ (sym c.look_up.ensures ∙ c.in-Command.is)
     c.requires.2
-    (sym c.has_section.ensures ∙ not-false _ c.if-not-has_section.false) (omega (arith, c.if-most-commands.false)) _ c.read_argument.ensures
+    (sym c.has_section.ensures ∙ c.if-not-has_section.false) (omega (arith, c.if-most-commands.false)) _ c.read_argument.ensures
