@@ -1,4 +1,6 @@
 // The parameters of a command, as a program writes them: key, length, value.
+#![tactic(auto)]
+
 ghost use Rattle.std.specs.Prelude.{◌≡◌, ℕ, ◌+◌, ◌-◌, ◌≤◌, ◌<◌, length};
 ghost use Rattle.rules.specs.Bytes.{part};
 ghost use Rattle.rules.specs.ProgramFormat.{entry_size, source_bytes, size_bytes};

@@ -1,5 +1,4 @@
 use native.Mathlib.Omega.{arith}
-use borrow.Author.Rules.{rules}
 use Rattle.program_parameters.proofs.EntryLaws.{step_in}
 use Rattle.program_parameters.proofs.ParamLaws.{refuses, no_uri, source_pre, no_source, source-step, digest_pre, no_digest, size_pre, far_source, ended}
 use Rattle.program_parameters.proofs.params_fit.Goals as goal

@@ -1,5 +1,4 @@
 use native.Mathlib.Omega.{arith}
-use borrow.Author.Rules.{rules}
 use borrow.Author.Tests.{eq-eqb}
 use Rattle.program_parameters.proofs.EntryLaws.{source-set}
 use Rattle.program_parameters.proofs.source_of.Goals as goal

@@ -29,3 +29,9 @@ place_of-requires-2 c =
 pub size_of-requires : goal.size_of-requires
 size_of-requires c =
     step_in _ _ _ _ _ _ _ (size-taken _ _ _ c.requires _ c.past-a.ensures _ c.past-b.ensures _ c.past-c.ensures) c.requires.fits
+
+pub returns : goal.returns
+returns c x =
+    all-taken _ _ _ x _ c.past-a.ensures _ c.past-b.ensures _ c.past-c.ensures
+    _ _ _ _ _ c.place_of.ensures c.length_of.ensures
+    c.source_of.ensures c.place_of-2.ensures c.size_of.ensures
