@@ -1,4 +1,6 @@
 // Numbers as text in lent room: in decimal, behind spaces up to a width, and bytes in hexadecimal.
+#![tactic(auto)]
+
 ghost use Rattle.std.specs.Prelude.{◌≡◌, [], ◌∷◌, ◌<◌, length};
 ghost use Rattle.text.specs.Text.{Writes, decimal, padded, hex};
 ghost use Rattle.text.specs.Text.{digits as Text·digits, digit as Text·digit};

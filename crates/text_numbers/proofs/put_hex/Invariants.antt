@@ -1,9 +1,6 @@
 use Prim.Native.Nat.{◌-◌, ◌≤◌}
-use borrow.Author.Rules.{rules}
 use lib.ListN.{length, take}
 use Rattle.text.specs.Text.{Wrote, hex}
-use Rattle.text.proofs.TextLaws.{wrote-length, each_next, each_all}
-use Rattle.text_numbers.proofs.NumberLaws.{hex-append, hex-none}
 use Rattle.text_numbers.proofs.put_hex.Given as goal
 
 abbrev pub invariant-loop-i : goal.invariant-loop-i

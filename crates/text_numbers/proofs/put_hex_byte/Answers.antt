@@ -1,4 +1,3 @@
-use borrow.Author.Rules.{rules}
 use Rattle.text.specs.Text.{hex}
 use Rattle.text.proofs.TextLaws.{wrote_then}
 use Rattle.text_numbers.proofs.put_hex_byte.Goals as goal
