@@ -1,4 +1,6 @@
 // What lines of text are made of, in lent room: numbers behind a label, and parts of lent bytes in hexadecimal. A part is cut where the bytes end.
+#![tactic(auto)]
+
 ghost use Rattle.std.specs.Prelude.{◌≡◌, [], ◌∷◌, ◌≤◌, length};
 ghost use Rattle.text.specs.Text.{Writes, hex};
 ghost use Rattle.text_pieces.specs.Pieces.{between, spaced, labelled, counted, coded};

@@ -1,4 +1,3 @@
-use borrow.Author.Rules.{rules}
 use mathlib.Core.List.{◌++◌, append-nil}
 use Rattle.text.proofs.TextLaws.{wrote_then}
 use Rattle.text_pieces.specs.Pieces.{labelled, counted}

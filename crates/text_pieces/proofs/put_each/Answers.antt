@@ -1,7 +1,4 @@
-use Prim.Native.Nat.{◌-◌, ◌≤◌}
 use borrow.Author.Rules.{rules}
-use lib.ListN.{length, take}
-use Rattle.text.specs.Text.{Wrote}
 use Rattle.text.proofs.TextLaws.{wrote-length, each_next, each_all}
 use Rattle.text_pieces.specs.Pieces.{spaced}
 use Rattle.text_pieces.proofs.PieceLaws.{spaced-append, spaced-none}

@@ -1,10 +1,7 @@
 use Prim.Native.Nat.{◌-◌, ◌≤◌}
-use borrow.Author.Rules.{rules}
 use lib.ListN.{length, take}
 use Rattle.text.specs.Text.{Wrote}
-use Rattle.text.proofs.TextLaws.{wrote-length, each_next, each_all}
 use Rattle.text_pieces.specs.Pieces.{spaced}
-use Rattle.text_pieces.proofs.PieceLaws.{spaced-append, spaced-none}
 use Rattle.text_pieces.proofs.put_each.Given as goal
 
 abbrev pub invariant-loop-i : goal.invariant-loop-i

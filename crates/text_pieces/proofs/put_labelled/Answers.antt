@@ -1,4 +1,3 @@
-use borrow.Author.Rules.{rules}
 use Rattle.text.proofs.TextLaws.{wrote_then}
 use Rattle.text_pieces.specs.Pieces.{labelled}
 use Rattle.text_pieces.proofs.put_labelled.Goals as goal

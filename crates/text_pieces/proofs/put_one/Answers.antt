@@ -1,4 +1,3 @@
-use borrow.Author.Rules.{rules}
 use mathlib.Core.List.{[], ◌∷◌, append-nil}
 use Rattle.text.specs.Text.{hex}
 use Rattle.text.proofs.TextLaws.{wrote_then}

@@ -1,4 +1,3 @@
-use borrow.Author.Rules.{rules}
 use Rattle.text_pieces.specs.Pieces.{between}
 use Rattle.text_pieces.proofs.put_spaced.Goals as goal
 
