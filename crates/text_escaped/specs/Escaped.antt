@@ -1,6 +1,6 @@
 -- A name as it is shown: control bytes and the backslash are escaped.
 use Rattle.std.specs.Prelude.{ℕ, cond, [], ◌∷◌, ◌++◌, eqb, ltb}
-use Rattle.text.specs.Text.{Bytes, ascii, hex}
+use Rattle.text.specs.Text.{Bytes, hex}
 
 -- '\' and 'x', and two digits
 abbrev pub escape : ℕ → Bytes

@@ -1,4 +1,6 @@
 // A name as it is shown, in lent room: control bytes and the backslash are escaped.
+#![tactic(auto)]
+
 ghost use Rattle.text.specs.Text.{Writes};
 ghost use Rattle.text_escaped.specs.Escaped.{escape, escaped_byte, escaped};
 

@@ -1,4 +1,3 @@
-use borrow.Author.Rules.{rules}
 use Rattle.text.proofs.TextLaws.{wrote_then}
 use Rattle.text_escaped.specs.Escaped.{escape}
 use Rattle.text_escaped.proofs.put_escape.Goals as goal

@@ -1,7 +1,4 @@
-use Prim.Native.Nat.{◌-◌, ◌≤◌}
 use borrow.Author.Rules.{rules}
-use lib.ListN.{length, take}
-use Rattle.text.specs.Text.{Wrote}
 use Rattle.text.proofs.TextLaws.{wrote-length, each_next, each_all}
 use Rattle.text_escaped.specs.Escaped.{escaped}
 use Rattle.text_escaped.proofs.EscapeLaws.{escaped-append, escaped-one, escaped-none}
@@ -11,12 +8,11 @@ pub loop-i-init : goal.loop-i-init
 loop-i-init c = (search rules, escaped-none _ _)
 
 pub loop-i-preserved : goal.loop-i-preserved
-loop-i-preserved c =
-    (
-      search rules,
-      each_next escaped escaped-append c.args.s.now c.loop-i.i (search rules) c.loop-i.invariant.1
-          (rw (← escaped-one _) at c.put_escaped_byte-to.ensures),
-    )
+loop-i-preserved c = (
+  search rules,
+  each_next escaped escaped-append c.args.s.now c.loop-i.i (search rules) c.loop-i.invariant.1
+      (rw (← escaped-one _) at c.put_escaped_byte-to.ensures),
+)
 
 pub shape_of-room : goal.shape_of-room
 shape_of-room c = wrote-length c.loop-i.invariant.1

@@ -1,10 +1,7 @@
 use Prim.Native.Nat.{◌-◌, ◌≤◌}
-use borrow.Author.Rules.{rules}
 use lib.ListN.{length, take}
 use Rattle.text.specs.Text.{Wrote}
-use Rattle.text.proofs.TextLaws.{wrote-length, each_next, each_all}
 use Rattle.text_escaped.specs.Escaped.{escaped}
-use Rattle.text_escaped.proofs.EscapeLaws.{escaped-append, escaped-one, escaped-none}
 use Rattle.text_escaped.proofs.put_escaped.Given as goal
 
 abbrev pub invariant-loop-i : goal.invariant-loop-i

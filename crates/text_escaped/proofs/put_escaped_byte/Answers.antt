@@ -1,4 +1,3 @@
-use borrow.Author.Rules.{rules}
 use borrow.Author.Tests.{eq-eqb, le-ltb, lt-ltb, ne_eqb}
 use Rattle.text_escaped.specs.Escaped.{escaped_byte}
 use Rattle.text_escaped.proofs.put_escaped_byte.Goals as goal
