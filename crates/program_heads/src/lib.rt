@@ -1,4 +1,6 @@
 // The head of a record in a program: where the record ends, and whether it is a jump that is well formed.
+#![tactic(auto)]
+
 ghost use Rattle.std.specs.Prelude.{◌≡◌, ◌+◌, ◌≤◌, length};
 ghost use Rattle.rules.specs.ProgramFormat.{record_size};
 ghost use Rattle.program_heads.specs.Heads.{record_end, jump_fits};

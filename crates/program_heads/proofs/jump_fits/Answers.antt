@@ -1,5 +1,4 @@
 use native.Mathlib.Omega.{arith}
-use borrow.Author.Rules.{rules}
 use Rattle.rules.specs.ProgramFormat.{place_from, target_from}
 use Rattle.program_heads.proofs.HeadLaws.{two_is, jump-code, jump-component, jump-place, jump-size, jump_back, jump-on}
 use Rattle.program_heads.proofs.jump_fits.Goals as goal

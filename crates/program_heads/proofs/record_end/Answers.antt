@@ -1,5 +1,4 @@
 use native.Mathlib.Omega.{arith}
-use borrow.Author.Rules.{rules}
 use Rattle.rules.specs.ProgramFormat.{argument_from}
 use Rattle.program_heads.proofs.HeadLaws.{two_is, end_short, end_mark, end_mark_2, end-long, end_is}
 use Rattle.program_heads.proofs.record_end.Goals as goal
