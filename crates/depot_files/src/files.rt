@@ -108,6 +108,7 @@ pub fn store(rt: &impl Files, name: &[u8], bytes: &[u8], streams: Streams, statu
 }
 
 // Where the report goes beside a file that is written: not to standard output where the file does.
+#[tactic(auto, unfolding(crate::specs::Files::report_streams))]
 pub fn beside(name: &[u8], streams: Streams) -> Streams
     ensures { result ≡ report_streams name.now streams }
 {
