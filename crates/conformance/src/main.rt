@@ -1,9 +1,13 @@
 // Reads cases from standard input to its end, and writes the line of each to standard output. A case is its length in two bytes
 // and that many bytes.
+#![tactic(auto)]
+
 ghost use Rattle.std.specs.Prelude.{◌≡◌, length};
 
+use buffers::{large_buffer, read_full};
 use byte_buffer::two;
-use libc::{STDIN_FILENO, STDOUT_FILENO};
+use std::io;
+use std::io::Read;
 
 // Room for any line: a program of 65,535 bytes in hexadecimal, and the words around it.
 fn room() -> [u8; 140000]
@@ -12,38 +16,41 @@ fn room() -> [u8; 140000]
     [0; 140000]
 }
 
-// Writes the line of a case; false where it cannot be written.
-fn write_line(case: &[u8]) -> bool {
+// Writes the line of a case.
+fn write_line(rt: &impl Print, case: &[u8]) -> io::Result<()> {
     let mut line = room();
     let to = conformance_cases::answer(case, &mut line);
-    io::write_all(STDOUT_FILENO, &line[..to])
+    rt.write_all(&line[..to])
 }
 
 // Reads a case and answers it. One that the input cuts short is answered as an empty one is.
-fn answer_case(case: &mut [u8]) -> bool {
-    let got = io::read_full(STDIN_FILENO, case);
+fn answer_case(rt: &impl Print, input: &mut impl Read, case: &mut [u8]) -> io::Result<()> {
+    let got = read_full(input, case)?;
     if got < case.len() {
-        return write_line(b"");
+        return write_line(rt, b"");
     }
-    write_line(case)
+    write_line(rt, case)
 }
 
 // Answers the next case; false at the end of the input.
-fn answer_next() -> bool {
+fn answer_next(rt: &impl Print, input: &mut impl Read) -> io::Result<bool> {
     let mut head = [0u8; 2];
-    let got = io::read_full(STDIN_FILENO, &mut head);
-    if got == 0 {
-        return false;
+    if read_full(input, &mut head)? == 0 {
+        return Ok(false);
     }
     let n = two(&head, 0);
-    let mut case = io::large_buffer();
-    answer_case(&mut case[..n])
+    let mut case = large_buffer();
+    answer_case(rt, input, &mut case[..n])?;
+    Ok(true)
 }
 
-// Nothing says that the input ends, so the loop counts down from a number that no input reaches.
-fn main() {
-    let mut left = u64::MAX;
-    while left > 0 && answer_next() {
-        left -= 1;
+// Nothing says that the input ends, so the loop counts to a number that no input reaches.
+fn main(rt: HostRuntime) -> io::Result<()> {
+    let mut input = rt.reader();
+    for _ in 0..u64::MAX {
+        if !answer_next(&rt, &mut input)? {
+            break;
+        }
     }
+    Ok(())
 }

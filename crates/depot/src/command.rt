@@ -8,14 +8,15 @@ use depot_messages::Message;
 use depot_status::DONE;
 use depot_usage::{Job, fits, job_of};
 use depot_words::{word_at, word_count};
+use std::fs::Files;
 
 // The file of word 1.
-fn view(view: View, words: &[u8], streams: Streams) -> usize {
-    view_file(view, word_at(words, 1), streams)
+fn view(rt: &(impl Files + Input), view: View, words: &[u8], streams: Streams) -> usize {
+    view_file(rt, view, word_at(words, 1), streams)
 }
 
-fn newer(words: &[u8], streams: Streams) -> usize {
-    newer_file(word_at(words, 1), word_at(words, 2), streams)
+fn newer(rt: &(impl Files + Input), words: &[u8], streams: Streams) -> usize {
+    newer_file(rt, word_at(words, 1), word_at(words, 2), streams)
 }
 
 // What is told of the tool itself.
@@ -29,15 +30,15 @@ fn refuse(message: Message, words: &[u8], n: usize, streams: Streams) -> usize {
 }
 
 // Any job but a batch, which the words fit.
-fn run_job(job: Job, words: &[u8], streams: Streams) -> usize {
+fn run_job(rt: &(impl Files + Input), job: Job, words: &[u8], streams: Streams) -> usize {
     match job {
-        Job::Check => view(View::Check, words, streams),
-        Job::Show => view(View::Show, words, streams),
-        Job::Newer => newer(words, streams),
-        Job::Translate => translate_file(words, streams),
-        Job::List => view(View::List, words, streams),
-        Job::Run => run_file(words, streams),
-        Job::RunProgram => run_program_file(words, streams),
+        Job::Check => view(rt, View::Check, words, streams),
+        Job::Show => view(rt, View::Show, words, streams),
+        Job::Newer => newer(rt, words, streams),
+        Job::Translate => translate_file(rt, words, streams),
+        Job::List => view(rt, View::List, words, streams),
+        Job::Run => run_file(rt, words, streams),
+        Job::RunProgram => run_program_file(rt, words, streams),
         Job::Batch => refuse(Message::Nested, words, 0, streams),
         Job::Help => tell_of(Message::Help, streams),
         Job::Version => tell_of(Message::Version, streams),
@@ -46,14 +47,14 @@ fn run_job(job: Job, words: &[u8], streams: Streams) -> usize {
 }
 
 // Any command but a batch; its status.
-pub(crate) fn run_command(words: &[u8], streams: Streams) -> usize {
+pub(crate) fn run_command(rt: &(impl Files + Input), words: &[u8], streams: Streams) -> usize {
     let count = word_count(words);
     if count == 0 {
         return fault(streams.err, Message::Help, b"", 0);
     }
     let job = job_of(word_at(words, 0));
     if fits(job, count) {
-        return run_job(job, words, streams);
+        return run_job(rt, job, words, streams);
     }
     match job {
         Job::Unknown => refuse(Message::Unknown, words, 0, streams),

@@ -1,9 +1,11 @@
 // What is told of files: check, show and list; and newer.
+use buffers::large_buffer;
 use depot_files::files::{is_standard, load};
 use depot_files::streams::{Streams, fault, page, print};
 use depot_inspect::{View, newest_status, put_newest, put_view, view_status};
 use depot_messages::Message;
 use depot_status::FAULT;
+use std::fs::Files;
 
 fn view_bytes(view: View, bytes: &[u8], streams: Streams) -> usize {
     let mut text = page();
@@ -11,9 +13,14 @@ fn view_bytes(view: View, bytes: &[u8], streams: Streams) -> usize {
     print(streams, &text, to, view_status(view, bytes))
 }
 
-pub(crate) fn view_file(view: View, name: &[u8], streams: Streams) -> usize {
-    let mut file = io::large_buffer();
-    let loaded = load(name, &mut file, streams.err);
+pub(crate) fn view_file(
+    rt: &(impl Files + Input),
+    view: View,
+    name: &[u8],
+    streams: Streams,
+) -> usize {
+    let mut file = large_buffer();
+    let loaded = load(rt, name, &mut file, streams.err);
     if !loaded.ok {
         return FAULT;
     }
@@ -27,9 +34,9 @@ fn newer_bytes(first: &[u8], second: &[u8], streams: Streams) -> usize {
     print(streams, &text, to, newest_status(first, second))
 }
 
-fn newer_than(first: &[u8], other: &[u8], streams: Streams) -> usize {
-    let mut second = io::large_buffer();
-    let loaded = load(other, &mut second, streams.err);
+fn newer_than(rt: &(impl Files + Input), first: &[u8], other: &[u8], streams: Streams) -> usize {
+    let mut second = large_buffer();
+    let loaded = load(rt, other, &mut second, streams.err);
     if !loaded.ok {
         return FAULT;
     }
@@ -45,15 +52,20 @@ pub(crate) fn read_twice(name: &[u8], other: &[u8]) -> bool {
     false
 }
 
-pub(crate) fn newer_file(name: &[u8], other: &[u8], streams: Streams) -> usize {
+pub(crate) fn newer_file(
+    rt: &(impl Files + Input),
+    name: &[u8],
+    other: &[u8],
+    streams: Streams,
+) -> usize {
     if read_twice(name, other) {
         return fault(streams.err, Message::Once, b"", 0);
     }
-    let mut first = io::large_buffer();
-    let loaded = load(name, &mut first, streams.err);
+    let mut first = large_buffer();
+    let loaded = load(rt, name, &mut first, streams.err);
     if !loaded.ok {
         return FAULT;
     }
     let n = loaded.n;
-    newer_than(&first[..n], other, streams)
+    newer_than(rt, &first[..n], other, streams)
 }

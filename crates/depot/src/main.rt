@@ -1,5 +1,8 @@
 // The depot tool: checks, shows, compares and translates files of envelopes, lists programs, and runs both on described devices.
-ghost use Rattle.io.specs.Counts.{IsPrefixLen};
+#![tactic(auto)]
+
+ghost use Rattle.std.specs.Prelude.{IfSome};
+ghost use Rattle.std.specs.Counts.{IsPrefixLen};
 
 mod batch;
 mod command;
@@ -7,74 +10,76 @@ mod inspection;
 mod runs;
 mod translation;
 
+use buffers::{buffer, large_buffer};
 use byte_buffer::is;
 use depot_files::files::beside;
-use depot_files::streams::{Streams, fitted, tell};
+use depot_files::streams::{Stream, Streams, fitted, tell};
 use depot_messages::Message;
 use depot_usage::{Job, fits, job_of};
 use depot_words::{later_words, word_at, word_count};
-use libc::{STDERR_FILENO, STDOUT_FILENO};
+use std::env::{Env, FillError};
+use std::fs::Files;
 use text::{put, put_byte};
 
-// Word i, at the start of the buffer; of one that is too long for a path, as much as makes it so.
-fn read_arg(i: usize, word: &mut [u8]) -> usize
-    ensures { IsPrefixLen result word.new }
+// Word i, at the start of the buffer, or none behind the last; of one that is too long for a path, as much as makes it so.
+fn read_arg(rt: &impl Env, i: usize, word: &mut [u8]) -> Option<usize>
+    ensures { IfSome result (λ n. IsPrefixLen n word.new) }
 {
-    let n = os::arg(i, word);
-    if os::errno() == libc::ENAMETOOLONG {
-        return fitted(word, word.len());
+    match rt.arg(i, word) {
+        Ok(n) => Some(fitted(word, n)),
+        Err(FillError::TooLong) => Some(fitted(word, word.len())),
+        Err(FillError::NotPresent) => None,
     }
-    n
 }
 
-fn put_arg(words: &mut [u8], at: usize, i: usize) -> usize {
-    let mut word = io::buffer();
-    let n = read_arg(i, &mut word);
+fn put_arg(rt: &impl Env, words: &mut [u8], at: usize, i: usize) -> Option<usize> {
+    let mut word = buffer();
+    let n = read_arg(rt, i, &mut word)?;
     let to = put(words, at, &word[..n]);
-    put_byte(words, to, 0)
+    Some(put_byte(words, to, 0))
 }
 
 // The words of the command line, without the program's own name.
-fn gather(words: &mut [u8]) -> usize {
-    let count = os::arg_count();
+fn gather(rt: &impl Env, words: &mut [u8]) -> usize {
     let mut to = 0;
-    let mut i = 1;
-    while i < count {
-        to = put_arg(words, to, i);
-        i += 1;
+    for i in 1..usize::MAX {
+        let Some(next) = put_arg(rt, words, to, i) else {
+            break;
+        };
+        to = next;
     }
     to
 }
 
-fn run_words(words: &[u8], streams: Streams) -> usize {
+fn run_words(rt: &(impl Files + Input), words: &[u8], streams: Streams) -> usize {
     match job_of(word_at(words, 0)) {
         Job::Batch => {
             if fits(Job::Batch, word_count(words)) {
-                return batch::batch_file(word_at(words, 1), streams);
+                return batch::batch_file(rt, word_at(words, 1), streams);
             }
-            command::run_command(words, streams)
+            command::run_command(rt, words, streams)
         }
-        _ => command::run_command(words, streams),
+        _ => command::run_command(rt, words, streams),
     }
 }
 
 // Before the command may stand `--status`: its status is then the last line on standard error.
-fn run_told(words: &[u8], streams: Streams) {
+fn run_told(rt: &(impl Files + Input), words: &[u8], streams: Streams) {
     if is(word_at(words, 0), b"--status") {
-        let status = run_words(later_words(words), streams);
+        let status = run_words(rt, later_words(words), streams);
         tell(beside(b"-", streams), Message::Status, b"", status, status);
         return;
     }
-    run_words(words, streams);
+    run_words(rt, words, streams);
 }
 
-fn main() {
+fn main(rt: HostRuntime) {
     let streams = Streams {
-        out: STDOUT_FILENO,
-        err: STDERR_FILENO,
+        out: Stream::Output(rt.stdout()),
+        err: Stream::Error(rt.stderr()),
     };
-    let mut words = io::large_buffer();
-    let to = gather(&mut words);
+    let mut words = large_buffer();
+    let to = gather(&rt, &mut words);
     let n = fitted(&words, to);
-    run_told(&words[..n], streams);
+    run_told(&rt, &words[..n], streams);
 }

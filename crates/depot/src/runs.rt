@@ -3,6 +3,7 @@ ghost use Rattle.std.specs.Prelude.{◌≡◌, length};
 ghost use Rattle.rules.specs.Limits.{limits};
 
 use crate::inspection::read_twice;
+use buffers::large_buffer;
 use byte_buffer::is;
 use depot_files::files::{beside, load, store};
 use depot_files::streams::{Streams, fault, fault_in, fitted, page, print};
@@ -20,6 +21,7 @@ use device_writing::put_device;
 use pitvorgas::pitvorgas_translate;
 use pitvorgas_answers::RunAnswer;
 use rules::controller::Controller;
+use std::fs::Files;
 use text::put;
 
 fn trace_room() -> [u8; Controller::TRACE_BYTES]
@@ -38,7 +40,7 @@ fn note_envelope(
     answers: &[u8],
     notes: &mut [u8],
 ) {
-    let mut room = io::large_buffer();
+    let mut room = large_buffer();
     let answer = pitvorgas_translate(envelope, boot, &mut room);
     let n = fitted(&room, answer.length);
     note_matches(&room[..n], trace, events, slots, answers, notes);
@@ -97,6 +99,7 @@ fn tell_run(
 
 // Writes the device and slots after a run that was not refused as a description, where a file is named.
 fn store_device(
+    rt: &impl Files,
     then: &[u8],
     d: Scenario,
     answer: RunAnswer,
@@ -110,14 +113,15 @@ fn store_device(
     if answer.refusal != 0 {
         return status;
     }
-    let mut text = io::large_buffer();
+    let mut text = large_buffer();
     let to = put_device(&mut text, 0, d, answer.number, slots);
     let n = fitted(&text, to);
-    store(then, &text[..n], streams, status)
+    store(rt, then, &text[..n], streams, status)
 }
 
 // Runs the bytes on a device, tells what happened, and writes what is left.
 fn run_device(
+    rt: &impl Files,
     what: Run,
     bytes: &[u8],
     d: Scenario,
@@ -138,11 +142,12 @@ fn run_device(
         &notes,
         beside(then, streams),
     );
-    store_device(then, d, answer, slots, status, streams)
+    store_device(rt, then, d, answer, slots, status, streams)
 }
 
 // Reads the description, and runs on the device that it describes.
 fn run_described(
+    rt: &impl Files,
     what: Run,
     bytes: &[u8],
     description: &[u8],
@@ -160,6 +165,7 @@ fn run_described(
     let k = fitted(&slots, d.slots);
     let m = fitted(&answers, d.answers);
     run_device(
+        rt,
         what,
         bytes,
         d,
@@ -170,54 +176,68 @@ fn run_described(
     )
 }
 
-fn run_bytes(what: Run, bytes: &[u8], device: &[u8], then: &[u8], streams: Streams) -> usize {
-    let mut description = io::large_buffer();
-    let loaded = load(device, &mut description, streams.err);
+fn run_bytes(
+    rt: &(impl Files + Input),
+    what: Run,
+    bytes: &[u8],
+    device: &[u8],
+    then: &[u8],
+    streams: Streams,
+) -> usize {
+    let mut description = large_buffer();
+    let loaded = load(rt, device, &mut description, streams.err);
     if !loaded.ok {
         return FAULT;
     }
     let n = loaded.n;
-    run_described(what, bytes, &description[..n], device, then, streams)
+    run_described(rt, what, bytes, &description[..n], device, then, streams)
 }
 
 // The files of two names: what is run, and the description.
-fn run_files(what: Run, file: &[u8], device: &[u8], then: &[u8], streams: Streams) -> usize {
+fn run_files(
+    rt: &(impl Files + Input),
+    what: Run,
+    file: &[u8],
+    device: &[u8],
+    then: &[u8],
+    streams: Streams,
+) -> usize {
     if read_twice(file, device) {
         return fault(streams.err, Message::Once, b"", 0);
     }
-    let mut bytes = io::large_buffer();
-    let loaded = load(file, &mut bytes, streams.err);
+    let mut bytes = large_buffer();
+    let loaded = load(rt, file, &mut bytes, streams.err);
     if !loaded.ok {
         return FAULT;
     }
     let n = loaded.n;
-    run_bytes(what, &bytes[..n], device, then, streams)
+    run_bytes(rt, what, &bytes[..n], device, then, streams)
 }
 
 // The words behind the job and its group: a file, a description and, if there are more, `--then` and a file.
-fn run_words(what: Run, words: &[u8], streams: Streams) -> usize {
+fn run_words(rt: &(impl Files + Input), what: Run, words: &[u8], streams: Streams) -> usize {
     let file = word_at(words, 0);
     let device = word_at(words, 1);
     if word_count(words) == 2 {
-        return run_files(what, file, device, b"", streams);
+        return run_files(rt, what, file, device, b"", streams);
     }
     let option = word_at(words, 2);
     if !is(option, b"--then") {
         return fault(streams.err, Message::Option, option, 0);
     }
-    run_files(what, file, device, word_at(words, 3), streams)
+    run_files(rt, what, file, device, word_at(words, 3), streams)
 }
 
-pub(crate) fn run_file(words: &[u8], streams: Streams) -> usize {
+pub(crate) fn run_file(rt: &(impl Files + Input), words: &[u8], streams: Streams) -> usize {
     let group = word_at(words, 1);
     let rest = later_words(later_words(words));
     match asked_group(group) {
-        Asked::Install => run_words(Run::Install, rest, streams),
-        Asked::Boot => run_words(Run::Boot, rest, streams),
+        Asked::Install => run_words(rt, Run::Install, rest, streams),
+        Asked::Boot => run_words(rt, Run::Boot, rest, streams),
         Asked::Unknown => fault(streams.err, Message::Group, group, 0),
     }
 }
 
-pub(crate) fn run_program_file(words: &[u8], streams: Streams) -> usize {
-    run_words(Run::Program, later_words(words), streams)
+pub(crate) fn run_program_file(rt: &(impl Files + Input), words: &[u8], streams: Streams) -> usize {
+    run_words(rt, Run::Program, later_words(words), streams)
 }

@@ -1,4 +1,5 @@
 // Translation of a file into a new file.
+use buffers::{buffer, large_buffer};
 use depot_files::files::{beside, load, store};
 use depot_files::streams::{Streams, fault, fitted, page, print};
 use depot_messages::Message;
@@ -8,6 +9,7 @@ use depot_status::{DONE, FAULT, REFUSED};
 use depot_usage::{Asked, asked_group};
 use depot_words::word_at;
 use pitvorgas::pitvorgas_translate;
+use std::fs::Files;
 
 const GROUP: usize = 1;
 
@@ -22,13 +24,13 @@ fn tell_refused(envelope: &[u8], refusal: usize, place: usize, streams: Streams)
 }
 
 fn tell_translated(length: usize, streams: Streams) -> usize {
-    let mut text = io::buffer();
+    let mut text = buffer();
     let to = put_translated(&mut text, 0, length);
     print(streams, &text, to, DONE)
 }
 
-fn store_program(program: &[u8], out: &[u8], streams: Streams) -> usize {
-    let status = store(out, program, streams, DONE);
+fn store_program(rt: &impl Files, program: &[u8], out: &[u8], streams: Streams) -> usize {
+    let status = store(rt, out, program, streams, DONE);
     if status != DONE {
         return status;
     }
@@ -36,31 +38,37 @@ fn store_program(program: &[u8], out: &[u8], streams: Streams) -> usize {
 }
 
 // The program of an envelope goes to the file; a refusal is told, and no file is made.
-fn translate_bytes(envelope: &[u8], boot: bool, out: &[u8], streams: Streams) -> usize {
-    let mut room = io::large_buffer();
+fn translate_bytes(
+    rt: &impl Files,
+    envelope: &[u8],
+    boot: bool,
+    out: &[u8],
+    streams: Streams,
+) -> usize {
+    let mut room = large_buffer();
     let answer = pitvorgas_translate(envelope, boot, &mut room);
     if answer.refusal != 0 {
         return tell_refused(envelope, answer.refusal, answer.place, beside(out, streams));
     }
     let n = fitted(&room, answer.length);
-    store_program(&room[..n], out, streams)
+    store_program(rt, &room[..n], out, streams)
 }
 
-fn translate_load(words: &[u8], boot: bool, streams: Streams) -> usize {
-    let mut file = io::large_buffer();
-    let loaded = load(word_at(words, FILE), &mut file, streams.err);
+fn translate_load(rt: &(impl Files + Input), words: &[u8], boot: bool, streams: Streams) -> usize {
+    let mut file = large_buffer();
+    let loaded = load(rt, word_at(words, FILE), &mut file, streams.err);
     if !loaded.ok {
         return FAULT;
     }
     let n = loaded.n;
-    translate_bytes(&file[..n], boot, word_at(words, OUT), streams)
+    translate_bytes(rt, &file[..n], boot, word_at(words, OUT), streams)
 }
 
-pub(crate) fn translate_file(words: &[u8], streams: Streams) -> usize {
+pub(crate) fn translate_file(rt: &(impl Files + Input), words: &[u8], streams: Streams) -> usize {
     let group = word_at(words, GROUP);
     match asked_group(group) {
-        Asked::Install => translate_load(words, false, streams),
-        Asked::Boot => translate_load(words, true, streams),
+        Asked::Install => translate_load(rt, words, false, streams),
+        Asked::Boot => translate_load(rt, words, true, streams),
         Asked::Unknown => fault(streams.err, Message::Group, group, 0),
     }
 }

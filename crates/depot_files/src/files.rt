@@ -1,15 +1,19 @@
 // Files that the command line names; `-` is standard input, or standard output.
-ghost use Rattle.std.specs.Prelude.{◌≡◌};
+ghost use Rattle.std.specs.Prelude.{◌≡◌, IfOk, IfSome};
+ghost use Rattle.std.specs.Counts.{IsPrefixLen};
 ghost use Rattle.rules.specs.Bytes.{same};
-ghost use Rattle.io.specs.Counts.{IsPrefixLen};
 ghost use Rattle.text.specs.Text.{ascii};
 ghost use Rattle.depot_status.specs.Status.{Told};
 ghost use Rattle.depot_files.specs.Files.{report_streams};
+ghost use Rattle.depot_files.specs.Reads.{ReadsWhole};
 
-use crate::streams::{Streams, fault, fault_of, print};
+use crate::streams::{Stream, Streams, fault, fault_of, print};
+use buffers::read_full;
 use byte_buffer::is;
 use depot_messages::Message;
-use libc::STDIN_FILENO;
+use std::fs::{Files, OpenOptions};
+use std::io::{Error, ErrorKind, Read, Write};
+use std::{fs, io};
 
 // Whether a file was read, and how many bytes it has.
 #[derive(Clone, Copy)]
@@ -25,71 +29,86 @@ pub fn is_standard(name: &[u8]) -> bool
     is(name, b"-")
 }
 
-// The bytes of an open file, if it ends within the buffer.
-fn read_whole(fd: i32, name: &[u8], buf: &mut [u8], err: i32) -> Loaded
-    ensures { IsPrefixLen result.n buf.new }
+// A name as text, which std takes the names of files to be.
+fn path_of(name: &[u8]) -> io::Result<&str> {
+    match str::from_utf8(name) {
+        Ok(path) => Ok(path),
+        Err(_) => Err(Error::from(ErrorKind::InvalidInput)),
+    }
+}
+
+// How many bytes an open file has; none if it goes on behind the buffer.
+fn read_whole<R: Read>(file: &mut R, buf: &mut [u8]) -> io::Result<Option<usize>>
+    ensures bound { IfOk result (λ found. IfSome found (λ n. IsPrefixLen n buf.new)) }
+    ensures bytes { IfOk result (ReadsWhole (R.remaining file.old) buf.new) }
 {
-    let n = io::read_full(fd, buf);
-    // a read that failed shows here again, and so does a file that goes on
+    let n = read_full(file, buf)?;
     let mut next = [0u8; 1];
-    let more = libc::read(fd, &mut next);
-    if more < 0 {
-        fault_of(err, name);
-        return Loaded { ok: false, n };
+    if read_full(file, &mut next)? > 0 {
+        return Ok(None);
     }
-    if more > 0 {
-        fault(err, Message::Long, name, buf.len());
-        return Loaded { ok: false, n };
+    Ok(Some(n))
+}
+
+// The same of the file of that name.
+fn read_named(rt: &(impl Files + Input), name: &[u8], buf: &mut [u8]) -> io::Result<Option<usize>>
+    ensures { IfOk result (λ found. IfSome found (λ n. IsPrefixLen n buf.new)) }
+{
+    if is_standard(name) {
+        return read_whole(&mut rt.reader(), buf);
     }
-    Loaded { ok: true, n }
+    let mut file = fs::open(rt, path_of(name)?)?;
+    read_whole(&mut file, buf)
 }
 
 // The file of that name, at the start of the buffer.
-pub fn load(name: &[u8], buf: &mut [u8], err: i32) -> Loaded
+pub fn load(rt: &(impl Files + Input), name: &[u8], buf: &mut [u8], err: Stream) -> Loaded
     ensures { IsPrefixLen result.n buf.new }
 {
-    if is_standard(name) {
-        return read_whole(STDIN_FILENO, name, buf, err);
+    match read_named(rt, name, buf) {
+        Ok(Some(n)) => return Loaded { ok: true, n },
+        Ok(None) => fault(err, Message::Long, name, buf.len()),
+        Err(error) => fault_of(err, name, error),
+    };
+    Loaded { ok: false, n: 0 }
+}
+
+// Makes a file of the bytes; one that cannot be written is removed.
+fn create(rt: &impl Files, name: &[u8], bytes: &[u8]) -> io::Result<()> {
+    let path = path_of(name)?;
+    let mut file = OpenOptions::new()
+        .write(true)
+        .create_new(true)
+        .open(rt, path)?;
+    let written = file.write_all(bytes);
+    if written.is_err() {
+        let _ = fs::remove_file(rt, path);
     }
-    let fd = os::open_read(name);
-    if fd < 0 {
-        fault_of(err, name);
-        return Loaded { ok: false, n: 0 };
-    }
-    let loaded = read_whole(fd, name, buf, err);
-    libc::close(fd);
-    loaded
+    written
 }
 
 // Writes a new file, or none: a file that is there already is left as it is.
-fn store_new(name: &[u8], bytes: &[u8], err: i32, status: usize) -> usize
+fn store_new(rt: &impl Files, name: &[u8], bytes: &[u8], err: Stream, status: usize) -> usize
     ensures { Told status result }
 {
-    let fd = os::create(name);
-    if fd < 0 {
-        return fault_of(err, name);
+    match create(rt, name, bytes) {
+        Ok(()) => status,
+        Err(error) => fault_of(err, name, error),
     }
-    if io::write_all(fd, bytes) {
-        libc::close(fd);
-        return status;
-    }
-    let faulty = fault_of(err, name);
-    os::unlink(name);
-    libc::close(fd);
-    faulty
 }
 
 // The same, or standard output; the status is that of the command so far.
-pub fn store(name: &[u8], bytes: &[u8], streams: Streams, status: usize) -> usize
+pub fn store(rt: &impl Files, name: &[u8], bytes: &[u8], streams: Streams, status: usize) -> usize
     ensures { Told status result }
 {
     if is_standard(name) {
         return print(streams, bytes, bytes.len(), status);
     }
-    store_new(name, bytes, streams.err, status)
+    store_new(rt, name, bytes, streams.err, status)
 }
 
 // Where the report goes beside a file that is written: not to standard output where the file does.
+#[tactic(auto, unfolding(crate::specs::Files::report_streams))]
 pub fn beside(name: &[u8], streams: Streams) -> Streams
     ensures { result ≡ report_streams name.now streams }
 {

@@ -1,16 +1,34 @@
 // What a command writes: its answer on one stream, messages on another.
 ghost use Rattle.std.specs.Prelude.{◌≡◌, length};
-ghost use Rattle.io.specs.Counts.{IsPrefixLen};
+ghost use Rattle.std.specs.Counts.{IsPrefixLen};
 ghost use Rattle.depot_status.specs.Status.{FAULT as Status-as-FAULT, Told};
 
+use buffers::large_buffer;
 use depot_messages::{Message, put_message, put_named};
 use depot_status::FAULT;
 use device_faults::put_fault;
+use std::io;
+use std::io::{Error, ErrorKind, Stderr, Stdout};
+
+#[derive(Clone, Copy)]
+pub enum Stream {
+    Output(Stdout),
+    Error(Stderr),
+}
+
+impl Stream {
+    fn write_all(self, bytes: &[u8]) -> io::Result<()> {
+        match self {
+            Stream::Output(out) => out.write_all(bytes),
+            Stream::Error(err) => err.write_all(bytes),
+        }
+    }
+}
 
 #[derive(Clone, Copy)]
 pub struct Streams {
-    pub out: i32,
-    pub err: i32,
+    pub out: Stream,
+    pub err: Stream,
 }
 
 // Room for a text: that of the longest program that is well formed, of 46,635 bytes, has some hundred thousand. A longer one, of a file
@@ -31,47 +49,49 @@ pub fn fitted(page: &[u8], to: usize) -> usize
     page.len()
 }
 
-// Writes the first `to` bytes of a page, and answers whether they were written.
-fn write(fd: i32, page: &[u8], to: usize) -> bool {
+// Writes the first `to` bytes of a page.
+fn write(stream: Stream, page: &[u8], to: usize) -> io::Result<()> {
     let n = fitted(page, to);
-    io::write_all(fd, &page[..n])
+    stream.write_all(&page[..n])
 }
 
-fn widened(e: i32) -> isize {
-    e as isize
-}
+// The system's number for what is no name of a file.
+const NO_NAME: usize = 22;
 
-// Why the last call of the system failed: a number that is not negative, and at most 4,096.
-fn error_number() -> usize {
-    let bound = io::buffer();
-    io::count(widened(os::errno()), &bound)
+// Why a call failed, as the system numbers it; 0 where it has no number.
+fn error_number(error: Error) -> usize {
+    match error.raw_os_error() {
+        Some(code) => usize::try_from(code).unwrap_or(0),
+        None if error.kind() == ErrorKind::InvalidInput => NO_NAME,
+        None => 0,
+    }
 }
 
 // Says what is wrong, and gives the status of a fault.
-pub fn fault(err: i32, message: Message, word: &[u8], n: usize) -> usize
+pub fn fault(err: Stream, message: Message, word: &[u8], n: usize) -> usize
     ensures { result ≡ Status-as-FAULT }
 {
-    let mut text = io::large_buffer();
+    let mut text = large_buffer();
     let to = put_message(&mut text, 0, message, word, n);
-    write(err, &text, to);
+    let _ = write(err, &text, to);
     FAULT
 }
 
 // Says why a file could not be opened, read, made or written.
-pub(crate) fn fault_of(err: i32, name: &[u8]) -> usize
+pub(crate) fn fault_of(err: Stream, name: &[u8], error: Error) -> usize
     ensures { result ≡ Status-as-FAULT }
 {
-    fault(err, Message::Error, name, error_number())
+    fault(err, Message::Error, name, error_number(error))
 }
 
 // Says why a line of a description is not understood.
-pub fn fault_in(err: i32, name: &[u8], description: &[u8], line: usize) -> usize
+pub fn fault_in(err: Stream, name: &[u8], description: &[u8], line: usize) -> usize
     ensures { result ≡ Status-as-FAULT }
 {
-    let mut text = io::large_buffer();
+    let mut text = large_buffer();
     let at = put_named(&mut text, 0, name);
     let to = put_fault(&mut text, at, description, line);
-    write(err, &text, to);
+    let _ = write(err, &text, to);
     FAULT
 }
 
@@ -79,17 +99,17 @@ pub fn fault_in(err: i32, name: &[u8], description: &[u8], line: usize) -> usize
 pub fn print(streams: Streams, page: &[u8], to: usize, status: usize) -> usize
     ensures { Told status result }
 {
-    if write(streams.out, page, to) {
-        return status;
+    match write(streams.out, page, to) {
+        Ok(()) => status,
+        Err(error) => fault_of(streams.err, b"standard output", error),
     }
-    fault_of(streams.err, b"standard output")
 }
 
 // The same for a message that is the answer.
 pub fn tell(streams: Streams, message: Message, word: &[u8], n: usize, status: usize) -> usize
     ensures { Told status result }
 {
-    let mut text = io::large_buffer();
+    let mut text = large_buffer();
     let to = put_message(&mut text, 0, message, word, n);
     print(streams, &text, to, status)
 }
