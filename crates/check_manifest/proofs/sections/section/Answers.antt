@@ -1,3 +1,4 @@
+use mathlib.Core.List.{[], ◌∷◌}
 use mathlib.Core.Path.{refl}
 use mathlib.Core.Logic.{inl}
 use native.Mathlib.Omega.{arith}
@@ -8,7 +9,7 @@ use Rattle.check_manifest.proofs.SectionLaws.{stopped_promise, section_stop, sec
 use Rattle.check_manifest.proofs.sections.section.Goals as goal
 
 pub returns-then-refusal-ne0 : goal.returns-then-refusal-ne0
-returns-then-refusal-ne0 c = stopped_promise _ _ _ _ _ _ (section_stop _ _ _ _ _ _ _ _ (item-stopped _ _ _ _ _ _ _ c.item-b.ensures c.if-refusal-ne0.true))
+returns-then-refusal-ne0 c = stopped_promise _ (λ x. x ∷ []) _ _ c.args.places.now c.args.places.now (section_stop _ _ _ _ _ _ _ _ (item-stopped _ _ _ _ _ _ _ c.item-b.ensures c.if-refusal-ne0.true))
 
 pub overflow_add-to : goal.overflow_add-to
 overflow_add-to c = omega (arith, string-fits _ _ _ _ _ _ _ (inl refl) (item_went _ _ _ _ _ _ _ c.item-b.ensures c.if-refusal-ne0.false))
@@ -23,14 +24,14 @@ check_sequence-r-requires c = let f = string-fits _ _ _ _ _ _ _ (inl refl) (item
 
 pub returns-then-refusal-ne0-2 : goal.returns-then-refusal-ne0-2
 returns-then-refusal-ne0-2 c =
-    stopped_promise _ _ _ _ _ _
+    stopped_promise _ (λ x. x ∷ []) _ _ c.args.places.now c.args.places.now
     (section-bad _ _ _ _ _ _ _ _ _ (item_went _ _ _ _ _ _ _ c.item-b.ensures c.if-refusal-ne0.false)
     _ (reading-stopped (λ a. _) _ _ c.check_sequence-r.ensures c.if-refusal-ne0-2.true))
 
 pub returns-then-next-to : goal.returns-then-next-to
 returns-then-next-to c =
     let (a, w, v) = read _ _ _ _ _ _ _ _ _ c.check_sequence-r.ensures c.if-refusal-ne0-2.false in
-    stopped_promise _ _ _ _ _ _
+    stopped_promise _ (λ x. x ∷ []) _ _ c.args.places.now c.args.places.now
     (section-left_over _ _ _ _ _ _ _ _ _ (item_went _ _ _ _ _ _ _ c.item-b.ensures c.if-refusal-ne0.false)
     a _ w c.if-next-to.true _ c.refuse.ensures)
 
