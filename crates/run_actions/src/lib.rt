@@ -1,4 +1,6 @@
 // How far a run is, what a command leaves, and the conditions, their events aside.
+#![tactic(auto)]
+
 ghost use Rattle.std.specs.Prelude.{◌≡◌};
 
 pub mod conditions;

@@ -3,8 +3,6 @@ use mathlib.Core.Path.{refl}
 use native.Mathlib.Omega.{arith}
 use lib.ListN.{length}
 use lib.Seq.{take_all}
-use borrow.Author.Rules.{rules}
-use borrow.Author.Tests.{not-true, not-false}
 use Rattle.rules.specs.Limits.{limits}
 use Rattle.rules.specs.Step.{passes}
 use Rattle.run_actions.proofs.conditions.equal_sixteen.Goals as goal
@@ -13,10 +11,10 @@ pub returns-then-not-equal : goal.returns-then-not-equal
 unfolding passes
 returns-then-not-equal c =
     let l : length c.args.own.now ≤ limits.class = omega arith in
-    (refl, λ st. rw (← rw (take_all limits.class c.args.own.now l) at c.equal.ensures, not-true c.equal.result c.if-not-equal.true))
+    (refl, λ st. rw (← rw (take_all limits.class c.args.own.now l) at c.equal.ensures, c.if-not-equal.true))
 
 pub returns : goal.returns
 unfolding passes
 returns c =
     let l : length c.args.own.now ≤ limits.class = omega arith in
-    (refl, λ st. rw (← rw (take_all limits.class c.args.own.now l) at c.equal.ensures, not-false c.equal.result c.if-not-equal.false))
+    (refl, λ st. rw (← rw (take_all limits.class c.args.own.now l) at c.equal.ensures, c.if-not-equal.false))

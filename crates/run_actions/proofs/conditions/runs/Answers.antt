@@ -1,5 +1,4 @@
 use mathlib.Core.Path.{refl}
-use borrow.Author.Rules.{rules}
 use Rattle.rules.specs.Step.{unless}
 use Rattle.run_actions.proofs.ActionLaws.{run_is}
 use Rattle.run_actions.proofs.conditions.runs.Goals as goal
