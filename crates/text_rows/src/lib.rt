@@ -1,4 +1,6 @@
 // A table of words by number, in lent room: the numbers, and the words in the same order with a bar after each.
+#![tactic(auto)]
+
 ghost use Rattle.std.specs.Prelude.{◌≡◌, ◌≤◌, length, take, drop};
 ghost use Rattle.text.specs.Text.{Writes};
 ghost use Rattle.text.specs.Text.{position as Text·position};

@@ -1,9 +1,5 @@
-use Prim.Native.Nat.{◌-◌, ◌≤◌}
-use mathlib.Core.Path.{◌≡◌, refl}
-use mathlib.Core.List.{◌++◌}
+use mathlib.Core.Path.{refl}
 use borrow.Author.Rules.{rules}
-use lib.ListN.{length, take, drop}
-use Rattle.text_rows.specs.Rows.{before}
 use Rattle.text_rows.proofs.RowLaws.{before_here, before-next, before-none}
 use Rattle.text_rows.proofs.bar.Goals as goal
 

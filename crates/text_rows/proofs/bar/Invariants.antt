@@ -1,10 +1,8 @@
 use Prim.Native.Nat.{◌-◌, ◌≤◌}
-use mathlib.Core.Path.{◌≡◌, refl}
+use mathlib.Core.Path.{◌≡◌}
 use mathlib.Core.List.{◌++◌}
-use borrow.Author.Rules.{rules}
 use lib.ListN.{length, take, drop}
 use Rattle.text_rows.specs.Rows.{before}
-use Rattle.text_rows.proofs.RowLaws.{before_here, before-next, before-none}
 use Rattle.text_rows.proofs.bar.Given as goal
 
 abbrev pub invariant-loop-i : goal.invariant-loop-i

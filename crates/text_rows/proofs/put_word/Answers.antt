@@ -1,4 +1,3 @@
-use borrow.Author.Rules.{rules}
 use Rattle.text_rows.proofs.RowLaws.{word-part}
 use Rattle.text_rows.proofs.put_word.Goals as goal
 

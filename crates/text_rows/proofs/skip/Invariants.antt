@@ -1,10 +1,7 @@
 use Prim.Native.Nat.{◌-◌, ◌≤◌}
-use mathlib.Core.Path.{◌≡◌, refl, ◌∙◌}
-use mathlib.Core.Logic.{⊎_elim}
-use borrow.Author.Rules.{rules}
+use mathlib.Core.Path.{◌≡◌}
 use lib.ListN.{length, drop}
 use Rattle.text_rows.specs.Rows.{after}
-use Rattle.text_rows.proofs.RowLaws.{after_bar, after_next, after_none, after-zero}
 use Rattle.text_rows.proofs.skip.Given as goal
 
 abbrev pub invariant-loop-i : goal.invariant-loop-i
