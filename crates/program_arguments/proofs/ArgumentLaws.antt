@@ -2,12 +2,12 @@
 use Prim.Native.Nat.{ℕ, ◌-◌, ◌≤◌, ◌<◌}
 use mathlib.Core.Path.{◌≡◌, refl, sym, ◌∙◌}
 use mathlib.Core.List.{[], ◌∷◌}
-use mathlib.Core.Bool.{Bool, true, false, cond, not, ◌&&◌, ◌||◌}
+use mathlib.Core.Bool.{Bool, true, false, cond, ◌&&◌, ◌||◌}
 use mathlib.Core.Option.{some}
 use native.Mathlib.Omega.{arith}
 use lib.Dec.{eqb, ltb, leb}
 use lib.ListN.{length}
-use borrow.Author.Tests.{eq-eqb, ne_eqb, le-ltb, lt-ltb, le-leb, lt-leb, eqb-true, eqb-false, not-true, not-false}
+use borrow.Author.Tests.{eq-eqb, ne_eqb, le-ltb, lt-ltb, le-leb, lt-leb, eqb-true, eqb-false}
 use Rattle.rules.specs.declared.answers.Group.{Group}
 use Rattle.rules.specs.declared.answers.Group.TheVariants.{Install, Boot}
 use Rattle.rules.specs.declared.tables.Argument.TheVariants.{Sixteen, Index, Parameters}
@@ -33,14 +33,14 @@ module _ (b : Bool) (target n total : ℕ) where
   no_target h = rw (eq-eqb target NONE h)
 
   module _ (h : target ≡ NONE → ⊥) where
-    pub not-condition : not b ≡ true → false ≡ target_fits b target n total
-    not-condition l = rw (ne_eqb target NONE h, not-true b l)
+    pub not-condition : b ≡ false → false ≡ target_fits b target n total
+    not-condition l = rw (ne_eqb target NONE h, l)
 
-    pub not-forward : not b ≡ false → target ≤ n → false ≡ target_fits b target n total
-    not-forward l u = rw (ne_eqb target NONE h, not-false b l, le-ltb n target u)
+    pub not-forward : b ≡ true → target ≤ n → false ≡ target_fits b target n total
+    not-forward l u = rw (ne_eqb target NONE h, l, le-ltb n target u)
 
-    pub forward : not b ≡ false → n < target → leb target total ≡ target_fits b target n total
-    forward l u = rw (ne_eqb target NONE h, not-false b l, lt-ltb n target u)
+    pub forward : b ≡ true → n < target → leb target total ≡ target_fits b target n total
+    forward l u = rw (ne_eqb target NONE h, l, lt-ltb n target u)
 
 -- the rule's test of a target, by the table's column
 pub targeted : (op : Op) (b : Bool) (target n total : ℕ) → is_condition op ≡ b →

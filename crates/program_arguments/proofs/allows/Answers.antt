@@ -1,4 +1,3 @@
-use borrow.Author.Rules.{rules}
 use Rattle.program_arguments.proofs.allows.Goals as goal
 
 pub returns-in-Install : goal.returns-in-Install

@@ -1,5 +1,4 @@
 use native.Mathlib.Omega.{arith}
-use borrow.Author.Rules.{rules}
 use Rattle.program_arguments.proofs.ArgumentLaws.{sixteen_right, none_right, parameters_right, other_right}
 use Rattle.program_arguments.proofs.argument_fits.Goals as goal
 
