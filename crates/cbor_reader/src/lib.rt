@@ -1,5 +1,4 @@
-// A reader over a lent envelope: the envelope and a place in it, held together. Of a string it reads the head alone. The borrow checker covers no
-// function over such a struct, so each is proved by hand; the work is done by a function of a slice and a number, which is covered.
+// A reader over a lent envelope: the envelope and a place in it, held together. Of a string it reads the head alone.
 ghost use Rattle.std.specs.Prelude.{◌≡◌, ◌-◌, length};
 ghost use Rattle.rules.specs.Cbor.{head};
 ghost use Rattle.cbor_reader.specs.Read.{read_of, head_here, moved};
@@ -85,7 +84,7 @@ pub fn read_head<'s, 'a>(r: &'s mut Reader<'a>) -> Read
     h
 }
 
-// The same for a caller that has no reader, and so needs no proof by hand: one head at a place of an envelope.
+// The same for a caller that has no reader: one head at a place of an envelope.
 pub fn head_at(envelope: &[u8], at: usize) -> Read
     ensures { result ≡ read_of (head envelope.now (length envelope.now) at) }
 {
