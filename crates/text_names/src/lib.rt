@@ -1,4 +1,6 @@
 // The words for codes, keys and numbers of document 01, in lent room. Each table is a list of numbers, and the words in the same order.
+#![tactic(auto)]
+
 ghost use Rattle.std.specs.Prelude.{◌≡◌, ◌<◌};
 ghost use Rattle.rules.specs.Commands.{section_key};
 ghost use Rattle.rules.specs.Limits.{section_count};

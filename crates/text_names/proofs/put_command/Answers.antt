@@ -1,4 +1,3 @@
-use borrow.Author.Rules.{rules}
 use Rattle.text_names.specs.Words.{command_words}
 use Rattle.text_rows.proofs.RowLaws.{wide-none}
 use Rattle.text_names.proofs.put_command.Goals as goal

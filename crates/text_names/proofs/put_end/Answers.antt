@@ -1,5 +1,4 @@
 use mathlib.Core.Path.{refl}
-use borrow.Author.Rules.{rules}
 use Rattle.text_rows.specs.Rows.{numbers, words, plain, barless}
 use Rattle.text_names.specs.Words.{ends, end_words}
 use Rattle.text_rows.proofs.RowLaws.{wrote-word}

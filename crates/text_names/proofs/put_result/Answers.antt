@@ -1,4 +1,3 @@
-use borrow.Author.Rules.{rules}
 use borrow.Author.Tests.{eq-eqb, ne_eqb}
 use Rattle.text_names.specs.Words.{result_words}
 use Rattle.text_names.proofs.put_result.Goals as goal
