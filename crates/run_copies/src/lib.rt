@@ -1,4 +1,6 @@
 // Copy and swap: images from slot to slot.
+#![tactic(auto)]
+
 ghost use Rattle.std.specs.Prelude.{◌≤◌};
 ghost use Rattle.rules.specs.Limits.{limits};
 ghost use Rattle.rules.specs.Step as Step;

@@ -1,9 +1,7 @@
 use mathlib.Core.Path.{refl}
 use native.Mathlib.Omega.{arith}
-use borrow.Author.Rules.{rules}
 use borrow.Author.Tests.{le-leb, lt-leb}
 use Rattle.rules.specs.Step.{unless}
-use Rattle.rules.proofs.GotLaws.{holds, fails}
 use Rattle.run_actions.proofs.ActionLaws.{copy-unset, copy-set}
 use Rattle.run_copies.proofs.copy.Goals as goal
 
@@ -15,15 +13,15 @@ present-requires c = c.requires.1 _ (omega (arith, c.requires.2))
 
 pub returns-then-not-present : goal.returns-then-not-present
 unfolding unless
-returns-then-not-present c =
-    (
-      refl,
-      λ s env i st a h.
-          rw (
-            copy-set s _ env i st _ _ a c.args.memory.now h c.if-source-eq0.false,
-            fails _ _ c.present.ensures c.if-not-present.true,
-          ),
-    )
+returns-then-not-present c = (
+  refl,
+  λ s env i st a h.
+      rw (
+        copy-set s _ env i st _ _ a c.args.memory.now h c.if-source-eq0.false,
+        ← c.present.ensures,
+        c.if-not-present.true,
+      ),
+)
 
 pub size-requires : goal.size-requires
 size-requires c =
@@ -31,18 +29,18 @@ size-requires c =
 
 pub returns-then-capacity-size : goal.returns-then-capacity-size
 unfolding unless
-returns-then-capacity-size c =
-    (
-      refl,
-      λ s env i st a h.
-          rw (
-            copy-set s _ env i st _ _ a c.args.memory.now h c.if-source-eq0.false,
-            holds _ _ c.present.ensures c.if-not-present.false,
-            ← c.size.ensures,
-            ← c.capacity.ensures,
-            lt-leb _ _ c.if-capacity-size.true,
-          ),
-    )
+returns-then-capacity-size c = (
+  refl,
+  λ s env i st a h.
+      rw (
+        copy-set s _ env i st _ _ a c.args.memory.now h c.if-source-eq0.false,
+        ← c.present.ensures,
+        c.if-not-present.false,
+        ← c.size.ensures,
+        ← c.capacity.ensures,
+        lt-leb _ _ c.if-capacity-size.true,
+      ),
+)
 
 pub image-requires : goal.image-requires
 image-requires c =
@@ -50,17 +48,17 @@ image-requires c =
 
 pub returns : goal.returns
 unfolding unless
-returns c =
-    (
-      refl,
-      λ s env i st a h.
-          rw (
-            copy-set s _ env i st _ _ a c.args.memory.now h c.if-source-eq0.false,
-            holds _ _ c.present.ensures c.if-not-present.false,
-            ← c.size.ensures,
-            ← c.capacity.ensures,
-            le-leb _ _ c.if-capacity-size.false,
-            c.put_image.ensures,
-            c.image.ensures,
-          ),
-    )
+returns c = (
+  refl,
+  λ s env i st a h.
+      rw (
+        copy-set s _ env i st _ _ a c.args.memory.now h c.if-source-eq0.false,
+        ← c.present.ensures,
+        c.if-not-present.false,
+        ← c.size.ensures,
+        ← c.capacity.ensures,
+        le-leb _ _ c.if-capacity-size.false,
+        c.put_image.ensures,
+        c.image.ensures,
+      ),
+)

@@ -3,10 +3,8 @@ use mathlib.Core.Path.{refl}
 use native.Mathlib.Omega.{arith}
 use lib.ListN.{get_or}
 use Rattle.run_slots.specs.Slot.{Holds}
-use borrow.Author.Rules.{rules}
 use borrow.Author.Tests.{le-leb, lt-leb}
 use Rattle.rules.specs.Step.{unless}
-use Rattle.rules.proofs.GotLaws.{holds, fails}
 use Rattle.run_actions.proofs.ActionLaws.{swap-unset, swap-set}
 use Rattle.run_copies.proofs.swap.Goals as goal
 
@@ -15,15 +13,15 @@ returns-then-source-eq0 c = (refl, λ s env i st a h. rw (swap-unset s _ env i s
 
 pub returns-then-not-present : goal.returns-then-not-present
 unfolding unless
-returns-then-not-present c =
-    (
-      refl,
-      λ s env i st a h.
-          rw (
-            swap-set s _ env i st _ _ a c.args.memory.now h c.if-source-eq0.false,
-            fails _ _ c.present.ensures c.if-not-present.true,
-          ),
-    )
+returns-then-not-present c = (
+  refl,
+  λ s env i st a h.
+      rw (
+        swap-set s _ env i st _ _ a c.args.memory.now h c.if-source-eq0.false,
+        ← c.present.ensures,
+        c.if-not-present.true,
+      ),
+)
 
 pub present-requires-2 : goal.present-requires-2
 present-requires-2 c =
@@ -31,16 +29,17 @@ present-requires-2 c =
 
 pub returns-then-not-present-2 : goal.returns-then-not-present-2
 unfolding unless
-returns-then-not-present-2 c =
-    (
-      refl,
-      λ s env i st a h.
-          rw (
-            swap-set s _ env i st _ _ a c.args.memory.now h c.if-source-eq0.false,
-            holds _ _ c.present.ensures c.if-not-present.false,
-            fails _ _ c.present-2.ensures c.if-not-present-2.true,
-          ),
-    )
+returns-then-not-present-2 c = (
+  refl,
+  λ s env i st a h.
+      rw (
+        swap-set s _ env i st _ _ a c.args.memory.now h c.if-source-eq0.false,
+        ← c.present.ensures,
+        c.if-not-present.false,
+        ← c.present-2.ensures,
+        c.if-not-present-2.true,
+      ),
+)
 
 pub size-requires : goal.size-requires
 size-requires c =
@@ -48,19 +47,20 @@ size-requires c =
 
 pub returns-then-capacity-size : goal.returns-then-capacity-size
 unfolding unless
-returns-then-capacity-size c =
-    (
-      refl,
-      λ s env i st a h.
-          rw (
-            swap-set s _ env i st _ _ a c.args.memory.now h c.if-source-eq0.false,
-            holds _ _ c.present.ensures c.if-not-present.false,
-            holds _ _ c.present-2.ensures c.if-not-present-2.false,
-            ← c.size.ensures,
-            ← c.capacity.ensures,
-            lt-leb _ _ c.if-capacity-size.true,
-          ),
-    )
+returns-then-capacity-size c = (
+  refl,
+  λ s env i st a h.
+      rw (
+        swap-set s _ env i st _ _ a c.args.memory.now h c.if-source-eq0.false,
+        ← c.present.ensures,
+        c.if-not-present.false,
+        ← c.present-2.ensures,
+        c.if-not-present-2.false,
+        ← c.size.ensures,
+        ← c.capacity.ensures,
+        lt-leb _ _ c.if-capacity-size.true,
+      ),
+)
 
 pub capacity-requires-2 : goal.capacity-requires-2
 capacity-requires-2 c =
@@ -68,22 +68,23 @@ capacity-requires-2 c =
 
 pub returns-then-capacity-size-2 : goal.returns-then-capacity-size-2
 unfolding unless
-returns-then-capacity-size-2 c =
-    (
-      refl,
-      λ s env i st a h.
-          rw (
-            swap-set s _ env i st _ _ a c.args.memory.now h c.if-source-eq0.false,
-            holds _ _ c.present.ensures c.if-not-present.false,
-            holds _ _ c.present-2.ensures c.if-not-present-2.false,
-            ← c.size.ensures,
-            ← c.capacity.ensures,
-            le-leb _ _ c.if-capacity-size.false,
-            ← c.size-2.ensures,
-            ← c.capacity-2.ensures,
-            lt-leb _ _ c.if-capacity-size-2.true,
-          ),
-    )
+returns-then-capacity-size-2 c = (
+  refl,
+  λ s env i st a h.
+      rw (
+        swap-set s _ env i st _ _ a c.args.memory.now h c.if-source-eq0.false,
+        ← c.present.ensures,
+        c.if-not-present.false,
+        ← c.present-2.ensures,
+        c.if-not-present-2.false,
+        ← c.size.ensures,
+        ← c.capacity.ensures,
+        le-leb _ _ c.if-capacity-size.false,
+        ← c.size-2.ensures,
+        ← c.capacity-2.ensures,
+        lt-leb _ _ c.if-capacity-size-2.true,
+      ),
+)
 
 pub image-requires : goal.image-requires
 image-requires c =
@@ -97,23 +98,24 @@ put_image-requires-2 c =
 -- the steps are written out to where the images were taken: `rw` with a fact refuses a way point that passes it
 pub returns : goal.returns
 unfolding unless
-returns c =
-    (
-      refl,
-      λ s env i st a h.
-          rw (
-            swap-set s _ env i st _ _ a c.args.memory.now h c.if-source-eq0.false,
-            holds _ _ c.present.ensures c.if-not-present.false,
-            holds _ _ c.present-2.ensures c.if-not-present-2.false,
-            ← c.size.ensures,
-            ← c.capacity.ensures,
-            le-leb _ _ c.if-capacity-size.false,
-            ← c.size-2.ensures,
-            ← c.capacity-2.ensures,
-            le-leb _ _ c.if-capacity-size-2.false,
-            c.put_image-2.ensures,
-            c.put_image.ensures,
-            c.image.ensures,
-            c.image-own.ensures,
-          ),
-    )
+returns c = (
+  refl,
+  λ s env i st a h.
+      rw (
+        swap-set s _ env i st _ _ a c.args.memory.now h c.if-source-eq0.false,
+        ← c.present.ensures,
+        c.if-not-present.false,
+        ← c.present-2.ensures,
+        c.if-not-present-2.false,
+        ← c.size.ensures,
+        ← c.capacity.ensures,
+        le-leb _ _ c.if-capacity-size.false,
+        ← c.size-2.ensures,
+        ← c.capacity-2.ensures,
+        le-leb _ _ c.if-capacity-size-2.false,
+        c.put_image-2.ensures,
+        c.put_image.ensures,
+        c.image.ensures,
+        c.image-own.ensures,
+      ),
+)
