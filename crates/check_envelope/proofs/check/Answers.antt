@@ -14,6 +14,12 @@ returns-then-refusal-ne0 c =
 pub overflow_add-to : goal.overflow_add-to
 overflow_add-to c = omega (arith, outer_fits _ c.if-end-gt-ENVELOPE_BYTES.false _ c.read_outer-o.ensures c.if-refusal-ne0.false)
 
+pub read_body-b-requires : goal.read_body-b-requires
+read_body-b-requires c = (
+  omega (arith, outer_fits _ c.if-end-gt-ENVELOPE_BYTES.false _ c.read_outer-o.ensures c.if-refusal-ne0.false),
+  c.tables-table.ensures,
+)
+
 pub returns-then-refusal-ne0-2 : goal.returns-then-refusal-ne0-2
 returns-then-refusal-ne0-2 c =
     promised _ _
