@@ -1,14 +1,14 @@
 -- One record of a program, by its place.
 use Prim.Native.Nat.{ℕ, ◌+◌, ◌-◌, ◌≤◌, ◌<◌}
 use mathlib.Core.Path.{◌≡◌, refl, sym, ap, ◌∙◌}
-use mathlib.Core.Bool.{Bool, true, false, not, ◌&&◌, ◌||◌, true≢false}
+use mathlib.Core.Bool.{Bool, true, false, ◌&&◌, ◌||◌, true≢false}
 use mathlib.Core.Option.{Option, some, none}
 use native.Mathlib.Omega.{arith}
 use native.Mathlib.Nat.{add-zero}
 use lib.Dec.{eqb, ltb, leb}
 use lib.ListN.{length, get_or, take, drop, length-drop}
 use lib.Seq.{get_or-drop, drop-drop}
-use borrow.Author.Tests.{eq-eqb, ne_eqb, lt-ltb, le-ltb, le-leb, lt-leb, eqb-true, eqb-false, ltb-true, ltb-false, leb-true, leb-false, not-true, not-false}
+use borrow.Author.Tests.{eq-eqb, ne_eqb, lt-ltb, le-ltb, le-leb, lt-leb, eqb-true, eqb-false, ltb-true, ltb-false, leb-true, leb-false}
 use Rattle.rules.specs.declared.answers.Group.{Group}
 use Rattle.rules.specs.declared.answers.Group.TheVariants.{Install, Boot}
 use Rattle.rules.specs.declared.answers.Refusal.TheVariants.{BadProgram}
@@ -185,22 +185,22 @@ module _ (g : Group) (comps total n : ℕ) (p : Bytes) (at to : ℕ) where
     allows_row : (row : Row) → row_of c commands ≡ some row → a ≡ group_allows g row.allowed
     allows_row row e = ea ∙ ap (λ (y : Entry). allows_in g y.sections) (ex ∙ ap entry_of e) ∙ row_allows c row g e
 
-    pub not-allowed : not a ≡ true → false ≡ accepted asked
+    pub not-allowed : a ≡ false → false ≡ accepted asked
     unfolding command_at
     not-allowed h = go (row_of c commands) refl
       where
         go : (o : Option Row) → row_of c commands ≡ o → false ≡ accepted asked
         go none e = rw (← ec, e)
-        go (some row) e = rw (← ec, e, ← allows_row row e, not-true a h)
+        go (some row) e = rw (← ec, e, ← allows_row row e, h)
 
-    module _ (ha : not a ≡ false) where
+    module _ (ha : a ≡ true) where
       -- its row
       found-row : (row : Row) × (row_of c commands ≡ some row) × (entry_of (some row) ≡ x)
       found-row = go (row_of c commands) refl
         where
           go : (o : Option Row) → row_of c commands ≡ o → (row : Row) × (row_of c commands ≡ some row) × (entry_of (some row) ≡ x)
           go none e =
-              let z : true ≡ false = sym (not-false a ha) ∙ ea ∙ ap (λ (y : Entry). allows_in g y.sections) (ex ∙ ap entry_of e) ∙ none_allowed g in
+              let z : true ≡ false = sym ha ∙ ea ∙ ap (λ (y : Entry). allows_in g y.sections) (ex ∙ ap entry_of e) ∙ none_allowed g in
               absurd (true≢false z)
           go (some row) e = (row, e, sym (ex ∙ ap entry_of e))
 
@@ -214,7 +214,7 @@ module _ (g : Group) (comps total n : ℕ) (p : Bytes) (at to : ℕ) where
       is-entry = found-row.2
 
       allowed : group_allows g row.allowed ≡ true
-      allowed = sym (allows_row row is_row) ∙ not-false a ha
+      allowed = sym (allows_row row is_row) ∙ ha
 
       pub no_component : comps ≤ get_or p (at + component_from) 0 → false ≡ accepted asked
       unfolding command_at
@@ -228,20 +228,20 @@ module _ (g : Group) (comps total n : ℕ) (p : Bytes) (at to : ℕ) where
         fitting : b ≡ accepted made
         fitting = eb row.form (get_or p (at + component_from) 0) (ap (λ (y : Entry). y.kind) is-entry)
 
-        pub not_fitting : not b ≡ true → false ≡ accepted asked
+        pub not_fitting : b ≡ false → false ≡ accepted asked
         unfolding command_at
         not_fitting h = go made refl
           where
             go : (y : Got Op) → made ≡ y → false ≡ accepted asked
             go (refused r q) e = rw (← ec, is_row, allowed, lt-ltb _ _ hc, e)
-            go (got op) e = let z : true ≡ false = ap accepted (sym e) ∙ sym fitting ∙ not-true b h in absurd (true≢false z)
+            go (got op) e = let z : true ≡ false = ap accepted (sym e) ∙ sym fitting ∙ h in absurd (true≢false z)
 
         is-condition : (op : Op) → made ≡ got op → is_condition op ≡ x.condition
         is-condition op e =
             rw (op-code comps (get_or p (at + component_from) 0) _ op c row is_row e, is_row) (ap (λ (y : Entry). y.condition) is-entry)
 
         -- the command is made, and its target decides
-        pub decided : not b ≡ false → (y : ℕ) → y ≡ num (part p (at + target_from) 2) →
+        pub decided : b ≡ true → (y : ℕ) → y ≡ num (part p (at + target_from) 2) →
             (u : Bool) → u ≡ target_fits x.condition y n total → u ≡ accepted asked
         unfolding command_at
         decided h y ey u eu = go made refl
@@ -251,7 +251,7 @@ module _ (g : Group) (comps total n : ℕ) (p : Bytes) (at to : ℕ) where
             last op false = refl
 
             go : (m : Got Op) → made ≡ m → u ≡ accepted asked
-            go (refused r q) e = let z : true ≡ false = sym (not-false b h) ∙ fitting ∙ ap accepted e in absurd (true≢false z)
+            go (refused r q) e = let z : true ≡ false = sym h ∙ fitting ∙ ap accepted e in absurd (true≢false z)
             go (got op) e =
                 rw (← ec, is_row, allowed, lt-ltb _ _ hc, e, ← ey, ← targeted op x.condition y n total (is-condition op e), ← eu) (last op u)
 
@@ -296,25 +296,25 @@ module _ (g : Group) (comps total n : ℕ) (p : Bytes) (at r : ℕ) (q : r ≡ r
 
   module _ (d : r ≡ 0 → ⊥) (c : ℕ) (ec : c ≡ get_or p (at + code_from) 0) where
     module _ (l : c < codes) (t : Bool) (e : t ≡ accepted (command_at g comps total n p at r)) where
-      pub no_command : not t ≡ true → accepted one ≡ false
+      pub no_command : t ≡ false → accepted one ≡ false
       unfolding record_at
       no_command h =
-          refuses (rw (lies p at r q d, ← ec, lt-ltb _ _ l, ends p at r q d) (not-accepted (command_at g comps total n p at r) _ (sym e ∙ not-true t h)))
+          refuses (rw (lies p at r q d, ← ec, lt-ltb _ _ l, ends p at r q d) (not-accepted (command_at g comps total n p at r) _ (sym e ∙ h)))
 
-      pub is-command : not t ≡ false → (op : Op) × (one ≡ got (does op (get_or p (at + component_from) 0) (num (part p (at + place_from) 2)) (num (part p (at + target_from) 2)), drop r p))
+      pub is-command : t ≡ true → (op : Op) × (one ≡ got (does op (get_or p (at + component_from) 0) (num (part p (at + place_from) 2)) (num (part p (at + target_from) 2)), drop r p))
       unfolding record_at
       is-command h = go (command_at g comps total n p at r) refl
         where
           go : (x : Got Op) → command_at g comps total n p at r ≡ x →
               (op : Op) × (one ≡ got (does op (get_or p (at + component_from) 0) (num (part p (at + place_from) 2)) (num (part p (at + target_from) 2)), drop r p))
-          go (refused k m) w = absurd (true≢false (sym (not-false t h) ∙ e ∙ ap accepted w))
+          go (refused k m) w = absurd (true≢false (sym h ∙ e ∙ ap accepted w))
           go (got op) w = (op, rw (record_at_lem g comps total n p at, lies p at r q d, ← ec, lt-ltb _ _ l, ends p at r q d, w))
 
     module _ (l : codes ≤ c) (t : Bool) (e : t ≡ jump_fits p at r total n) where
-      pub no_jump : not t ≡ true → accepted one ≡ false
+      pub no_jump : t ≡ false → accepted one ≡ false
       unfolding record_at
-      no_jump h = refuses (rw (lies p at r q d, ← ec, le-ltb _ _ l, ends p at r q d, ← e, not-true t h))
+      no_jump h = refuses (rw (lies p at r q d, ← ec, le-ltb _ _ l, ends p at r q d, ← e, h))
 
-      pub is-jump : not t ≡ false → one ≡ got (jump (num (part p (at + target_from) 2)), drop r p)
+      pub is-jump : t ≡ true → one ≡ got (jump (num (part p (at + target_from) 2)), drop r p)
       unfolding record_at
-      is-jump h = rw (record_at_lem g comps total n p at, lies p at r q d, ← ec, le-ltb _ _ l, ends p at r q d, ← e, not-false t h)
+      is-jump h = rw (record_at_lem g comps total n p at, lies p at r q d, ← ec, le-ltb _ _ l, ends p at r q d, ← e, h)

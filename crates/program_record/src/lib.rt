@@ -1,4 +1,6 @@
 // One record of a command in a program: whether it is well formed.
+#![tactic(auto)]
+
 ghost use Rattle.std.specs.Prelude.{◌≡◌, ◌+◌, ◌≤◌, ◌<◌, length, get_or};
 ghost use Rattle.rules.specs.ProgramFormat.{code_from, record_size};
 ghost use Rattle.rules.specs.Tables.{codes, by_number};

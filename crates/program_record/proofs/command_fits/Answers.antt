@@ -1,5 +1,4 @@
 use native.Mathlib.Omega.{arith}
-use borrow.Author.Rules.{rules}
 use Rattle.rules.specs.ProgramFormat.{target_from}
 use Rattle.program_heads.proofs.HeadLaws.{two_is}
 use Rattle.program_record.proofs.RecordLaws.{not-allowed, no_component, not_fitting, decided}
