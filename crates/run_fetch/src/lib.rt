@@ -1,4 +1,6 @@
 // Fetch: the host's next answer into a slot.
+#![tactic(auto)]
+
 ghost use Rattle.std.specs.Prelude.{◌≡◌, ◌%◌, length};
 ghost use Rattle.rules.specs.Slots.{answer_bytes};
 ghost use Rattle.run_slots.specs.Slot.{Holds};
