@@ -1,4 +1,6 @@
 // Lines, words and numbers of a text: here the words of a line.
+#![tactic(auto)]
+
 ghost use Rattle.std.specs.Prelude.{◌≡◌, ◌≤◌, length, take, drop};
 ghost use Rattle.device_text.specs.Words as Words;
 

@@ -1,5 +1,4 @@
 use mathlib.Core.Path.{sym, ap, ◌∙◌}
-use borrow.Author.Rules.{rules}
 use lib.Seq.{length-take-le}
 use Rattle.device_text.specs.Words as Words
 use Rattle.device_text.proofs.bare.Goals as goal

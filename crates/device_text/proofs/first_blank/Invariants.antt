@@ -1,10 +1,7 @@
 use Prim.Native.Nat.{◌+◌, ◌-◌, ◌≤◌}
-use mathlib.Core.Path.{◌≡◌, sym, ◌∙◌}
-use native.Mathlib.Omega.{arith}
-use borrow.Author.Rules.{rules}
+use mathlib.Core.Path.{◌≡◌}
 use lib.ListN.{length, drop}
 use Rattle.device_text.specs.Words.{first_blank}
-use Rattle.device_text.proofs.WordLaws.{blank-here, blank-next, blank_none}
 use Rattle.device_text.proofs.first_blank.Given as goal
 
 abbrev pub invariant-loop-i : goal.invariant-loop-i

@@ -1,10 +1,6 @@
-use Prim.Native.Nat.{◌-◌, ◌≤◌}
-use mathlib.Core.Path.{◌≡◌, refl, sym, ◌∙◌}
+use mathlib.Core.Path.{refl, sym, ◌∙◌}
 use native.Mathlib.Omega.{arith}
 use borrow.Author.Rules.{rules}
-use borrow.Author.Tests.{not-true, not-false}
-use lib.ListN.{length, drop}
-use Rattle.device_text.specs.Words.{skip}
 use Rattle.device_text.proofs.WordLaws.{skip-here, skip-next, skip-end}
 use Rattle.device_text.proofs.in_front.Goals as goal
 
@@ -13,11 +9,11 @@ loop-i-init c = (search rules, refl)
 
 pub returns-then-not-blank : goal.returns-then-not-blank
 returns-then-not-blank c =
-    (omega arith, sym (c.loop-i.invariant.1 ∙ skip-here _ c.loop-i.i (omega arith) (sym c.blank.ensures ∙ not-true _ c.if-not-blank.true)))
+    (omega arith, sym (c.loop-i.invariant.1 ∙ skip-here _ c.loop-i.i (omega arith) (sym c.blank.ensures ∙ c.if-not-blank.true)))
 
 pub loop-i-preserved : goal.loop-i-preserved
 loop-i-preserved c =
-    (omega arith, c.loop-i.invariant.1 ∙ skip-next _ c.loop-i.i (omega arith) (sym c.blank.ensures ∙ not-false _ c.if-not-blank.false))
+    (omega arith, c.loop-i.invariant.1 ∙ skip-next _ c.loop-i.i (omega arith) (sym c.blank.ensures ∙ c.if-not-blank.false))
 
 pub returns : goal.returns
 returns c = (omega arith, sym (c.loop-i.invariant.1 ∙ skip-end _ c.loop-i.i (omega arith)))

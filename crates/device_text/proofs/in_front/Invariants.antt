@@ -1,11 +1,7 @@
 use Prim.Native.Nat.{◌-◌, ◌≤◌}
-use mathlib.Core.Path.{◌≡◌, refl, sym, ◌∙◌}
-use native.Mathlib.Omega.{arith}
-use borrow.Author.Rules.{rules}
-use borrow.Author.Tests.{not-true, not-false}
+use mathlib.Core.Path.{◌≡◌}
 use lib.ListN.{length, drop}
 use Rattle.device_text.specs.Words.{skip}
-use Rattle.device_text.proofs.WordLaws.{skip-here, skip-next, skip-end}
 use Rattle.device_text.proofs.in_front.Given as goal
 
 abbrev pub invariant-loop-i : goal.invariant-loop-i

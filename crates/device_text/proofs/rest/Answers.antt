@@ -1,5 +1,4 @@
 use mathlib.Core.Path.{◌∙◌}
-use borrow.Author.Rules.{rules}
 use Rattle.rules.proofs.BytesLaws.{part-rest}
 use Rattle.device_text.specs.Words as Words
 use Rattle.device_text.proofs.rest.Goals as goal

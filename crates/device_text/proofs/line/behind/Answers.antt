@@ -1,6 +1,5 @@
 use mathlib.Core.Path.{sym, ◌∙◌}
 use native.Mathlib.Omega.{arith}
-use borrow.Author.Rules.{rules}
 use lib.ListN.{length, drop_of_length-le}
 use Rattle.rules.proofs.BytesLaws.{part-rest}
 use Rattle.device_text.proofs.line.behind.Goals as goal

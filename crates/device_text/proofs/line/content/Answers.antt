@@ -1,5 +1,4 @@
 use mathlib.Core.Path.{sym, ◌∙◌}
-use borrow.Author.Rules.{rules}
 use lib.Seq.{length-take-le}
 use Rattle.device_text.specs.Words as Words
 use Rattle.device_text.proofs.line.content.Goals as goal

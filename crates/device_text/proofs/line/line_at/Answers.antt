@@ -1,7 +1,5 @@
 use mathlib.Core.Path.{sym, ◌∙◌}
-use borrow.Author.Rules.{rules}
 use lib.Seq.{length-take-le}
-use Rattle.device_text.specs.Words as Words
 use Rattle.device_text.proofs.line.line_at.Goals as goal
 
 pub slice_bounds-content-end : goal.slice_bounds-content-end

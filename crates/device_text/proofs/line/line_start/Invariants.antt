@@ -1,10 +1,7 @@
 use Prim.Native.Nat.{◌-◌, ◌≤◌}
-use mathlib.Core.Path.{◌≡◌, refl, ◌∙◌}
-use native.Mathlib.Omega.{arith}
-use borrow.Author.Rules.{rules}
+use mathlib.Core.Path.{◌≡◌}
 use lib.ListN.{drop}
 use Rattle.device_text.specs.Words as Words
-use Rattle.device_text.proofs.WordLaws.{behind-none, behind-next, behind-all}
 use Rattle.device_text.proofs.line.line_start.Given as goal
 
 abbrev pub invariant-loop-i : goal.invariant-loop-i

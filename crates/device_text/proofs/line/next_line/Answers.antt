@@ -1,7 +1,6 @@
 use Prim.Native.Nat.{◌-◌}
 use mathlib.Core.Path.{◌≡◌}
 use native.Mathlib.Omega.{arith}
-use borrow.Author.Rules.{rules}
 use lib.ListN.{length}
 use Rattle.device_text.proofs.WordLaws.{behind-length, next_more, next-none}
 use Rattle.device_text.proofs.line.next_line.Goals as goal

@@ -1,10 +1,7 @@
 use Prim.Native.Nat.{◌-◌, ◌≤◌}
-use mathlib.Core.Path.{◌≡◌, refl, sym, ◌∙◌}
-use native.Mathlib.Omega.{arith}
-use borrow.Author.Rules.{rules}
+use mathlib.Core.Path.{◌≡◌}
 use lib.ListN.{length, drop}
 use Rattle.device_text.specs.Words as Words
-use Rattle.device_text.proofs.WordLaws.{digits_stop, digits-next, digits-end}
 use Rattle.device_text.proofs.read.all_digits.Given as goal
 
 abbrev pub invariant-loop-i : goal.invariant-loop-i
