@@ -1,9 +1,8 @@
-use Prim.Native.Nat.{◌-◌, ◌/◌, ◌≤◌}
+use Prim.Native.Nat.{◌/◌}
 use mathlib.Core.Path.{◌≡◌}
 use native.Mathlib.Omega.{arith}
 use borrow.Author.Rules.{rules}
 use lib.ListN.{length}
-use Rattle.text.specs.Text.{Wrote}
 use Rattle.text.proofs.TextLaws.{wrote_none, wrote_then, wrote-length}
 use Rattle.device_text.specs.Words as Words
 use Rattle.device_text.proofs.WordLaws.{unhex-next}

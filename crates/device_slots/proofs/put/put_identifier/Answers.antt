@@ -1,7 +1,6 @@
 use Prim.Native.Nat.{◌-◌, ◌/◌}
 use mathlib.Core.Path.{◌≡◌}
 use native.Mathlib.Omega.{arith}
-use borrow.Author.Rules.{rules}
 use lib.ListN.{length}
 use Rattle.rules.specs.Limits.{limits}
 use Rattle.text.proofs.TextLaws.{wrote_none, wrote_then}

@@ -1,5 +1,4 @@
 use mathlib.Core.Path.{ap, ◌∙◌}
-use borrow.Author.Rules.{rules}
 use borrow.Author.Tests.{lt-leb, le-leb}
 use Rattle.device_slots.specs.SlotText as Rule
 use Rattle.device_slots.proofs.shape.is_answer.Goals as goal

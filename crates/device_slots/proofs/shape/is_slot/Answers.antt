@@ -1,6 +1,5 @@
 use mathlib.Core.Path.{ap, ◌∙◌}
-use borrow.Author.Rules.{rules}
-use borrow.Author.Tests.{not-true, not-false, lt-ltb, le-ltb}
+use borrow.Author.Tests.{lt-ltb, le-ltb}
 use Rattle.rules.specs.Limits.{limits}
 use Rattle.device_text.specs.Words as Words
 use Rattle.device_slots.specs.SlotText as Rule
@@ -10,14 +9,14 @@ pub returns-then-not-up_to_bytes : goal.returns-then-not-up_to_bytes
 unfolding Rule.is_slot
 returns-then-not-up_to_bytes c =
     let e = c.up_to_bytes.ensures ∙ ap (Words.up_to_bytes limits.identifier) c.word.ensures in
-    rw (← e, not-true c.up_to_bytes.result c.if-not-up_to_bytes.true)
+    rw (← e, c.if-not-up_to_bytes.true)
 
 pub returns-then-decimal-ge-NO_NUMBER : goal.returns-then-decimal-ge-NO_NUMBER
 unfolding Rule.is_slot
 returns-then-decimal-ge-NO_NUMBER c =
     let e = c.up_to_bytes.ensures ∙ ap (Words.up_to_bytes limits.identifier) c.word.ensures in
     let n = c.decimal.ensures ∙ ap Words.number (c.word-2.ensures ∙ ap Words.word c.rest-t2.ensures) in
-    rw (← e, not-false c.up_to_bytes.result c.if-not-up_to_bytes.false, ← n, le-ltb c.decimal.result Words.no_number c.if-decimal-ge-NO_NUMBER.true)
+    rw (← e, c.if-not-up_to_bytes.false, ← n, le-ltb c.decimal.result Words.no_number c.if-decimal-ge-NO_NUMBER.true)
 
 pub returns : goal.returns
 unfolding Rule.is_slot
@@ -29,7 +28,7 @@ returns c =
     let t = c.rest.ensures ∙ ap Words.rest three in
     rw (
       ← e,
-      not-false c.up_to_bytes.result c.if-not-up_to_bytes.false,
+      c.if-not-up_to_bytes.false,
       ← n,
       lt-ltb c.decimal.result Words.no_number c.if-decimal-ge-NO_NUMBER.false,
       ← t,
