@@ -1,4 +1,6 @@
 // Records of commands in a program, one after the other: whether each is well formed, and where the last one ends.
+#![tactic(auto)]
+
 ghost use Rattle.std.specs.Prelude.{◌≡◌, ◌≤◌, length, drop};
 ghost use Rattle.rules.specs.Limits.{limits};
 ghost use Rattle.rules.specs.Tables.{by_number};

@@ -1,11 +1,9 @@
-use Prim.Native.Nat.{◌-◌, ◌≤◌}
 use mathlib.Core.Path.{◌∙◌}
-use mathlib.Core.Logic.{⊎_elim}
 use native.Mathlib.Omega.{arith}
-use borrow.Author.Rules.{rules}
 use Rattle.program_record.proofs.RecordLaws.{end-room, no_end, no_command, is-command, no_jump, is-jump}
-use Rattle.program_records.proofs.RecordsLaws.{Sofar, sofar_start, sofar_stop, sofar_command, sofar_jump, sofar_end}
+use Rattle.program_records.proofs.RecordsLaws.{sofar_start, sofar_stop, sofar_command, sofar_jump, sofar_end}
 use Rattle.program_records.proofs.test_records.Goals as goal
+use Rattle.program_records.proofs.test_records.Goals.{then-wide-lt-CODES+else-not-command_fits, else-wide-lt-CODES+else-not-jump_fits}
 
 pub loop-n-init : goal.loop-n-init
 loop-n-init c = (omega arith, sofar_start _ _ _ _ _ c.requires.0)
@@ -51,14 +49,16 @@ overflow_add-jumps c = omega (arith, c.loop-n.invariant.1.count)
 
 pub loop-n-preserved : goal.loop-n-preserved
 loop-n-preserved c =
-    let r = end-room _ _ _ c.record_end-next.ensures c.if-next-eq0.false in
-    (
+    let r = end-room _ _ _ c.record_end-next.ensures c.if-next-eq0.false in (
       omega arith,
-      ⊎_elim
-          (λ w. let (op, k) = is-command _ _ _ _ _ _ _ c.record_end-next.ensures c.if-next-eq0.false _ c.wide.ensures.0 w.0.taken _ w.1.ensures w.2.left in
-          sofar_command _ _ _ _ _ _ _ _ c.loop-n.invariant.1 (omega arith) _ _ r.1 op _ _ _ k w.3)
-          (λ w. sofar_jump _ _ _ _ _ _ _ _ c.loop-n.invariant.1 (omega arith) _ _ r.1 _ (is-jump _ _ _ _ _ _ _ c.record_end-next.ensures c.if-next-eq0.false _ c.wide.ensures.0 w.0.left _ w.1.ensures w.2.left) w.3)
-          c.if-wide-lt-CODES.branch,
+      elim c.if-wide-lt-CODES.branch [
+        | then-wide-lt-CODES+else-not-command_fits w ↦
+            let (op, k) = is-command _ _ _ _ _ _ _ c.record_end-next.ensures c.if-next-eq0.false _ c.wide.ensures.0 w.if-wide-lt-CODES.true _ w.command_fits.ensures w.if-not-command_fits.false in
+            sofar_command _ _ _ _ _ _ _ _ c.loop-n.invariant.1 (omega arith) _ _ r.1 op _ _ _ k w.jumps-is
+        | else-wide-lt-CODES+else-not-jump_fits w ↦
+            let k = is-jump _ _ _ _ _ _ _ c.record_end-next.ensures c.if-next-eq0.false _ c.wide.ensures.0 w.if-wide-lt-CODES.false _ w.jump_fits.ensures w.if-not-jump_fits.false in
+            sofar_jump _ _ _ _ _ _ _ _ c.loop-n.invariant.1 (omega arith) _ _ r.1 _ k w.jumps-is
+      ],
     )
 
 pub overflow_sub-result : goal.overflow_sub-result
