@@ -1,7 +1,6 @@
 use mathlib.Core.Path.{◌≡◌, refl}
 use native.Mathlib.Omega.{arith}
 use lib.ListN.{length}
-use borrow.Author.Rules.{rules}
 use Rattle.rules.specs.Limits.{memory_numbers}
 use Rattle.rules.specs.Step.{acts}
 use Rattle.rules.specs.Commands as Rules
@@ -84,7 +83,7 @@ returns-in-3 c =
     rw c.effect_of-in-3.ensures
     (record {
       ends = c.matches.ensures.0;
-      does = λ env trace events h z f. rw c.in-1.keys3 (c.matches.ensures.1 env _ _ (is_at _ env _ _ _ _ _ trace _ _ _ h z _ c.load.ensures _ refl));
+      does = λ env trace events h z f. rw c.in-3.is (c.matches.ensures.1 env _ _ (is_at _ env _ _ _ _ _ trace _ _ _ h z _ c.load.ensures _ refl));
       fit = λ n f g. f;
       kept = λ i h. refl;
     })
@@ -111,7 +110,7 @@ returns-in-19 c =
       does =
           λ env trace events h l f.
           rw (
-            c.in-1.keys6,
+            c.in-19.is,
             set-params _ env _ _ _ _ _ trace _ events c.args.command.used h l c.load-p.result c.load-p.ensures w c.args.given _ c.over.ensures,
           );
       fit =
@@ -131,7 +130,7 @@ returns-in-20 c =
       does =
           λ env trace events h l f.
           rw (
-            c.in-1.keys7,
+            c.in-20.is,
             override_params_lem _ env _ _ _ _ _ trace _ events c.args.command.used h l c.load-p-in-20.result c.load-p-in-20.ensures w c.args.given _ c.over-in-20.ensures,
           );
       fit =
@@ -148,7 +147,7 @@ returns-in-21 c =
       ends = c.fetch.ensures.0;
       does =
           λ env trace events h z f.
-          rw c.in-1.keys8
+          rw c.in-21.is
           (c.fetch.ensures.1 _ env _ _ (is_at _ env _ _ _ _ _ trace _ _ _ h z _ c.load-in-21.ensures _ refl) h.replies refl);
       fit = λ n f g. f;
       kept = λ i h. refl;
@@ -162,7 +161,7 @@ returns-in-22 c =
       ends = c.copy.ensures.0;
       does =
           λ env trace events h z f.
-          rw c.in-1.keys9
+          rw c.in-22.is
           (c.copy.ensures.1 _ env _ _ (is_at _ env _ _ _ _ _ trace _ _ _ h z _ c.load-in-22.ensures _ refl) (source-at _ env _ _ _ _ _ trace _ _ _ h z _ c.load-in-22.ensures f));
       fit = λ n f g. f;
       kept = λ i h. refl;
@@ -177,7 +176,7 @@ returns-in-23 c =
       does =
           λ env trace events h l f.
           let a = is_at _ env _ _ _ _ _ trace _ _ _ h l _ refl _ refl in
-          rw c.in-1.keys10 (c.runs.ensures.1 env _ _ a.lent a.number);
+          rw c.in-23.is (c.runs.ensures.1 env _ _ a.lent a.number);
       fit = λ n f g. f;
       kept = λ i h. refl;
     })
@@ -185,9 +184,8 @@ returns-in-23 c =
 pub returns-in_default : goal.returns-in_default
 unfolding acts
 returns-in_default c =
-    let is-swap : command_of c.args.s.now c.args.command c.args.given ≡ Rules.swap =
-    swap-left _ _ _ _ c.in-1.rest.0.0.0.0.0.0.0.0.0.1 c.in-1.rest.0.0.0.0.0.0.0.0.1 c.in-1.rest.0.0.0.0.0.0.0.1 c.in-1.rest.0.0.0.0.0.0.1 c.in-1.rest.0.0.0.0.0.1
-    c.in-1.rest.0.0.0.0.1 c.in-1.rest.0.0.0.1 c.in-1.rest.0.0.1 c.in-1.rest.0.1 c.in-1.rest.1 in
+    let ((((((((((_, n₁), n₂), n₃), n₁₂), n₁₄), n₁₉), n₂₀), n₂₁), n₂₂), n₂₃) = c.in_default.in_default-own.rest in
+    let is-swap : command_of c.args.s.now c.args.command c.args.given ≡ Rules.swap = swap-left _ _ _ _ n₁ n₂ n₃ n₁₂ n₁₄ n₁₉ n₂₀ n₂₁ n₂₂ n₂₃ in
     rw c.effect_of-in_default.ensures
     (record {
       ends = c.swap.ensures.0;

@@ -3,7 +3,6 @@ use mathlib.Core.Path.{◌≡◌}
 use mathlib.Core.List.{[], ◌∷◌}
 use native.Mathlib.Omega.{arith}
 use lib.ListN.{length, length-set}
-use borrow.Author.Rules.{rules}
 use Rattle.rules.specs.Answers.{end_of, result_number}
 use Rattle.rules.specs.Bytes.{Bytes, be2, put}
 use Rattle.rules.specs.Step.{event_bytes}
