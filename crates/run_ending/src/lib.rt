@@ -1,4 +1,6 @@
 // What a run answers: a refusal, or how it ended; and the device's number after it.
+#![tactic(auto)]
+
 ghost use Rattle.std.specs.Prelude.{◌≡◌, cond, eqb};
 ghost use Rattle.rules.specs.Answers.{end_of};
 ghost use Rattle.rules.specs.Got as Got;

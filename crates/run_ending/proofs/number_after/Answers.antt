@@ -1,4 +1,3 @@
-use borrow.Author.Rules.{rules}
 use Rattle.run_ending.proofs.EndingLaws.{takes, keeps}
 use Rattle.run_ending.proofs.number_after.Goals as goal
 
