@@ -2,13 +2,13 @@
 use Prim.Native.Nat.{ℕ, suc, ◌+◌, ◌≤◌}
 use mathlib.Core.Path.{◌≡◌, refl, sym, ap, ◌∙◌}
 use mathlib.Core.List.{List, [], ◌∷◌, ◌++◌}
-use mathlib.Core.Bool.{Bool, true, false, ◌&&◌, cond, not}
+use mathlib.Core.Bool.{Bool, true, false, ◌&&◌, cond}
 use lib.Dec.{eqb, leb}
 use borrow.Author.Tests.{eq-eqb, ne_eqb, leb-true}
 use native.Mathlib.Omega.{arith}
 use lib.ListN.{length, length-append}
 use lib.Seq.{length-sets}
-use Rattle.rules.proofs.GotLaws.{and-true, holds}
+use Rattle.rules.proofs.GotLaws.{and-true}
 use Rattle.rules.specs.Limits.{limits}
 use Rattle.rules.specs.Bytes.{Bytes, same, put}
 use Rattle.rules.specs.Slots.{slot_bytes, answer_bytes}
@@ -25,8 +25,8 @@ use Rattle.device_description.specs.declared.Name.{Name}
 use Rattle.device_description.specs.Values.{flag_if, name_of}
 
 -- what fits a room does so in numbers
-pub room_for : (good : Bool) (at width m : ℕ) (r : Bool) → r ≡ (good && leb (at + width) m) → not r ≡ false → at + width ≤ m
-room_for good at width m r e n = leb-true (at + width) m (and-true good (leb (at + width) m) (holds r (good && leb (at + width) m) e n)).1
+pub room_for : (good : Bool) (at width m : ℕ) (r : Bool) → r ≡ (good && leb (at + width) m) → r ≡ true → at + width ≤ m
+room_for good at width m r e n = leb-true (at + width) m (and-true good (leb (at + width) m) (sym e ∙ n)).1
 
 -- a slot adds no answer, and an answer no slot
 pub slot_alone : (m n : ℕ) (d : Scenario) (t : Bytes) → (slot_line m n d t).answers ≡ []

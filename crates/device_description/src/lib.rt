@@ -1,4 +1,6 @@
 // Device descriptions: the input of a run, read from a text (docs/DEPOT.md).
+#![tactic(auto)]
+
 ghost use Rattle.std.specs.Prelude.{◌≡◌, ◌&&◌, ◌+◌, leb, length};
 ghost use Rattle.rules.specs.Bytes.{same};
 ghost use Rattle.device_description.specs.Scenario as Rule;

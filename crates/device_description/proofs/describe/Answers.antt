@@ -1,13 +1,9 @@
-use Prim.Native.Nat.{◌+◌, ◌-◌, ◌≤◌}
-use mathlib.Core.Path.{◌≡◌, refl, ◌∙◌}
+use mathlib.Core.Path.{refl, ◌∙◌}
 use native.Mathlib.Omega.{arith}
 use native.Mathlib.Numerals.{add-one}
-use borrow.Author.Rules.{rules}
-use lib.ListN.{length, drop}
-use Rattle.device_text.specs.Words as Words
-use Rattle.device_description.specs.Scenario as Rule
+use lib.ListN.{length}
 use Rattle.device_text.proofs.WordLaws.{lines_next, lines_end}
-use Rattle.device_description.proofs.ScenarioLaws.{Left, left-next, left_stop, left_end, left-start, took_slots, took_answers}
+use Rattle.device_description.proofs.ScenarioLaws.{left-next, left_stop, left_end, left-start, took_slots, took_answers}
 use Rattle.device_description.proofs.describe.Goals as goal
 
 pub loop-at-init : goal.loop-at-init
@@ -34,8 +30,7 @@ loop-at-preserved c =
     let m = length c.args.slots.now in
     let k = length c.args.answers.now in
     let f = rw (lines_next c.args.text.now c.loop-at.at c.loop-at-test.true) at c.loop-at.invariant.4 in
-    let t = rw (c.loop-at.invariant.2, c.loop-at.invariant.3, c.line_at.ensures) at c.take_line-d.ensures in
-    (
+    let t = rw (c.loop-at.invariant.2, c.loop-at.invariant.3, c.line_at.ensures) at c.take_line-d.ensures in (
       c.next_line-at.ensures.1,
       omega (arith, c.loop-at.invariant.1, c.next_line-at.ensures.2 c.loop-at-test.true),
       took_slots c.take_line-d.ensures ∙ c.loop-at.invariant.2,

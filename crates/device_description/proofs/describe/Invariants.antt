@@ -1,13 +1,9 @@
 use Prim.Native.Nat.{◌+◌, ◌-◌, ◌≤◌}
-use mathlib.Core.Path.{◌≡◌, refl, ◌∙◌}
-use native.Mathlib.Omega.{arith}
-use native.Mathlib.Numerals.{add-one}
-use borrow.Author.Rules.{rules}
+use mathlib.Core.Path.{◌≡◌}
 use lib.ListN.{length, drop}
 use Rattle.device_text.specs.Words as Words
 use Rattle.device_description.specs.Scenario as Rule
-use Rattle.device_text.proofs.WordLaws.{lines_next, lines_end}
-use Rattle.device_description.proofs.ScenarioLaws.{Left, left-next, left_stop, left_end, left-start, took_slots, took_answers}
+use Rattle.device_description.proofs.ScenarioLaws.{Left}
 use Rattle.device_description.proofs.describe.Given as goal
 
 abbrev pub invariant-loop-at : goal.invariant-loop-at

@@ -1,5 +1,4 @@
 use mathlib.Core.Path.{refl, ◌∙◌}
-use borrow.Author.Rules.{rules}
 use Rattle.rules.specs.Bytes.{same}
 use Rattle.text.specs.Text.{ascii}
 use Rattle.device_description.specs.Scenario as Rule

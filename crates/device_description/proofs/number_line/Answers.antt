@@ -1,4 +1,3 @@
-use borrow.Author.Rules.{rules}
 use borrow.Author.Tests.{lt-ltb, le-ltb}
 use Rattle.device_text.specs.Words as Words
 use Rattle.device_description.specs.Scenario as Rule

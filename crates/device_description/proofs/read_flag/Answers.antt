@@ -1,5 +1,4 @@
 use mathlib.Core.Path.{refl}
-use borrow.Author.Rules.{rules}
 use Rattle.device_description.proofs.read_flag.Goals as goal
 
 pub returns-then-is : goal.returns-then-is

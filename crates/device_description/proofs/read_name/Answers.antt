@@ -1,6 +1,5 @@
 use mathlib.Core.Path.{◌≡◌, refl, sym, ◌∙◌}
 use mathlib.Core.Bool.{true}
-use borrow.Author.Rules.{rules}
 use Rattle.rules.specs.Limits.{limits}
 use Rattle.device_text.specs.Words as Words
 use Rattle.device_slots.proofs.LengthLaws.{sixteen-all}

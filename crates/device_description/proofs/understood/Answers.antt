@@ -1,5 +1,4 @@
 use mathlib.Core.Path.{refl}
-use borrow.Author.Rules.{rules}
 use Rattle.device_description.proofs.understood.Goals as goal
 
 pub returns-then-known : goal.returns-then-known

@@ -1,5 +1,4 @@
 use mathlib.Core.Path.{refl, ◌∙◌}
-use borrow.Author.Rules.{rules}
 use Rattle.device_description.specs.Scenario as Rule
 use Rattle.device_description.proofs.ScenarioLaws.{name-line}
 use Rattle.device_description.proofs.vendor_line.Goals as goal
