@@ -1,4 +1,6 @@
 // The tests of a run, in the order of the table of refusals.
+#![tactic(auto)]
+
 ghost use Rattle.std.specs.Prelude.{◌≡◌};
 ghost use Rattle.rules.specs.Run as Rule;
 ghost use Rattle.run_admission.specs.Admission.{Requested, Admits};

@@ -1,4 +1,3 @@
-use borrow.Author.Rules.{rules}
 use Rattle.run_admission.proofs.number_fits.Goals as goal
 
 pub returns-in-Install : goal.returns-in-Install
