@@ -1,4 +1,6 @@
 // Why a line of a device description is refused, as text in lent room (docs/DEPOT.md).
+#![tactic(auto)]
+
 ghost use Rattle.text.specs.Text.{Writes};
 ghost use Rattle.device_faults.specs.Faults.{line_fault, fault_text};
 

@@ -1,5 +1,4 @@
 use mathlib.Core.Path.{◌≡◌}
-use borrow.Author.Rules.{rules}
 use Rattle.text.proofs.TextLaws.{wrote_then}
 use Rattle.device_text.specs.Words.{line_of}
 use Rattle.device_faults.specs.Faults.{fault_text}

@@ -1,6 +1,5 @@
 use mathlib.Core.Path.{◌≡◌, sym, ◌∙◌}
 use mathlib.Core.Bool.{true, false}
-use borrow.Author.Rules.{rules}
 use Rattle.rules.specs.Bytes.{same}
 use Rattle.text.specs.Text.{ascii}
 use Rattle.device_text.specs.Words as Words

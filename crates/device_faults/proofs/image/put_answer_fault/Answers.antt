@@ -1,5 +1,4 @@
 use mathlib.Core.Path.{ap, ◌∙◌}
-use borrow.Author.Rules.{rules}
 use borrow.Author.Tests.{lt-leb, le-leb}
 use Rattle.device_slots.specs.SlotText as Slots
 use Rattle.device_faults.specs.Faults.{answer_fault}

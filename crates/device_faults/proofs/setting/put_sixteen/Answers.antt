@@ -1,4 +1,3 @@
-use borrow.Author.Rules.{rules}
 use Rattle.text.proofs.TextLaws.{wrote_then}
 use Rattle.device_faults.specs.Faults.{sixteen_text}
 use Rattle.device_faults.proofs.setting.put_sixteen.Goals as goal

@@ -1,6 +1,5 @@
 use mathlib.Core.Path.{sym}
 use native.Mathlib.Omega.{arith}
-use borrow.Author.Rules.{rules}
 use lib.Seq.{take_all, length-take-le}
 use Rattle.device_faults.specs.Faults.{shown_bytes}
 use Rattle.device_faults.proofs.setting.shown.Goals as goal

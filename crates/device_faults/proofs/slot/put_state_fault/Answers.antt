@@ -1,7 +1,6 @@
 use mathlib.Core.Path.{◌≡◌, sym, ◌∙◌}
 use mathlib.Core.Bool.{true, false}
-use borrow.Author.Rules.{rules}
-use borrow.Author.Tests.{not-true, not-false, eq-eqb, ne_eqb}
+use borrow.Author.Tests.{eq-eqb, ne_eqb}
 use lib.ListN.{length}
 use Rattle.rules.specs.Bytes.{same}
 use Rattle.text.specs.Text.{ascii}
@@ -18,19 +17,19 @@ pub returns-then-not-is : goal.returns-then-not-is
 unfolding state_fault
 returns-then-not-is c =
     let p : same c.args.w.now (ascii "present") ≡ false = sym c.is.ensures ∙ c.if-is.false in
-    let q : same c.args.w.now (ascii "absent") ≡ false = sym c.is-2.ensures ∙ not-true _ c.if-not-is.true in
+    let q : same c.args.w.now (ascii "absent") ≡ false = sym c.is-2.ensures ∙ c.if-not-is.true in
     rw (p, q) c.put.ensures
 
 pub returns-then-t-eq0 : goal.returns-then-t-eq0
 unfolding state_fault
 returns-then-t-eq0 c =
     let p : same c.args.w.now (ascii "present") ≡ false = sym c.is.ensures ∙ c.if-is.false in
-    let q : same c.args.w.now (ascii "absent") ≡ true = sym c.is-2.ensures ∙ not-false _ c.if-not-is.false in
+    let q : same c.args.w.now (ascii "absent") ≡ true = sym c.is-2.ensures ∙ c.if-not-is.false in
     rw (p, q, eq-eqb (length c.args.t.now) 0 c.if-t-eq0.true) c.put_too_many.ensures
 
 pub returns : goal.returns
 unfolding state_fault
 returns c =
     let p : same c.args.w.now (ascii "present") ≡ false = sym c.is.ensures ∙ c.if-is.false in
-    let q : same c.args.w.now (ascii "absent") ≡ true = sym c.is-2.ensures ∙ not-false _ c.if-not-is.false in
+    let q : same c.args.w.now (ascii "absent") ≡ true = sym c.is-2.ensures ∙ c.if-not-is.false in
     rw (p, q, ne_eqb (length c.args.t.now) 0 c.if-t-eq0.false) c.put_image_fault-2.ensures
