@@ -1,4 +1,6 @@
 // The identifiers of a program's components.
+#![tactic(auto)]
+
 ghost use Rattle.std.specs.Prelude.{◌≡◌, ◌≤◌, ◌<◌, length, drop, replicate};
 ghost use Rattle.rules.specs.Limits.{limits, places};
 ghost use Rattle.rules.specs.ProgramTest as Rule;

@@ -1,4 +1,3 @@
-use borrow.Author.Rules.{rules}
 use Rattle.program_names.proofs.NameLaws.{name-short, name-first, name_second, name_third, name-empty, name-long, name-cut, name-good}
 use Rattle.program_names.proofs.test_name.Goals as goal
 

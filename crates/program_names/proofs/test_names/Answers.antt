@@ -1,11 +1,7 @@
-use Prim.Native.Nat.{◌-◌, ◌≤◌}
-use mathlib.Core.Path.{◌≡◌}
 use native.Mathlib.Omega.{arith}
 use borrow.Author.Rules.{rules}
-use lib.ListN.{length}
 use lib.Seq.{lt-length-set}
-use Rattle.rules.specs.Limits as Limits
-use Rattle.program_names.proofs.NameLaws.{Sofar, sofar_start, sofar_stop, sofar_next, sofar_end}
+use Rattle.program_names.proofs.NameLaws.{sofar_start, sofar_stop, sofar_next, sofar_end}
 use Rattle.program_names.proofs.test_names.Goals as goal
 
 pub loop-k-init : goal.loop-k-init

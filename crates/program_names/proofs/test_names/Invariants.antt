@@ -1,11 +1,8 @@
 use Prim.Native.Nat.{◌-◌, ◌≤◌}
 use mathlib.Core.Path.{◌≡◌}
-use native.Mathlib.Omega.{arith}
-use borrow.Author.Rules.{rules}
 use lib.ListN.{length}
-use lib.Seq.{lt-length-set}
 use Rattle.rules.specs.Limits as Limits
-use Rattle.program_names.proofs.NameLaws.{Sofar, sofar_start, sofar_stop, sofar_next, sofar_end}
+use Rattle.program_names.proofs.NameLaws.{Sofar}
 use Rattle.program_names.proofs.test_names.Given as goal
 
 abbrev pub invariant-loop-k : goal.invariant-loop-k
