@@ -1,4 +1,6 @@
 // The way through a program's records, which only goes forward.
+#![tactic(auto)]
+
 ghost use Rattle.program_jump.specs.Jump.{AdvanceJob, Advanced, JumpJob, Jumped};
 
 use byte_buffer::two;

@@ -1,7 +1,4 @@
-use Prim.Native.Nat.{◌-◌, ◌≤◌}
 use native.Mathlib.Omega.{arith}
-use borrow.Author.Rules.{rules}
-use Rattle.program_jump.specs.Jump.{AdvanceJob, Advanced}
 use Rattle.program_jump.proofs.JumpLaws.{advance_start, advance_room, advance_next, advance_done}
 use Rattle.program_jump.proofs.advance.Goals as goal
 

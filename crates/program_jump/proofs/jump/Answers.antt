@@ -1,5 +1,4 @@
 use native.Mathlib.Omega.{arith}
-use borrow.Author.Rules.{rules}
 use Rattle.program_jump.proofs.JumpLaws.{jump-room, jump-forward, jump_advances, jumped}
 use Rattle.program_jump.proofs.jump.Goals as goal
 
