@@ -10,7 +10,7 @@ use Rattle.rules.specs.Bytes.{Bytes, same}
 use Rattle.rules.specs.Limits.{limits}
 use Rattle.text.specs.Text.{ascii, decimal, hex}
 use Rattle.text_pieces.specs.Pieces.{labelled}
-use Rattle.device_text.specs.Words.{no_number, lines, number, is_bytes}
+use Rattle.device_text.specs.Words.{no_number, lines, is_bytes}
 use Rattle.device_description.specs.declared.Scenario.{Scenario}
 use Rattle.device_description.specs.Scenario.{says, start, with_verdict, with_vendor, with_class, with_number, with_event, verdict_line, vendor_line, class_line, event_line, setting, line, lines_from}
 use Rattle.device_description.specs.Scenario.{number_line as readNumber}

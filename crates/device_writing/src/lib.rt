@@ -1,4 +1,6 @@
 // A device as the text that describes it, in lent room (docs/DEPOT.md).
+#![tactic(auto)]
+
 ghost use Rattle.std.specs.Prelude.{cond};
 ghost use Rattle.text.specs.Text.{Writes};
 ghost use Rattle.device_writing.specs.Device.{name_line, number_line, setting_lines, device_text};

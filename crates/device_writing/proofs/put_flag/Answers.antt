@@ -1,4 +1,3 @@
-use borrow.Author.Rules.{rules}
 use Rattle.device_writing.proofs.put_flag.Goals as goal
 
 pub returns-then-on : goal.returns-then-on

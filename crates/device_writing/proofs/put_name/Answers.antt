@@ -1,4 +1,3 @@
-use borrow.Author.Rules.{rules}
 use Rattle.text.proofs.TextLaws.{wrote_then}
 use Rattle.device_writing.specs.Device.{name_line}
 use Rattle.device_writing.proofs.put_name.Goals as goal

@@ -1,6 +1,5 @@
 use Prim.Native.Nat.{◌+◌}
 use mathlib.Core.Path.{◌≡◌}
-use borrow.Author.Rules.{rules}
 use Rattle.rules.specs.Bytes.{four_at}
 use Rattle.rules.specs.Slots.{image_from, size_from}
 use Rattle.text.proofs.TextLaws.{wrote_then}

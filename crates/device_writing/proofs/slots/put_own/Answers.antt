@@ -1,5 +1,4 @@
 use mathlib.Core.Path.{◌≡◌}
-use borrow.Author.Rules.{rules}
 use Rattle.rules.specs.Bytes.{four_at}
 use Rattle.rules.specs.Slots.{capacity_from}
 use Rattle.text.proofs.TextLaws.{wrote_then}

@@ -1,7 +1,6 @@
 use Prim.Native.Nat.{◌+◌, ◌-◌, ◌*◌}
 use mathlib.Core.Path.{◌≡◌}
 use native.Mathlib.Omega.{arith}
-use borrow.Author.Rules.{rules}
 use Rattle.rules.specs.Slots.{slot_bytes}
 use Rattle.device_writing.specs.Device.{slot_of}
 use Rattle.device_writing.proofs.slots.put_slot_of.Goals as goal

@@ -1,11 +1,8 @@
-use Prim.Native.Nat.{◌-◌, ◌≤◌}
 use native.Mathlib.Omega.{arith}
 use borrow.Author.Rules.{rules}
-use Rattle.text.specs.Text.{Wrote}
 use Rattle.text.proofs.TextLaws.{wrote-length}
-use Rattle.text_pieces.specs.Pieces.{lines}
 use Rattle.text_pieces.proofs.PieceLaws.{lines_none, lines_next, lines-all}
-use Rattle.device_writing.specs.Device.{slot_of, slot_lines}
+use Rattle.device_writing.specs.Device.{slot_lines}
 use Rattle.device_writing.proofs.slots.put_slots.Goals as goal
 
 pub loop-k-init : goal.loop-k-init
