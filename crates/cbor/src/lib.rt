@@ -1,4 +1,6 @@
 // Items of CBOR, as a manifest may use it: a head whose content lies in its container.
+#![tactic(auto)]
+
 ghost use Rattle.std.specs.Prelude.{◌≡◌, ℕ, ◌+◌, ◌≤◌, length};
 ghost use Rattle.rules.specs.Cbor.{whole, item, one_of, after};
 ghost use Rattle.cbor_heads.specs.Answer.{head_means};

@@ -1,4 +1,6 @@
 // Heads of CBOR, as a manifest may use it: definite lengths, shortest heads, numbers to 2^32-1.
+#![tactic(auto)]
+
 ghost use Rattle.std.specs.Prelude.{◌≡◌, ◌%◌, ◌≤◌, ◌<◌, length, get_or};
 ghost use Rattle.rules.specs.declared.answers.Refusal.TheVariants.{NotCbor};
 ghost use Rattle.rules.specs.Got.{refused, got};

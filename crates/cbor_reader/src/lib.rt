@@ -1,4 +1,6 @@
 // A reader over a lent envelope: the envelope and a place in it, held together. Of a string it reads the head alone.
+#![tactic(auto)]
+
 ghost use Rattle.std.specs.Prelude.{◌≡◌, ◌-◌, length};
 ghost use Rattle.rules.specs.Cbor.{head};
 ghost use Rattle.cbor_reader.specs.Read.{read_of, head_here, moved};

@@ -1,4 +1,6 @@
 // What a reader of check answers. All fields have one width, so that it costs little to hand back.
+#![tactic(auto)]
+
 ghost use Rattle.std.specs.Prelude.{◌≡◌, ◌≤◌, length};
 ghost use Rattle.rules.specs.Cbor as Cbor;
 ghost use Rattle.cbor_reading.specs.Reading.{fault, head_reading};

@@ -1,4 +1,6 @@
 // Heads of one byte: the tests under which such a head is read without the general path.
+#![tactic(auto)]
+
 ghost use Rattle.std.specs.Prelude.{◌≡◌, true, ℕ, ◌+◌, ◌/◌, ◌%◌, ◌≤◌, ◌<◌};
 ghost use Rattle.rules.specs.Cbor as Cbor;
 

@@ -1,4 +1,6 @@
 // The arguments of commands, by their places.
+#![tactic(auto)]
+
 ghost use Rattle.std.specs.Prelude.{◌≡◌, ◌⊎◌, ◌≤◌, length};
 ghost use Rattle.rules.specs.declared.tables.Parameter.TheVariants.{Source};
 ghost use Rattle.rules.specs.Tables.{by_number};

@@ -1,4 +1,6 @@
 // The head of a command: its code, whether it may stand there, and what stands before the sequences that it holds.
+#![tactic(auto)]
+
 ghost use Rattle.std.specs.Prelude.{◌≡◌, ◌/◌, ◌%◌, ◌≤◌, ◌<◌, eqb, length};
 ghost use Rattle.rules.specs.Limits.{section_count};
 ghost use Rattle.rules.specs.Tables.{by_number, weight_of};

@@ -1,4 +1,6 @@
 // Check: an envelope is checked against the rules of document 01.
+#![tactic(auto)]
+
 ghost use Rattle.std.specs.Prelude.{◌≡◌};
 ghost use Rattle.rules.specs.Check as Check;
 ghost use Rattle.check_envelope.specs.Report.{report_of, numbers_in, numbers_of};

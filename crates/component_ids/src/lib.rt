@@ -1,4 +1,6 @@
 // The component list: its identifiers, and the search for a repeated one.
+#![tactic(auto)]
+
 ghost use Rattle.std.specs.Prelude.{◌≡◌, ◌+◌, ◌≤◌, length};
 ghost use Rattle.rules.specs.Bytes.{part, InBytes, same};
 ghost use Rattle.rules.specs.Check as Check;

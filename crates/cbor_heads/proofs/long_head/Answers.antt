@@ -1,6 +1,5 @@
 use mathlib.Core.Path.{sym}
 use native.Mathlib.Omega.{arith}
-use borrow.Author.Rules.{rules}
 use Rattle.rules.proofs.CborLaws.{first-long, starts_1, starts_2, starts_4, head_negative, head-high, head-wide, head-cut, head-whole}
 use Rattle.cbor_heads.proofs.long_head.Goals as goal
 

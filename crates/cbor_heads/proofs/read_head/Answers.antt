@@ -1,6 +1,5 @@
 use mathlib.Core.Path.{sym}
 use native.Mathlib.Omega.{arith}
-use borrow.Author.Rules.{rules}
 use Rattle.rules.proofs.CborLaws.{head_past, head_negative, head-high, head-short, head_flag}
 use Rattle.cbor_heads.proofs.read_head.Goals as goal
 

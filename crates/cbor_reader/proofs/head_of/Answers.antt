@@ -1,5 +1,4 @@
 use mathlib.Core.Path.{sym, ◌∙◌, ap}
-use borrow.Author.Rules.{rules}
 use Rattle.cbor_heads.specs.Answer.{head_means}
 use Rattle.cbor_reader.specs.Read.{read_of}
 use Rattle.cbor_reader.proofs.head_of.Goals as goal

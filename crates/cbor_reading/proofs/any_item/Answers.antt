@@ -1,5 +1,4 @@
 use mathlib.Core.Path.{◌∙◌}
-use borrow.Author.Rules.{rules}
 use Rattle.cbor_reading.proofs.ReadingLaws.{answered}
 use Rattle.cbor_reading.proofs.any_item.Goals as goal
 

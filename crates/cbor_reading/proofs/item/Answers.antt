@@ -1,6 +1,5 @@
 use mathlib.Core.Path.{sym, ap}
 use native.Mathlib.Omega.{arith}
-use borrow.Author.Rules.{rules}
 use Rattle.cbor_reading.specs.Reading.{head_reading}
 use Rattle.cbor_reading.proofs.ShortLaws.{short-item}
 use Rattle.cbor_reading.proofs.item.Goals as goal

@@ -1,6 +1,5 @@
 use mathlib.Core.Path.{◌∙◌}
 use native.Mathlib.Omega.{arith}
-use borrow.Author.Rules.{rules}
 use Rattle.cbor_reading.proofs.ReadingLaws.{number-stopped, number_went}
 use Rattle.check_argument.proofs.ArgumentLaws.{index_stop, index_large, index_below}
 use Rattle.check_argument.proofs.component.Goals as goal

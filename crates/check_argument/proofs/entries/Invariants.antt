@@ -1,11 +1,6 @@
-use mathlib.Core.Path.{◌≡◌, refl, sym, ◌∙◌}
-use native.Mathlib.Omega.{arith}
-use borrow.Author.Rules.{rules}
-use Rattle.rules.proofs.CheckLaws.{number_law}
+use mathlib.Core.Path.{◌≡◌}
 use Rattle.rules.specs.Check.{nothing, entries}
 use Rattle.cbor_reading.specs.Reading.{after}
-use Rattle.cbor_reading.proofs.ReadingLaws.{number-stopped, number_went, reading-stopped, reading_went, pos}
-use Rattle.check_argument.proofs.ArgumentLaws.{known_some, known-none, entries_none, entries_stop, entries-low, entries_unknown, entries-bad, entries-more}
 use Rattle.check_argument.proofs.entries.Given as goal
 
 -- the reading of all is the reading of what is left

@@ -1,6 +1,4 @@
 use mathlib.Core.Path.{◌∙◌}
-use borrow.Author.Rules.{rules}
-use Rattle.rules.specs.Cbor.{item}
 use Rattle.check_argument.proofs.ArgumentLaws.{number-reading}
 use Rattle.check_argument.proofs.number.Goals as goal
 

@@ -1,5 +1,4 @@
 use native.Mathlib.Omega.{arith}
-use borrow.Author.Rules.{rules}
 use Rattle.cbor_reading.proofs.ReadingLaws.{item-stopped, item_went, string-fits}
 use Rattle.check_argument.proofs.ArgumentLaws.{string-end}
 use Rattle.check_argument.proofs.string.Goals as goal

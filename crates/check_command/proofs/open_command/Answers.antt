@@ -1,7 +1,5 @@
 use mathlib.Core.Path.{sym, ◌∙◌}
 use native.Mathlib.Omega.{arith}
-use borrow.Author.Rules.{rules}
-use borrow.Author.Tests.{not-true, not-false}
 use Rattle.cbor_reading.proofs.ReadingLaws.{number-stopped, number_went}
 use Rattle.check_command.proofs.CommandLaws.{start_stop, start_unknown, start_not_allowed, start_many, start-argument}
 use Rattle.check_command.proofs.open_command.Goals as goal

@@ -1,6 +1,5 @@
 use mathlib.Core.Logic.{inl, inr}
 use native.Mathlib.Omega.{arith}
-use borrow.Author.Rules.{rules}
 use Rattle.check_envelope.proofs.EnvelopeLaws.{promised, report-refused, check-long, check_no_outer, outer_fits, check-bad, check-left_over, check-good}
 use Rattle.check_envelope.proofs.check.Goals as goal
 

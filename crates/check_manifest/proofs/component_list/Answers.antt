@@ -2,7 +2,6 @@ use mathlib.Core.Path.{refl}
 use mathlib.Core.Logic.{inl}
 use native.Mathlib.Omega.{arith}
 use lib.ListN.{length}
-use borrow.Author.Rules.{rules}
 use Rattle.cbor_reading.proofs.ReadingLaws.{item-stopped, item_went, string-fits, reading-stopped, reading_went}
 use Rattle.check_manifest.proofs.InBytesLaws.{in_stop, in_bad, in_over}
 use Rattle.check_manifest.proofs.ListLaws.{list_stop, list-good}

@@ -1,7 +1,5 @@
 use mathlib.Core.Path.{refl, ap, ◌∙◌}
 use Prim.Native.Nat.{ℕ}
-use borrow.Author.Rules.{rules}
-use Rattle.rules.specs.Bytes.{Bytes}
 use Rattle.rules.specs.Commands.{COMMON}
 use Rattle.rules.specs.Check.{number, key, numbered_at}
 use Rattle.cbor_reading.specs.Reading.{ends, reading}

@@ -1,7 +1,5 @@
 use mathlib.Core.Path.{refl, ap, ◌∙◌}
 use Prim.Native.Nat.{ℕ}
-use borrow.Author.Rules.{rules}
-use Rattle.rules.specs.Bytes.{Bytes}
 use Rattle.rules.specs.Check.{version_at, numbered_at, front_at}
 use Rattle.rules.specs.Cbor.{MAP, Head, item}
 use Rattle.check_manifest.specs.declared.Front.{Front}

@@ -1,9 +1,7 @@
 use mathlib.Core.Path.{refl, sym, ap, ◌∙◌}
 use Prim.Native.Nat.{ℕ}
-use borrow.Author.Rules.{rules}
 use borrow.Author.Tests.{eq-eqb, ne_eqb}
 use Rattle.rules.specs.declared.answers.Refusal.TheVariants.{WrongVersion}
-use Rattle.rules.specs.Bytes.{Bytes}
 use Rattle.rules.specs.Check.{number, key, version_at}
 use Rattle.cbor_reading.specs.Reading.{fault, ends, place_reading}
 use Rattle.check_manifest.proofs.BodyLaws.{Told, told, onward, halts, key-told}

@@ -1,4 +1,3 @@
-use borrow.Author.Rules.{rules}
 use Rattle.check_newer.proofs.NewerLaws.{first, second}
 use Rattle.check_newer.proofs.choose.Goals as goal
 

@@ -1,5 +1,4 @@
 use native.Mathlib.Omega.{arith}
-use borrow.Author.Rules.{rules}
 use Rattle.check_newer.proofs.NewerLaws.{part-accepted, part-refused, number_small}
 use Rattle.check_newer.proofs.part_in.Goals as goal
 

@@ -35,8 +35,7 @@ check_command-overflow_add-to t c =
 pub check_command-check_sequence-r-requires : goal.check_command-check_sequence-r-requires
 check_command-check_sequence-r-requires t c =
     let i = item_went _ _ _ _ _ _ _ c.item-b.ensures c.if-refusal-ne0-2.false in
-    let f = string-fits _ _ _ _ _ _ _ (inl refl) i in
-    (
+    let f = string-fits _ _ _ _ _ _ _ (inl refl) i in (
       omega (arith, f, (item_law _ _ _ _ _ _ _ i).up, c.loop-left.invariant.1),
       (omega (arith, f), search rules, search rules, search rules),
     )

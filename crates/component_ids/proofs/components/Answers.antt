@@ -1,7 +1,6 @@
 use Prim.Native.Nat.{ℕ, ◌<◌}
 use mathlib.Core.Path.{◌≡◌, ◌∙◌}
 use native.Mathlib.Omega.{arith}
-use borrow.Author.Rules.{rules}
 use Rattle.rules.specs.Limits.{limits}
 use Rattle.component_ids.specs.declared.Repeat.TheVariants.{At}
 use Rattle.component_ids.proofs.IdentifierLaws.{components_stop, components-head, components-places, repeated-below, components-repeated, components-refused, components-good}

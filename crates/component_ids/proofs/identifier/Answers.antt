@@ -1,6 +1,5 @@
 use mathlib.Core.Path.{◌∙◌}
 use native.Mathlib.Omega.{arith}
-use borrow.Author.Rules.{rules}
 use Rattle.component_ids.proofs.IdentifierLaws.{plain_stop, strings-stopped, forth, plain-long, plain-good}
 use Rattle.component_ids.proofs.identifier.Goals as goal
 

@@ -1,11 +1,8 @@
 use Prim.Native.Nat.{◌-◌, ◌≤◌}
 use mathlib.Core.Path.{◌≡◌}
-use native.Mathlib.Omega.{arith}
-use borrow.Author.Rules.{rules}
 use lib.ListN.{length}
-use lib.Seq.{lt-length-set}
 use Rattle.rules.specs.Limits.{places}
-use Rattle.component_ids.proofs.IdentifierLaws.{Sofar, listing_start, listing_stop, listing-next, listing-end}
+use Rattle.component_ids.proofs.IdentifierLaws.{Sofar}
 use Rattle.component_ids.proofs.identifiers.Given as goal
 
 abbrev pub invariant-loop-k : goal.invariant-loop-k

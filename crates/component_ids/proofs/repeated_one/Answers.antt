@@ -1,8 +1,5 @@
-use Prim.Native.Nat.{◌-◌, ◌≤◌}
-use mathlib.Core.Path.{◌≡◌, sym, ◌∙◌}
+use mathlib.Core.Path.{sym, ◌∙◌}
 use native.Mathlib.Omega.{arith}
-use borrow.Author.Rules.{rules}
-use Rattle.component_ids.specs.Identifiers.{among, search_from, repeated}
 use Rattle.component_ids.proofs.IdentifierLaws.{among-start, among-found, among_next, among-end, search_start, search_found, search_next, search_end}
 use Rattle.component_ids.proofs.repeated_one.Goals as goal
 

@@ -1,9 +1,6 @@
 use Prim.Native.Nat.{◌-◌, ◌≤◌}
-use mathlib.Core.Path.{◌≡◌, sym, ◌∙◌}
-use native.Mathlib.Omega.{arith}
-use borrow.Author.Rules.{rules}
+use mathlib.Core.Path.{◌≡◌}
 use Rattle.component_ids.specs.Identifiers.{among, search_from, repeated}
-use Rattle.component_ids.proofs.IdentifierLaws.{among-start, among-found, among_next, among-end, search_start, search_found, search_next, search_end}
 use Rattle.component_ids.proofs.repeated_one.Given as goal
 
 abbrev pub invariant-loop-i : goal.invariant-loop-i

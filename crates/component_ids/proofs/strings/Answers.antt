@@ -1,8 +1,6 @@
-use mathlib.Core.Path.{◌≡◌, refl, sym, ap, ◌∙◌}
+use mathlib.Core.Path.{refl, sym, ap, ◌∙◌}
 use mathlib.Core.Logic.{inl}
 use native.Mathlib.Omega.{arith}
-use borrow.Author.Rules.{rules}
-use Rattle.rules.specs.Check.{strings}
 use Rattle.cbor_reading.specs.Reading.{place_reading}
 use Rattle.cbor_reading.proofs.ReadingLaws.{item_went, string-fits}
 use Rattle.component_ids.proofs.IdentifierLaws.{strings-end, strings_stop, strings-next}

@@ -1,11 +1,5 @@
-use mathlib.Core.Path.{◌≡◌, refl, sym, ap, ◌∙◌}
-use mathlib.Core.Logic.{inl}
-use native.Mathlib.Omega.{arith}
-use borrow.Author.Rules.{rules}
+use mathlib.Core.Path.{◌≡◌}
 use Rattle.rules.specs.Check.{strings}
-use Rattle.cbor_reading.specs.Reading.{place_reading}
-use Rattle.cbor_reading.proofs.ReadingLaws.{item_went, string-fits}
-use Rattle.component_ids.proofs.IdentifierLaws.{strings-end, strings_stop, strings-next}
 use Rattle.component_ids.proofs.strings.Given as goal
 
 abbrev pub invariant-loop-left : goal.invariant-loop-left

@@ -1,4 +1,3 @@
-use borrow.Author.Rules.{rules}
 use Rattle.cbor_reading.proofs.ReadingLaws.{item-stopped, item_went, place-stopped, place_went}
 use Rattle.check_envelope.proofs.OuterLaws.{outer_stop, outer_no_key, outer_bad, outer_no_manifest, outer_bytes}
 use Rattle.check_envelope.proofs.outer.read_outer.Goals as goal

@@ -1,4 +1,3 @@
-use borrow.Author.Rules.{rules}
 use Rattle.cbor_reading.proofs.ReadingLaws.{item-stopped, item_went, above}
 use Rattle.check_manifest.proofs.SectionLaws.{common-none, common_stop, common-more}
 use Rattle.check_manifest.proofs.sections.common_sequence.Goals as goal

@@ -16,11 +16,11 @@ overflow_add-to c = omega (arith, string-fits _ _ _ _ _ _ _ (inl refl) (item_wen
 
 pub check_sequence-r-requires : goal.check_sequence-r-requires
 check_sequence-r-requires c = let f = string-fits _ _ _ _ _ _ _ (inl refl) (item_went _ _ _ _ _ _ _ c.item-b.ensures c.if-refusal-ne0.false) in (
-      omega (arith, f),
-      search rules,
-      search rules,
-      search rules,
-    )
+  omega (arith, f),
+  search rules,
+  search rules,
+  search rules,
+)
 
 pub returns-then-refusal-ne0-2 : goal.returns-then-refusal-ne0-2
 returns-then-refusal-ne0-2 c =

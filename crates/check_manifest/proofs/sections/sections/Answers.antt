@@ -1,11 +1,8 @@
-use Prim.Native.Nat.{◌≤◌}
 use native.Mathlib.Omega.{arith}
 use borrow.Author.Rules.{rules}
-use Rattle.rules.specs.Commands.{PAYLOAD_FETCH}
-use Rattle.rules.specs.Check.{sections_at}
 use Rattle.rules.proofs.CheckLaws.{item_law}
 use Rattle.cbor_reading.proofs.ReadingLaws.{item-stopped, item_went, pos, reading-stopped}
-use Rattle.check_manifest.proofs.SectionLaws.{key-section, Left, all_left, left-stopped, sections-none, sections_stop, sections-bad, sections-more}
+use Rattle.check_manifest.proofs.SectionLaws.{key-section, all_left, left-stopped, sections-none, sections_stop, sections-bad, sections-more}
 use Rattle.check_manifest.proofs.sections.sections.Goals as goal
 
 pub loop-left-init : goal.loop-left-init
