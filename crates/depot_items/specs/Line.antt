@@ -1,5 +1,5 @@
 -- The pieces of a line.
-use Rattle.std.specs.Prelude.{ℕ, ◌-◌, ◌*◌, cond, [], ◌∷◌, ◌++◌, eqb, ltb, length, replicate}
+use Rattle.std.specs.Prelude.{ℕ, ◌-◌, ◌*◌, cond, [], ◌++◌, eqb, ltb, length, replicate}
 use Rattle.rules.specs.Bytes.{Bytes, part}
 use Rattle.rules.specs.Limits.{limits}
 use Rattle.rules.specs.Cbor.{NUMBER, BYTES, TEXT, ARRAY, MAP, FALSE, TRUE, NIL}

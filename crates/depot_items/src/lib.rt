@@ -1,4 +1,6 @@
 // Items of any bytes: where none stands whole, an item of no kind that ends with its container.
+#![tactic(auto)]
+
 ghost use Rattle.std.specs.Prelude.{◌≡◌, ◌⊎◌, ◌≤◌};
 ghost use Rattle.rules.specs.Cbor.{BYTES, TEXT};
 ghost use Rattle.depot_items.specs.Items.{nothing as Items·nothing, held, item_at, item_of};

@@ -1,6 +1,5 @@
 use mathlib.Core.Path.{sym, ◌∙◌}
 use lib.Seq.{length-take-le}
-use borrow.Author.Rules.{rules}
 use Rattle.depot_items.proofs.ItemLaws.{item_outside, item-read, item-unread, item-next}
 use Rattle.depot_items.proofs.look.Goals as goal
 

@@ -1,6 +1,5 @@
 use mathlib.Core.Path.{◌∙◌, sym}
 use native.Mathlib.Omega.{arith}
-use borrow.Author.Rules.{rules}
 use Rattle.depot_items.proofs.ItemLaws.{string_past, string_in}
 use Rattle.depot_items.proofs.string.Goals as goal
 

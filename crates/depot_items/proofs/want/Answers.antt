@@ -1,5 +1,4 @@
 use mathlib.Core.Path.{sym, ◌∙◌, ap}
-use borrow.Author.Rules.{rules}
 use Rattle.depot_items.specs.declared.Item.{Item}
 use Rattle.depot_items.proofs.ItemLaws.{item-wanted, item_unwanted}
 use Rattle.depot_items.proofs.want.Goals as goal

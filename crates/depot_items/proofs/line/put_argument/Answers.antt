@@ -1,7 +1,6 @@
 use borrow.Author.Tests.{eq-eqb, ne_eqb}
 use Rattle.text.proofs.TextLaws.{wrote_none, wrote_then}
 use Rattle.depot_items.specs.Line.{argument_text}
-use borrow.Author.Rules.{rules}
 use Rattle.depot_items.proofs.line.put_argument.Goals as goal
 
 pub returns-then-kind-eq-NIL : goal.returns-then-kind-eq-NIL

@@ -1,6 +1,5 @@
 use borrow.Author.Tests.{eq-eqb, ne_eqb}
 use Rattle.depot_items.specs.Line.{item_text}
-use borrow.Author.Rules.{rules}
 use Rattle.depot_items.proofs.line.put_item.Goals as goal
 
 pub returns-then-kind-eq-NUMBER : goal.returns-then-kind-eq-NUMBER

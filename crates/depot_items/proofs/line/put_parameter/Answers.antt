@@ -1,6 +1,5 @@
 use Rattle.text.proofs.TextLaws.{wrote_then}
 use Rattle.depot_items.specs.Line.{parameter_text}
-use borrow.Author.Rules.{rules}
 use Rattle.depot_items.proofs.line.put_parameter.Goals as goal
 
 pub returns : goal.returns

@@ -1,6 +1,5 @@
 use borrow.Author.Tests.{lt-ltb, le-ltb, eq-eqb, ne_eqb}
 use Rattle.depot_items.specs.Line.{string_text}
-use borrow.Author.Rules.{rules}
 use Rattle.depot_items.proofs.line.put_string.Goals as goal
 
 pub returns-then-s-end : goal.returns-then-s-end
