@@ -1,4 +1,6 @@
 // What the command of a record in a program does, by its code: each arm reads its own argument and steps over it.
+#![tactic(auto)]
+
 ghost use Rattle.std.specs.Prelude.{◌≡◌};
 ghost use Rattle.program_commands.specs.Act.{ActJob, ActsOn};
 

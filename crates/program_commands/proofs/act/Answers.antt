@@ -43,11 +43,11 @@ matches-requires c =
 -- parameters: the argument is taken, and goes over what is set or under it
 pub take_params-requires : goal.take_params-requires
 take_params-requires c =
-    params-here _ _ _ _ _ c.requires Rules.set_params (set_told _ _ _ _ _ c.requires c.in-1.keys6) _ (omega (arith, c.two.ensures.0))
+    params-here _ _ _ _ _ c.requires Rules.set_params (set_told _ _ _ _ _ c.requires c.in-19.is) _ (omega (arith, c.two.ensures.0))
 
 pub take_params-requires-in-20 : goal.take_params-requires-in-20
 take_params-requires-in-20 c =
-    params-here _ _ _ _ _ c.requires Rules.override_params (override_told _ _ _ _ _ c.requires c.in-1.keys7) _ (omega (arith, c.two-in-20.ensures.0))
+    params-here _ _ _ _ _ c.requires Rules.override_params (override_told _ _ _ _ _ c.requires c.in-20.is) _ (omega (arith, c.two-in-20.ensures.0))
 
 pub load-requires-in-21 : goal.load-requires-in-21
 load-requires-in-21 c = c.requires.inside
@@ -89,7 +89,7 @@ returns-in-2 c = λ j.
 pub returns-in-3 : goal.returns-in-3
 unfolding acts
 returns-in-3 c = λ j.
-    let t = match_told _ _ _ _ _ j c.in-1.keys3 in
+    let t = match_told _ _ _ _ _ j c.in-3.is in
     rw c.effect_at-in-3.ensures (
       t.0,
       record {
@@ -117,11 +117,11 @@ returns-in-14 c = λ j.
 pub returns-in-19 : goal.returns-in-19
 unfolding acts
 returns-in-19 c = λ j.
-    let is = set_told _ _ _ _ _ j c.in-1.keys6 in
+    let is = set_told _ _ _ _ _ j c.in-19.is in
     let et : c.args.x.at + record_size + c.two.result ≡ next_record c.args.p.now c.args.x.at = omega (arith, c.two.ensures.0) in
     let taken = c.take_params.ensures (params-here _ _ _ _ _ j Rules.set_params is _ et) in
     let eo : j.op ≡ Rules.set_params (meaning c.args.p.now c.take_params.result) = params-told _ _ _ _ _ j Rules.set_params is _ et ∙ ap Rules.set_params (sym taken.means) in
-    let w : length c.args.memory.now ≡ memory_numbers = c.store-arg-1.given.0.1 in
+    let w : length c.args.memory.now ≡ memory_numbers = search rules in
     rw (c.effect_at-in-19.ensures, c.store.ensures) (
       et,
       record {
@@ -138,11 +138,11 @@ returns-in-19 c = λ j.
 pub returns-in-20 : goal.returns-in-20
 unfolding acts
 returns-in-20 c = λ j.
-    let is = override_told _ _ _ _ _ j c.in-1.keys7 in
+    let is = override_told _ _ _ _ _ j c.in-20.is in
     let et : c.args.x.at + record_size + c.two-in-20.result ≡ next_record c.args.p.now c.args.x.at = omega (arith, c.two-in-20.ensures.0) in
     let taken = c.take_params-in-20.ensures (params-here _ _ _ _ _ j Rules.override_params is _ et) in
     let eo : j.op ≡ Rules.override_params (meaning c.args.p.now c.take_params-in-20.result) = params-told _ _ _ _ _ j Rules.override_params is _ et ∙ ap Rules.override_params (sym taken.means) in
-    let w : length c.args.memory.now ≡ memory_numbers = c.store-arg-in-20-1.given.0.1 in
+    let w : length c.args.memory.now ≡ memory_numbers = search rules in
     rw (c.effect_at-in-20.ensures, c.store-in-20.ensures) (
       et,
       record {
@@ -159,7 +159,7 @@ returns-in-20 c = λ j.
 pub returns-in-21 : goal.returns-in-21
 unfolding acts
 returns-in-21 c = λ j.
-    let t = fetch-told _ _ _ _ _ j c.in-1.keys8 in
+    let t = fetch-told _ _ _ _ _ j c.in-21.is in
     rw c.effect_at-in-21.ensures (
       t.0,
       record {
@@ -174,7 +174,7 @@ returns-in-21 c = λ j.
 pub returns-in-22 : goal.returns-in-22
 unfolding acts
 returns-in-22 c = λ j.
-    let t = copy_told _ _ _ _ _ j c.in-1.keys9 in
+    let t = copy_told _ _ _ _ _ j c.in-22.is in
     rw c.effect_at-in-22.ensures (
       t.0,
       record {
@@ -190,7 +190,7 @@ returns-in-22 c = λ j.
 pub returns-in-23 : goal.returns-in-23
 unfolding acts
 returns-in-23 c = λ j.
-    let t = run-told _ _ _ _ _ j c.in-1.keys10 in
+    let t = run-told _ _ _ _ _ j c.in-23.is in
     rw c.effect_at-in-23.ensures (
       t.0,
       record {
@@ -206,18 +206,7 @@ returns-in-23 c = λ j.
 pub returns-in_default : goal.returns-in_default
 unfolding acts
 returns-in_default c = λ j.
-    let t = swap-told _ _ _ _ _ j (
-      c.in-1.rest.0.0.0.0.0.0.0.0.0.1,
-      c.in-1.rest.0.0.0.0.0.0.0.0.1,
-      c.in-1.rest.0.0.0.0.0.0.0.1,
-      c.in-1.rest.0.0.0.0.0.0.1,
-      c.in-1.rest.0.0.0.0.0.1,
-      c.in-1.rest.0.0.0.0.1,
-      c.in-1.rest.0.0.0.1,
-      c.in-1.rest.0.0.1,
-      c.in-1.rest.0.1,
-      c.in-1.rest.1,
-    ) in
+    let t = swap-told _ _ _ _ _ j (λ e. omega arith, λ e. omega arith, λ e. omega arith, λ e. omega arith, λ e. omega arith, λ e. omega arith, λ e. omega arith, λ e. omega arith, λ e. omega arith, λ e. omega arith) in
     rw c.effect_at-in_default.ensures (
       t.0,
       record {
