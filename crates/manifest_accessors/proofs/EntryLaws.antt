@@ -15,7 +15,7 @@ use Rattle.rules.specs.declared.answers.Refusal.TheVariants.{Malformed, NoSuchCo
 use Rattle.rules.specs.Limits.{limits}
 use Rattle.rules.specs.Bytes.{Bytes, part}
 use Rattle.rules.specs.Got.{got, found}
-use Rattle.rules.specs.Cbor.{BYTES, TEXT, FALSE, TRUE, Head, after, item, one_of}
+use Rattle.rules.specs.Cbor.{BYTES, TEXT, FALSE, TRUE, Head, item, one_of}
 use Rattle.rules.specs.Commands.{ParamRow, params, param_of, coerce_key, uri_key, source_key, digest_key}
 use Rattle.rules.specs.Check.{Given, give, nothing, over_given, number, parameter, entries}
 use Rattle.rules.proofs.GotLaws.{passed, both, split, split₂, found-is}

@@ -1,11 +1,5 @@
-use Prim.Native.Nat.{ℕ, ◌+◌}
-use mathlib.Core.Path.{◌≡◌}
+use Prim.Native.Nat.{◌+◌}
 use native.Mathlib.Omega.{arith}
-use borrow.Author.Rules.{rules}
-use Rattle.rules.specs.Got.{got}
-use Rattle.rules.specs.Check.{entries}
-use Rattle.run_slots.specs.Params.{Fit}
-use Rattle.manifest_accessors.specs.Arguments.{given_of, Within, Entries}
 use Rattle.manifest_accessors.proofs.EntryLaws.{entries-step, entries_none, step-headed, step-entry, fit_bare, within_bare, given_bare}
 use Rattle.manifest_accessors.proofs.arguments.read_entries.Goals as goal
 
@@ -20,14 +14,14 @@ open-name-requires c =
 pub entry-a-requires : goal.entry-a-requires
 entry-a-requires c =
     let t = entries-step _ _ _ _ _ _ _ _ _ c.loop-left-test.true (c.loop-left.invariant c.requires).1 in
-    let o = (goal.at.entry-a-requires c).After-open-name.«open».ensures (step-headed _ _ _ _ _ _ _ _ c.requires.fits t) in
+    let o = c.open-name.ensures (step-headed _ _ _ _ _ _ _ _ c.requires.fits t) in
     step-entry _ _ _ _ _ _ _ _ c.requires.fits t _ _ o.0 o.1
 
 pub loop-left-preserved : goal.loop-left-preserved
 loop-left-preserved c = λ x.
     let i = c.loop-left.invariant x in
     let t = entries-step _ _ _ _ _ _ _ _ _ c.loop-left-test.true i.1 in
-    let o = (goal.at.loop-left-preserved c).After-open-name.«open».ensures (step-headed _ _ _ _ _ _ _ _ x.fits t) in
+    let o = c.open-name.ensures (step-headed _ _ _ _ _ _ _ _ x.fits t) in
     let y = c.entry-a.ensures (step-entry _ _ _ _ _ _ _ _ x.fits t _ _ o.0 o.1) in
     (t.name + 1, rw (y.given, y.next) t.rest, y.fit i.2, y.within i.3)
 

@@ -1,12 +1,9 @@
-use Prim.Native.Nat.{ℕ, ◌+◌}
+use Prim.Native.Nat.{ℕ}
 use mathlib.Core.Path.{◌≡◌}
-use native.Mathlib.Omega.{arith}
-use borrow.Author.Rules.{rules}
 use Rattle.rules.specs.Got.{got}
 use Rattle.rules.specs.Check.{entries}
 use Rattle.run_slots.specs.Params.{Fit}
 use Rattle.manifest_accessors.specs.Arguments.{given_of, Within, Entries}
-use Rattle.manifest_accessors.proofs.EntryLaws.{entries-step, entries_none, step-headed, step-entry, fit_bare, within_bare, given_bare}
 use Rattle.manifest_accessors.proofs.arguments.read_entries.Given as goal
 
 -- what was to be read is what was read and what is left

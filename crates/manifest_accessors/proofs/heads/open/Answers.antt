@@ -1,5 +1,4 @@
 use native.Mathlib.Omega.{arith}
-use borrow.Author.Rules.{rules}
 use Rattle.manifest_accessors.proofs.HeadLaws.{headed-first, headed-short, headed_1, headed_2, headed_4}
 use Rattle.manifest_accessors.proofs.heads.open.Goals as goal
 

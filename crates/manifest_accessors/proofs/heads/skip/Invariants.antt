@@ -1,9 +1,7 @@
 use mathlib.Core.Path.{◌≡◌}
-use native.Mathlib.Omega.{arith}
 use Rattle.rules.specs.Got.{got}
 use Rattle.rules.specs.Check.{strings}
 use Rattle.manifest_accessors.specs.Heads.{Strings}
-use Rattle.manifest_accessors.proofs.HeadLaws.{strings-first, strings-more, strings-fit, strings-none}
 use Rattle.manifest_accessors.proofs.heads.skip.Given as goal
 
 -- what was to be read is what is left
