@@ -1,4 +1,6 @@
 // Identifiers as text: in hexadecimal, and where they are read as parts of which one prints, the parts behind it.
+#![tactic(auto)]
+
 ghost use Rattle.std.specs.Prelude.{◌≡◌};
 ghost use Rattle.text.specs.Text.{Writes};
 ghost use Rattle.text_pieces.specs.Pieces.{between};

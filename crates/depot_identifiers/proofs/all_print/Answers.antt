@@ -1,8 +1,5 @@
-use mathlib.Core.Path.{◌≡◌, refl, sym, ◌∙◌}
-use Prim.Native.Nat.{◌-◌, ◌≤◌}
-use lib.ListN.{length, drop}
+use mathlib.Core.Path.{refl, sym, ◌∙◌}
 use borrow.Author.Rules.{rules}
-use Rattle.depot_identifiers.specs.Identifier.{all_print}
 use Rattle.depot_identifiers.proofs.IdentifierLaws.{print_low, print_high, print_next, print_end}
 use Rattle.depot_identifiers.proofs.all_print.Goals as goal
 

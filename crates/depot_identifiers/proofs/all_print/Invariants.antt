@@ -1,9 +1,7 @@
-use mathlib.Core.Path.{◌≡◌, refl, sym, ◌∙◌}
+use mathlib.Core.Path.{◌≡◌}
 use Prim.Native.Nat.{◌-◌, ◌≤◌}
 use lib.ListN.{length, drop}
-use borrow.Author.Rules.{rules}
 use Rattle.depot_identifiers.specs.Identifier.{all_print}
-use Rattle.depot_identifiers.proofs.IdentifierLaws.{print_low, print_high, print_next, print_end}
 use Rattle.depot_identifiers.proofs.all_print.Given as goal
 
 abbrev pub invariant-loop-i : goal.invariant-loop-i

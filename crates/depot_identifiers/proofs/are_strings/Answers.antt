@@ -1,6 +1,4 @@
-use mathlib.Core.Path.{◌≡◌, refl, sym, ◌∙◌, ap}
-use borrow.Author.Rules.{rules}
-use Rattle.depot_identifiers.specs.Identifier.{strings}
+use mathlib.Core.Path.{refl, sym, ◌∙◌, ap}
 use Rattle.depot_identifiers.proofs.IdentifierLaws.{strings-none, strings-next, strings-other}
 use Rattle.depot_items.specs.declared.Item.{Item}
 use Rattle.depot_identifiers.proofs.are_strings.Goals as goal

@@ -1,8 +1,5 @@
-use mathlib.Core.Path.{◌≡◌, refl, sym, ◌∙◌, ap}
-use borrow.Author.Rules.{rules}
+use mathlib.Core.Path.{◌≡◌}
 use Rattle.depot_identifiers.specs.Identifier.{strings}
-use Rattle.depot_identifiers.proofs.IdentifierLaws.{strings-none, strings-next, strings-other}
-use Rattle.depot_items.specs.declared.Item.{Item}
 use Rattle.depot_identifiers.proofs.are_strings.Given as goal
 
 abbrev pub invariant-loop-left : goal.invariant-loop-left

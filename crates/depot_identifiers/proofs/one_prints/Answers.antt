@@ -1,6 +1,4 @@
-use mathlib.Core.Path.{◌≡◌, refl, sym, ◌∙◌}
-use borrow.Author.Rules.{rules}
-use Rattle.depot_identifiers.specs.Identifier.{one_prints}
+use mathlib.Core.Path.{refl, sym, ◌∙◌}
 use Rattle.depot_identifiers.proofs.IdentifierLaws.{prints-none, prints-here, prints-next}
 use Rattle.depot_items.proofs.ItemLaws.{lies_of}
 use Rattle.depot_identifiers.proofs.one_prints.Goals as goal

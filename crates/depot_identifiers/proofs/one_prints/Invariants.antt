@@ -1,8 +1,5 @@
-use mathlib.Core.Path.{◌≡◌, refl, sym, ◌∙◌}
-use borrow.Author.Rules.{rules}
+use mathlib.Core.Path.{◌≡◌}
 use Rattle.depot_identifiers.specs.Identifier.{one_prints}
-use Rattle.depot_identifiers.proofs.IdentifierLaws.{prints-none, prints-here, prints-next}
-use Rattle.depot_items.proofs.ItemLaws.{lies_of}
 use Rattle.depot_identifiers.proofs.one_prints.Given as goal
 
 abbrev pub invariant-loop-left : goal.invariant-loop-left

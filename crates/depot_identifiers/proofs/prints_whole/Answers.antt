@@ -1,5 +1,4 @@
 use borrow.Author.Tests.{eq-eqb, ne_eqb}
-use borrow.Author.Rules.{rules}
 use Rattle.depot_identifiers.specs.Identifier.{prints}
 use Rattle.depot_identifiers.proofs.prints_whole.Goals as goal
 

@@ -1,7 +1,6 @@
 use mathlib.Core.List.{append-nil}
 use mathlib.Core.Path.{sym, ◌∙◌}
-use borrow.Author.Tests.{eq-eqb, ne_eqb, not-true, not-false}
-use borrow.Author.Rules.{rules}
+use borrow.Author.Tests.{eq-eqb, ne_eqb}
 use Rattle.depot_identifiers.specs.Identifier.{identifier_text, read_text}
 use Rattle.text.proofs.TextLaws.{wrote_then}
 use Rattle.text.specs.Text.{hex}
@@ -22,7 +21,7 @@ returns-then-not-are_strings c =
     rw (
       ← c.want-h.ensures,
       eq-eqb _ _ c.if-kind-ne-ARRAY.false,
-      sym c.are_strings.ensures ∙ not-true _ c.if-not-are_strings.true,
+      sym c.are_strings.ensures ∙ c.if-not-are_strings.true,
       append-nil (hex c.args.s.now),
     ) c.put_hex-to.ensures
 
@@ -32,8 +31,8 @@ returns-then-not-one_prints c =
     rw (
       ← c.want-h.ensures,
       eq-eqb _ _ c.if-kind-ne-ARRAY.false,
-      sym c.are_strings.ensures ∙ not-false _ c.if-not-are_strings.false,
-      sym c.one_prints.ensures ∙ not-true _ c.if-not-one_prints.true,
+      sym c.are_strings.ensures ∙ c.if-not-are_strings.false,
+      sym c.one_prints.ensures ∙ c.if-not-one_prints.true,
       append-nil (hex c.args.s.now),
     ) c.put_hex-to.ensures
 
@@ -43,7 +42,7 @@ returns c =
     rw (
       ← c.want-h.ensures,
       eq-eqb _ _ c.if-kind-ne-ARRAY.false,
-      sym c.are_strings.ensures ∙ not-false _ c.if-not-are_strings.false,
-      sym c.one_prints.ensures ∙ not-false _ c.if-not-one_prints.false,
+      sym c.are_strings.ensures ∙ c.if-not-are_strings.false,
+      sym c.one_prints.ensures ∙ c.if-not-one_prints.false,
     )
     (wrote_then c.put_hex-to.ensures (wrote_then (wrote_then c.put-a.ensures c.put_parts-b.ensures) c.put_byte.ensures))

@@ -1,4 +1,3 @@
-use borrow.Author.Rules.{rules}
 use Rattle.text_pieces.specs.Pieces.{between}
 use Rattle.depot_identifiers.proofs.put_identifier_at.Goals as goal
 

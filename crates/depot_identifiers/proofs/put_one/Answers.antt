@@ -1,6 +1,5 @@
 use mathlib.Core.List.{append-nil}
 use borrow.Author.Tests.{eq-eqb, ne_eqb}
-use borrow.Author.Rules.{rules}
 use Rattle.depot_identifiers.specs.Identifier.{part_text, value_text}
 use Rattle.text.proofs.TextLaws.{wrote_then}
 use Rattle.depot_identifiers.proofs.put_one.Goals as goal

@@ -1,6 +1,4 @@
-use borrow.Author.Rules.{rules}
-use Rattle.depot_identifiers.specs.Identifier.{parts_text}
-use Rattle.depot_identifiers.proofs.IdentifierLaws.{Rest, rest-start, rest-length, rest_more, rest-done, parts_none, parts_next}
+use Rattle.depot_identifiers.proofs.IdentifierLaws.{rest-start, rest-length, rest_more, rest-done, parts_none, parts_next}
 use Rattle.depot_items.proofs.ItemLaws.{lies_of}
 use Rattle.depot_identifiers.proofs.put_parts.Goals as goal
 

@@ -1,5 +1,4 @@
 use mathlib.Core.Path.{sym, ◌∙◌}
-use borrow.Author.Rules.{rules}
 use Rattle.depot_identifiers.specs.Identifier.{value_text}
 use Rattle.depot_identifiers.proofs.put_value.Goals as goal
 
