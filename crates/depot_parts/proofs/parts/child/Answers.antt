@@ -1,4 +1,3 @@
-use borrow.Author.Rules.{rules}
 use Rattle.depot_parts.specs.Parts.{child_of}
 use Rattle.depot_parts.proofs.parts.child.Goals as goal
 

@@ -1,6 +1,5 @@
 use mathlib.Core.Path.{ap, ◌∙◌}
 use Rattle.depot_parts.specs.Parts.{as_part}
-use borrow.Author.Rules.{rules}
 use Rattle.depot_parts.proofs.parts.in_sequence.Goals as goal
 
 pub returns : goal.returns

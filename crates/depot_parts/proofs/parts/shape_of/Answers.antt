@@ -1,4 +1,3 @@
-use borrow.Author.Rules.{rules}
 use Rattle.depot_parts.specs.Parts.{shape_of}
 use Rattle.depot_parts.proofs.parts.shape_of.Goals as goal
 

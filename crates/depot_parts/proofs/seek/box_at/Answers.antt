@@ -1,5 +1,4 @@
 use Rattle.depot_parts.specs.Seek.{box_at}
-use borrow.Author.Rules.{rules}
 use Rattle.depot_parts.proofs.seek.box_at.Goals as goal
 
 pub returns-then-boxed : goal.returns-then-boxed

@@ -1,5 +1,4 @@
 use Rattle.depot_parts.specs.Seek.{entry_end}
-use borrow.Author.Rules.{rules}
 use Rattle.depot_parts.proofs.seek.entry_end.Goals as goal
 
 pub returns : goal.returns

@@ -1,5 +1,4 @@
 use Rattle.depot_parts.proofs.SeekLaws.{find-is}
-use borrow.Author.Rules.{rules}
 use Rattle.depot_parts.proofs.seek.find.Goals as goal
 
 pub returns : goal.returns

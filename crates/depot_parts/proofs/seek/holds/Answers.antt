@@ -1,6 +1,5 @@
 use mathlib.Core.Path.{sym, ◌∙◌}
 use Rattle.depot_parts.proofs.SeekLaws.{holds-here, holds-key, holds_on}
-use borrow.Author.Rules.{rules}
 use Rattle.depot_parts.proofs.seek.holds.Goals as goal
 
 pub returns-then-place-entry_end : goal.returns-then-place-entry_end

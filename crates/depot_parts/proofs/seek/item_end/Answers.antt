@@ -1,5 +1,4 @@
 use Rattle.depot_parts.proofs.SeekLaws.{item-array, item-map, item-plain}
-use borrow.Author.Rules.{rules}
 use Rattle.depot_parts.proofs.seek.item_end.Goals as goal
 
 pub returns-then-kind-eq-ARRAY : goal.returns-then-kind-eq-ARRAY

@@ -1,8 +1,6 @@
-use mathlib.Core.Path.{◌≡◌, refl, sym, ◌∙◌}
+use mathlib.Core.Path.{refl, sym, ◌∙◌}
 use mathlib.Core.Logic.{inl, inr}
-use Rattle.depot_parts.specs.Seek.{items_end}
 use Rattle.depot_parts.proofs.SeekLaws.{no_items, more_items}
-use borrow.Author.Rules.{rules}
 use Rattle.depot_parts.proofs.seek.items_end.Goals as goal
 
 pub loop-left-init : goal.loop-left-init

@@ -1,8 +1,5 @@
-use mathlib.Core.Path.{◌≡◌, refl, sym, ◌∙◌}
-use mathlib.Core.Logic.{inl, inr}
+use mathlib.Core.Path.{◌≡◌}
 use Rattle.depot_parts.specs.Seek.{items_end}
-use Rattle.depot_parts.proofs.SeekLaws.{no_items, more_items}
-use borrow.Author.Rules.{rules}
 use Rattle.depot_parts.proofs.seek.items_end.Given as goal
 
 -- The invariant: the place after the items that are left is the place after all.

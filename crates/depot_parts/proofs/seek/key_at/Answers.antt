@@ -1,5 +1,4 @@
 use Rattle.depot_parts.specs.Seek.{key_at}
-use borrow.Author.Rules.{rules}
 use Rattle.depot_parts.proofs.seek.key_at.Goals as goal
 
 pub returns-then-keyed : goal.returns-then-keyed

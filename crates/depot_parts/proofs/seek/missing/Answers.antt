@@ -2,7 +2,6 @@ use mathlib.Core.Path.{ap}
 use lib.Dec.{eqb}
 use Rattle.depot_items.specs.declared.Item.{Item}
 use Rattle.depot_items.specs.Items.{NO_ITEM}
-use borrow.Author.Rules.{rules}
 use Rattle.depot_parts.proofs.seek.missing.Goals as goal
 
 pub returns : goal.returns

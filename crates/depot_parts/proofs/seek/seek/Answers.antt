@@ -1,7 +1,5 @@
-use mathlib.Core.Path.{◌≡◌, refl, sym, ◌∙◌}
-use Rattle.depot_parts.specs.Seek.{seek}
+use mathlib.Core.Path.{refl, sym, ◌∙◌}
 use Rattle.depot_parts.proofs.SeekLaws.{seek-none, seek-here, seek-on}
-use borrow.Author.Rules.{rules}
 use Rattle.depot_parts.proofs.seek.seek.Goals as goal
 
 pub loop-left-init : goal.loop-left-init

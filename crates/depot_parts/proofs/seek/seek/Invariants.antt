@@ -1,7 +1,5 @@
-use mathlib.Core.Path.{◌≡◌, refl, sym, ◌∙◌}
+use mathlib.Core.Path.{◌≡◌}
 use Rattle.depot_parts.specs.Seek.{seek}
-use Rattle.depot_parts.proofs.SeekLaws.{seek-none, seek-here, seek-on}
-use borrow.Author.Rules.{rules}
 use Rattle.depot_parts.proofs.seek.seek.Given as goal
 
 -- The invariant: what is sought among the entries that are left is what is sought among all.

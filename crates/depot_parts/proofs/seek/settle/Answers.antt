@@ -1,6 +1,5 @@
 use mathlib.Core.Path.{sym, ◌∙◌}
 use Rattle.depot_parts.proofs.SeekLaws.{settle-here, settle-last, settle-on}
-use borrow.Author.Rules.{rules}
 use Rattle.depot_parts.proofs.seek.settle.Goals as goal
 
 pub returns-then-holds : goal.returns-then-holds
