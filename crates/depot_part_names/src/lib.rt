@@ -1,4 +1,6 @@
 // The words for the parts of an envelope and their entries, in lent room.
+#![tactic(auto)]
+
 ghost use Rattle.std.specs.Prelude.{◌≡◌, ◌-◌};
 ghost use Rattle.text.specs.Text.{Writes};
 ghost use Rattle.depot_part_names.specs.Names.{name_of, entry_text, key_text, left_over};

@@ -1,7 +1,6 @@
 use borrow.Author.Tests.{eq-eqb, ne_eqb}
 use Rattle.text.proofs.TextLaws.{wrote_none}
 use Rattle.depot_part_names.specs.Names.{common_title}
-use borrow.Author.Rules.{rules}
 use Rattle.depot_part_names.proofs.put_common_title.Goals as goal
 
 pub returns-then-key-eq-LIST_KEY : goal.returns-then-key-eq-LIST_KEY

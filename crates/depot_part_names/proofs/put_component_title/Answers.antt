@@ -1,5 +1,4 @@
 use Rattle.depot_part_names.specs.Names.{component_title}
-use borrow.Author.Rules.{rules}
 use Rattle.depot_part_names.proofs.put_component_title.Goals as goal
 
 pub returns : goal.returns

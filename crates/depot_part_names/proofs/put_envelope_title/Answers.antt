@@ -1,7 +1,6 @@
 use borrow.Author.Tests.{eq-eqb, ne_eqb}
 use Rattle.text.proofs.TextLaws.{wrote_none}
 use Rattle.depot_part_names.specs.Names.{envelope_title}
-use borrow.Author.Rules.{rules}
 use Rattle.depot_part_names.proofs.put_envelope_title.Goals as goal
 
 pub returns-then-key-eq-MANIFEST_KEY : goal.returns-then-key-eq-MANIFEST_KEY

@@ -1,7 +1,6 @@
 use borrow.Author.Tests.{eq-eqb, ne_eqb}
 use Rattle.text.proofs.TextLaws.{wrote_then}
 use Rattle.depot_part_names.specs.Names.{key_text}
-use borrow.Author.Rules.{rules}
 use Rattle.depot_part_names.proofs.put_key.Goals as goal
 
 pub returns-then-kind-eq-MAP : goal.returns-then-kind-eq-MAP

@@ -1,6 +1,5 @@
 use Rattle.text.proofs.TextLaws.{wrote_then}
 use Rattle.depot_part_names.specs.Names.{left_over}
-use borrow.Author.Rules.{rules}
 use Rattle.depot_part_names.proofs.put_left_over.Goals as goal
 
 pub returns : goal.returns

@@ -2,7 +2,6 @@ use borrow.Author.Tests.{lt-ltb, le-ltb, eq-eqb, ne_eqb}
 use Rattle.text.proofs.TextLaws.{wrote_none}
 use Rattle.rules.specs.Commands.{COMMON}
 use Rattle.depot_part_names.specs.Names.{manifest_title}
-use borrow.Author.Rules.{rules}
 use Rattle.depot_part_names.proofs.put_manifest_title.Goals as goal
 
 pub returns-then-key-gt-COMMON : goal.returns-then-key-gt-COMMON

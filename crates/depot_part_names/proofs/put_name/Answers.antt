@@ -1,6 +1,5 @@
 use Rattle.text.proofs.TextLaws.{wrote_none}
 use Rattle.depot_part_names.specs.Names.{name_of}
-use borrow.Author.Rules.{rules}
 use Rattle.depot_part_names.proofs.put_name.Goals as goal
 
 pub returns-in-Envelope : goal.returns-in-Envelope

@@ -1,6 +1,5 @@
 use Rattle.text.proofs.TextLaws.{wrote_then}
 use Rattle.depot_part_names.specs.Names.{section_title}
-use borrow.Author.Rules.{rules}
 use Rattle.depot_part_names.proofs.put_section_title.Goals as goal
 
 pub returns : goal.returns
