@@ -1,2 +1,4 @@
 // The program test.
+#![tactic(auto)]
+
 pub mod test;

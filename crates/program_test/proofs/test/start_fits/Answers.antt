@@ -1,4 +1,3 @@
-use borrow.Author.Rules.{rules}
 use Rattle.program_test.proofs.ProgramLaws.{start-long, start-short, start_first, start_second, start_third, start-group, start_none, start_many, start-last}
 use Rattle.program_test.proofs.test.start_fits.Goals as goal
 

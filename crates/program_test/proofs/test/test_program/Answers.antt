@@ -1,25 +1,23 @@
 use mathlib.Core.Path.{refl, sym, ◌∙◌}
 use native.Mathlib.Omega.{arith}
-use borrow.Author.Rules.{rules}
-use borrow.Author.Tests.{not-true, not-false}
 use Rattle.program_test.proofs.ProgramLaws.{Started, Front, start-good, start-refused, names-refused, read, repeat_refused, records-refused, commands-refused, program-good}
 use Rattle.program_test.proofs.test.test_program.Goals as goal
+use Rattle.program_test.proofs.test.test_program.Goals.{Else-not-start_fits, After-two-records}
 
-start : (c : goal.Else-not-start_fits) → Started c.before.before.before.args.p.now
-start c = start-good _ (sym c.start_fits.ensures ∙ not-false c.start_fits.result c.if-not-start_fits.false)
+start : (c : Else-not-start_fits) → Started c.args.p.now
+start c = start-good _ (sym c.start_fits.ensures ∙ c.if-not-start_fits.false)
 
-front : (c : goal.After-two-records) →
-    Front (to-fitting c).before.before.before.args.p.now c.before.before.before.Group-of.result c.before.wide.result c.two.result
+front : (c : After-two-records) → Front c.args.p.now c.group_of-group.result c.wide-components.result c.two-records.result
 front c =
     record {
-      start = start c;
+      start = start-good _ (sym c.start_fits.ensures ∙ c.if-not-start_fits.false);
       group = c.group_of-group.ensures;
       components = c.wide-components.ensures.0;
       records = c.two-records.ensures.0;
     }
 
 pub returns-then-not-start_fits : goal.returns-then-not-start_fits
-returns-then-not-start_fits c = start-refused _ _ (sym c.start_fits.ensures ∙ not-true c.start_fits.result c.if-not-start_fits.true) c.bad.ensures
+returns-then-not-start_fits c = start-refused _ _ (sym c.start_fits.ensures ∙ c.if-not-start_fits.true) c.bad.ensures
 
 pub bounds-p-3 : goal.bounds-p-3
 bounds-p-3 c = omega (arith, (start (goal.at.bounds-p-3 c).Else-not-start_fits).room)
@@ -42,11 +40,10 @@ returns-then-from-eq0 c =
     names-refused _ _ _ _ (front (goal.at.returns-then-from-eq0 c).After-two-records) _ _ c.test_names-from.ensures _ c.if-from-eq0.true c.bad-then-from-eq0.ensures
 
 pub repeated_one-requires : goal.repeated_one-requires
-repeated_one-requires c =
-    (
-      omega (arith, (start (goal.at.repeated_one-requires c).Else-not-start_fits).most, c.wide-components.ensures.0),
-      (read _ _ _ _ (front (goal.at.repeated_one-requires c).After-two-records) _ _ c.test_names-from.ensures c.if-from-eq0.false).within,
-    )
+repeated_one-requires c = (
+  omega (arith, (start (goal.at.repeated_one-requires c).Else-not-start_fits).most, c.wide-components.ensures.0),
+  (read _ _ _ _ (front (goal.at.repeated_one-requires c).After-two-records) _ _ c.test_names-from.ensures c.if-from-eq0.false).within,
+)
 
 pub returns-in_default : goal.returns-in_default
 returns-in_default c =
@@ -54,12 +51,11 @@ returns-in_default c =
     _ c.repeated_one.ensures _ _ c.in_default.is c.bad-in_default.ensures
 
 pub test_records-r-requires : goal.test_records-r-requires
-test_records-r-requires c =
-    (
-      (read _ _ _ _ (front (goal.at.test_records-r-requires c).After-two-records) _ _ c.test_names-from.ensures c.if-from-eq0.false).here,
-      c.tables-table.ensures,
-      omega (arith, (start (goal.at.test_records-r-requires c).Else-not-start_fits).records, c.two-records.ensures.0),
-    )
+test_records-r-requires c = (
+  (read _ _ _ _ (front (goal.at.test_records-r-requires c).After-two-records) _ _ c.test_names-from.ensures c.if-from-eq0.false).here,
+  c.tables-table.ensures,
+  omega (arith, (start (goal.at.test_records-r-requires c).Else-not-start_fits).records, c.two-records.ensures.0),
+)
 
 pub returns-then-next-p : goal.returns-then-next-p
 returns-then-next-p c =
