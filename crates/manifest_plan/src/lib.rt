@@ -1,4 +1,6 @@
 // The plan of a group: the sequences that it does, by where they start.
+#![tactic(auto)]
+
 ghost use Rattle.std.specs.Prelude.{◌≡◌, ◌+◌, ◌≤◌, ◌<◌, false, cond, eqb, length};
 ghost use Rattle.rules.specs.Commands.{among, section_key};
 ghost use Rattle.rules.specs.Limits.{section_count, plan_sequences};

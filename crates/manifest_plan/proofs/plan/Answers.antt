@@ -1,8 +1,4 @@
-use Prim.Native.Nat.{◌-◌}
-use native.Mathlib.Omega.{arith}
-use borrow.Author.Rules.{rules}
-use Rattle.rules.specs.Limits.{section_count}
-use Rattle.manifest_plan.proofs.StartLaws.{Putting, putting_starts, putting_fits, putting_on, none-put, some-put}
+use Rattle.manifest_plan.proofs.StartLaws.{putting_starts, putting_fits, putting_on, none-put, some-put}
 use Rattle.manifest_plan.proofs.plan.Goals as goal
 
 pub loop-k-init : goal.loop-k-init

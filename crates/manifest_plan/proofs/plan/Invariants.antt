@@ -1,8 +1,6 @@
 use Prim.Native.Nat.{◌-◌}
-use native.Mathlib.Omega.{arith}
-use borrow.Author.Rules.{rules}
 use Rattle.rules.specs.Limits.{section_count}
-use Rattle.manifest_plan.proofs.StartLaws.{Putting, putting_starts, putting_fits, putting_on, none-put, some-put}
+use Rattle.manifest_plan.proofs.StartLaws.{Putting}
 use Rattle.manifest_plan.proofs.plan.Given as goal
 
 abbrev pub invariant-loop-k : goal.invariant-loop-k

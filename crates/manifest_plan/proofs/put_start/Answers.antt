@@ -1,4 +1,3 @@
-use borrow.Author.Rules.{rules}
 use Rattle.manifest_plan.proofs.StartLaws.{put-none, put_some}
 use Rattle.manifest_plan.proofs.put_start.Goals as goal
 

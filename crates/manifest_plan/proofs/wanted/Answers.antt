@@ -3,7 +3,6 @@ use mathlib.Core.Path.{◌≡◌, refl}
 use mathlib.Core.Bool.{false, cond}
 use native.Mathlib.Omega.{arith}
 use lib.Dec.{ltb, leb, eqb}
-use borrow.Author.Rules.{rules}
 use borrow.Author.Tests.{eq-eqb, ne_eqb}
 use Rattle.rules.specs.declared.answers.Group.{Group}
 use Rattle.rules.specs.declared.answers.Group.TheVariants.{Install, Boot}
@@ -30,11 +29,13 @@ in-boot (suc (suc (suc (suc zero)))) h d = refl
 in-boot (suc (suc (suc (suc (suc zero))))) h d = refl
 in-boot (suc (suc (suc (suc (suc (suc k)))))) h d = absurd (omega arith)
 
-??module _ (g : Group) (k to : ℕ) (d : to ≡ 0 → ⊥) (h : (0 < k) × (k < section_count)) where
-??  install-law : g ≡ Install → ltb k 3 ≡ cond (eqb to 0) false (among (section_key k) (sections_of g))
-??  install-law e = rw (ne_eqb to 0 d, e) (in-install k h.1 (λ z. omega (arith, h.0)))
-??  boot-law : g ≡ Boot → leb 3 k ≡ cond (eqb to 0) false (among (section_key k) (sections_of g))
-??  boot-law e = rw (ne_eqb to 0 d, e) (in-boot k h.1 (λ z. omega (arith, h.0)))
+module _ (g : Group) (k to : ℕ) (d : to ≡ 0 → ⊥) (h : (0 < k) × (k < section_count)) where
+  install-law : g ≡ Install → ltb k 3 ≡ cond (eqb to 0) false (among (section_key k) (sections_of g))
+  install-law e = rw (ne_eqb to 0 d, e) (in-install k h.1 (λ z. omega (arith, h.0)))
+
+  boot-law : g ≡ Boot → leb 3 k ≡ cond (eqb to 0) false (among (section_key k) (sections_of g))
+  boot-law e = rw (ne_eqb to 0 d, e) (in-boot k h.1 (λ z. omega (arith, h.0)))
+
 pub returns-then-to-eq0 : goal.returns-then-to-eq0
 returns-then-to-eq0 c = rw (eq-eqb _ 0 c.if-to-eq0.true)
 
