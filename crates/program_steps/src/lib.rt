@@ -1,4 +1,6 @@
 // The run of a program's records, step by step: one record each.
+#![tactic(auto)]
+
 ghost use Rattle.program_steps.specs.Step.{OnwardJob, Onward, ExecJob, Executes, StepAsked, Steps, RunJob, start_at, RecordsRun};
 
 use byte_buffer::{two, wide};

@@ -1,5 +1,4 @@
 use native.Mathlib.Omega.{arith}
-use borrow.Author.Rules.{rules}
 use Rattle.program_steps.proofs.ExecuteLaws.{execute_room, execute_number, execute_space, execute_inside, command-here, onward-here, executed}
 use Rattle.program_steps.proofs.execute.Goals as goal
 
@@ -22,15 +21,13 @@ put_event-requires c =
     (execute_space _ _ _ _ _ _ _ _ c.requires, c.wide-code.ensures.1, c.wide-index.ensures.1, (c.act-d.ensures (command-here _ _ _ _ _ _ _ _ c.requires _ _ c.wide-code.ensures.0 c.wide-index.ensures.0)).1.ends)
 
 pub overflow_add-events : goal.overflow_add-events
-overflow_add-events c =
-    omega (arith, execute_space _ _ _ _ _ _ _ _ c.requires, c.well_formed.1.1.1.1.1.1.1.0.0)
+overflow_add-events c = omega (arith, execute_space _ _ _ _ _ _ _ _ c.requires)
 
 pub overflow_add-current : goal.overflow_add-current
 overflow_add-current c = omega (arith, execute_number _ _ _ _ _ _ _ _ c.requires)
 
 pub overflow_add-at-4 : goal.overflow_add-at-4
-overflow_add-at-4 c =
-    omega (arith, execute_room _ _ _ _ _ _ _ _ c.requires, c.good.0.0)
+overflow_add-at-4 c = omega (arith, execute_room _ _ _ _ _ _ _ _ c.requires)
 
 pub two-requires-2 : goal.two-requires-2
 two-requires-2 c = omega (arith, execute_room _ _ _ _ _ _ _ _ c.requires)

@@ -1,10 +1,7 @@
-use Prim.Native.Nat.{◌-◌}
-use mathlib.Core.Path.{◌≡◌, refl}
+use mathlib.Core.Path.{refl}
 use native.Mathlib.Omega.{arith}
 use borrow.Author.Rules.{rules}
-use lib.ListN.{length}
-use Rattle.program_steps.specs.Step.{RunJob, start_at}
-use Rattle.program_steps.proofs.RunRecords.{LoopAt, loop_starts, loop_job, loop_done, loop_stops, loop_goes_on, loop_further}
+use Rattle.program_steps.proofs.RunRecords.{loop_starts, loop_job, loop_done, loop_stops, loop_goes_on, loop_further}
 use Rattle.program_steps.proofs.run_records.Goals as goal
 
 pub loop-current-init : goal.loop-current-init
@@ -25,14 +22,13 @@ loop-current-smaller c =
     omega (arith, loop_further _ _ _ _ _ _ _ _ _ c.requires _ _ _ _ l c.loop-current-test.true _ _ _ _ (c.step-current.ensures (loop_job _ _ _ _ _ _ _ _ _ c.requires _ _ _ _ l c.loop-current-test.true)))
 
 pub loop-current-preserved : goal.loop-current-preserved
-loop-current-preserved c =
-    (
-      search rules,
-      search rules,
-      λ j.
-          let l = c.loop-current.invariant.2 j in
-          loop_goes_on _ _ _ _ _ _ _ _ _ j _ _ _ _ l c.loop-current-test.true _ _ _ _ (c.step-current.ensures (loop_job _ _ _ _ _ _ _ _ _ j _ _ _ _ l c.loop-current-test.true)) c.if-end-ne-FINISHED.false,
-    )
+loop-current-preserved c = (
+  search rules,
+  search rules,
+  λ j.
+      let l = c.loop-current.invariant.2 j in
+      loop_goes_on _ _ _ _ _ _ _ _ _ j _ _ _ _ l c.loop-current-test.true _ _ _ _ (c.step-current.ensures (loop_job _ _ _ _ _ _ _ _ _ j _ _ _ _ l c.loop-current-test.true)) c.if-end-ne-FINISHED.false,
+)
 
 pub returns : goal.returns
 returns c = λ j. loop_done _ _ _ _ _ _ _ _ _ j _ _ _ _ (c.loop-current.invariant.2 j) (omega (arith, c.loop-current-test.false))

@@ -1,10 +1,8 @@
 use Prim.Native.Nat.{◌-◌}
-use mathlib.Core.Path.{◌≡◌, refl}
-use native.Mathlib.Omega.{arith}
-use borrow.Author.Rules.{rules}
+use mathlib.Core.Path.{◌≡◌}
 use lib.ListN.{length}
 use Rattle.program_steps.specs.Step.{RunJob, start_at}
-use Rattle.program_steps.proofs.RunRecords.{LoopAt, loop_starts, loop_job, loop_done, loop_stops, loop_goes_on, loop_further}
+use Rattle.program_steps.proofs.RunRecords.{LoopAt}
 use Rattle.program_steps.proofs.run_records.Given as goal
 
 abbrev pub invariant-loop-current : goal.invariant-loop-current

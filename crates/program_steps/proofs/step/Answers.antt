@@ -1,6 +1,5 @@
 use mathlib.Core.Path.{sym, ◌∙◌}
 use native.Mathlib.Omega.{arith}
-use borrow.Author.Rules.{rules}
 use Rattle.program_steps.proofs.StepLaws.{step_room, jump-here, step_jumped, execute_job, step-done}
 use Rattle.program_steps.proofs.step.Goals as goal
 
