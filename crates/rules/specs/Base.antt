@@ -1,6 +1,6 @@
 -- The library's names that the rules use, each of which means what the library says, and the types that the code declares.
 pub use Rattle.std.specs.Prelude.{ℕ, suc, ◌+◌, ◌-◌, ◌*◌, ◌/◌, ◌%◌, zero, List, [], ◌∷◌, ◌++◌, map, Bool, true, false, ◌&&◌, ◌||◌, cond, not, eqb, ltb, leb, take, drop, get_or, length, replicate, set}
-pub use Rattle.std.proofs.Math.Option.{Option, some, none, get_or as Option·getD}
+pub use Rattle.std.proofs.Math.Option.{Option, some, none, get_or as option_get_or}
 pub use Rattle.std.proofs.lemmas.List.Edits.{sets}
 pub use Rattle.rules.specs.declared.answers.End.{End}
 pub use Rattle.rules.specs.declared.answers.End.TheVariants.{Finished, ConditionFailed, Started, Failed}

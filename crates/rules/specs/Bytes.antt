@@ -1,6 +1,6 @@
 -- Lists of bytes: parts, big-endian numbers, equality, membership.
-use Rattle.std.specs.Prelude.{◌≤◌, ◌<◌}
-use Rattle.rules.specs.Base.{ℕ, suc, ◌+◌, ◌-◌, ◌*◌, ◌/◌, ◌%◌, List, [], ◌∷◌, ◌++◌, Bool, true, false, ◌&&◌, ◌||◌, eqb, take, drop, get_or, sets}
+use Rattle.std.specs.Prelude.{◌≤◌, ◌<◌, ◌+◌, ◌-◌, ◌*◌, ◌/◌, ◌%◌, ◌∷◌, ◌++◌, ◌&&◌, ◌||◌}
+use Rattle.rules.specs.Base.{ℕ, suc, List, [], Bool, true, false, eqb, take, drop, get_or, sets}
 
 abbrev pub Bytes : Type 0
 Bytes = List ℕ

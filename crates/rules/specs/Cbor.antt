@@ -1,6 +1,7 @@
 -- CBOR as a manifest may use it (01, What a manifest may hold): 'definite lengths, shortest heads, numbers to 2^32-1 (eight-byte heads
 -- refused); only unsigned numbers, byte and text strings, arrays, maps, false, true, nil'.
-use Rattle.rules.specs.Base.{ℕ, ◌+◌, ◌/◌, ◌%◌, Bool, true, false, ◌&&◌, ◌||◌, cond, ltb, leb, eqb, get_or, NotCbor, Malformed}
+use Rattle.std.specs.Prelude.{◌+◌, ◌/◌, ◌%◌, ◌&&◌, ◌||◌}
+use Rattle.rules.specs.Base.{ℕ, Bool, true, false, cond, ltb, leb, eqb, get_or, NotCbor, Malformed}
 use Rattle.rules.specs.Bytes.{Bytes, part, num}
 use Rattle.rules.specs.Got.{Got, got, need, ◌>>=◌}
 

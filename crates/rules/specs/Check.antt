@@ -1,7 +1,8 @@
 -- Check: the manifest that an envelope holds, or the first fault (01, What a manifest may hold; Refusal numbers): 'Check reads depth first,
 -- left to right; the first fault met counts, at its item's first byte; on one item the lowest number.' 'A count that no good item has .. is
 -- met at the head, before the contents'.
-use Rattle.rules.specs.Base.{ℕ, zero, suc, ◌+◌, ◌-◌, ◌*◌, ◌/◌, ◌%◌, List, [], ◌∷◌, ◌++◌, map, Bool, cond, not, Option, some, none, ltb, leb, eqb, length}
+use Rattle.std.specs.Prelude.{◌+◌, ◌-◌, ◌*◌, ◌/◌, ◌%◌, ◌∷◌, ◌++◌}
+use Rattle.rules.specs.Base.{ℕ, zero, suc, List, [], map, Bool, cond, not, Option, some, none, ltb, leb, eqb, length}
 use Rattle.rules.specs.Base.{EnvelopeTooLong, NotCbor, Malformed, WrongVersion, RepeatedIdentifier, UnknownCommand, UnknownParameter, NotAllowed}
 use Rattle.rules.specs.Base.{NoSuchComponent, TooDeep, TooManyCommands, Parameter, Coerce, Uri, Source, Digest, Size}
 use Rattle.rules.specs.Limits.{limits}

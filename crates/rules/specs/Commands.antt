@@ -1,5 +1,6 @@
 -- Commands, parameters, and the command table (01, What a manifest may hold).
-use Rattle.rules.specs.Base.{ℕ, ◌+◌, ◌-◌, List, [], ◌∷◌, Bool, true, false, cond, ◌||◌, Option, some, none, eqb, Parameter, Coerce, Uri, Source, Digest, Size}
+use Rattle.std.specs.Prelude.{◌+◌, ◌-◌, ◌∷◌, ◌||◌}
+use Rattle.rules.specs.Base.{ℕ, List, [], Bool, true, false, cond, Option, some, none, eqb, Parameter, Coerce, Uri, Source, Digest, Size}
 use Rattle.rules.specs.Bytes.{Bytes}
 
 -- the parameters of a component; of a command, those that it gives

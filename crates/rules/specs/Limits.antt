@@ -1,6 +1,7 @@
 -- The limits of document 01: 'The limits in this paper belong to the controller type, each named there once'. Here each is a field of
 -- `Limits`, in the code a constant of the controller type; the contract of `Controller::limits` ties the two.
-use Rattle.rules.specs.Base.{ℕ, ◌+◌, ◌*◌, Limits}
+use Rattle.std.specs.Prelude.{◌+◌, ◌*◌}
+use Rattle.rules.specs.Base.{ℕ, Limits}
 
 -- 01, What a manifest may hold, in this order: 'Envelope, at most 4,096 bytes', 'numbers to 2^32-1', '1 to 8 identifiers', 'each an array
 -- of 1 to 4 byte strings, at most 32 bytes as encoded', 'n 0 to 64', 'at most 4 deep', 'At most 256 commands in an envelope', 'array of 1

@@ -1,6 +1,7 @@
 -- A checked manifest: what check answers ('sequence number, components and sections', 01, Five jobs), and its commands as a tree with the
 -- places of their codes.
-use Rattle.rules.specs.Base.{ℕ, ◌+◌, List, [], ◌∷◌, map, Bool, Option}
+use Rattle.std.specs.Prelude.{◌+◌, ◌∷◌}
+use Rattle.rules.specs.Base.{ℕ, List, [], map, Bool, Option}
 use Rattle.rules.specs.Bytes.{Bytes, Span, bytes_at}
 use Rattle.rules.specs.Commands.{Op}
 

@@ -1,5 +1,6 @@
 -- The flat program of a manifest and a group: its records, and their bytes (01, The flat program).
-use Rattle.rules.specs.Base.{ℕ, ◌+◌, List, [], ◌∷◌, ◌++◌, map, Bool, true, false, ◌&&◌, cond, Option, some, none, leb, length, Group, ShortRoom}
+use Rattle.std.specs.Prelude.{◌+◌, ◌∷◌, ◌++◌, ◌&&◌}
+use Rattle.rules.specs.Base.{ℕ, List, [], map, Bool, true, false, cond, Option, some, none, leb, length, Group, ShortRoom}
 use Rattle.rules.specs.Answers.{group_number}
 use Rattle.rules.specs.Bytes.{Bytes, be2, be4, flat}
 use Rattle.rules.specs.Got.{Got, got, need, ◌>>=◌}

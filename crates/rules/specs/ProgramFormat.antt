@@ -1,5 +1,6 @@
 -- The layout of a program's records (01, The flat program): 'Every record has its mark first, here `53 50`'. Each number stands here once.
-use Rattle.rules.specs.Base.{ℕ, [], ◌∷◌}
+use Rattle.std.specs.Prelude.{◌∷◌}
+use Rattle.rules.specs.Base.{ℕ, []}
 use Rattle.rules.specs.Bytes.{Bytes}
 
 abbrev pub mark : Bytes

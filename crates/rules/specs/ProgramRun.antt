@@ -1,5 +1,6 @@
 -- 'Run a program' (01, Five jobs; The flat program): record by record, forward only.
-use Rattle.rules.specs.Base.{ℕ, zero, suc, ◌-◌, List, [], ◌∷◌, true, false, eqb, Finished, ConditionFailed}
+use Rattle.std.specs.Prelude.{◌-◌, ◌∷◌}
+use Rattle.rules.specs.Base.{ℕ, zero, suc, List, [], true, false, eqb, Finished, ConditionFailed}
 use Rattle.rules.specs.Bytes.{Bytes}
 use Rattle.rules.specs.Got.{Got, ◌>>=◌}
 use Rattle.rules.specs.Step.{Env, State, Out, out, step}

@@ -1,5 +1,6 @@
 -- How long the program of a sequence is, for what writes it out: its records are `size`, of 10 bytes and an argument each.
-use Rattle.rules.specs.Base.{ℕ, ◌+◌, List, [], ◌∷◌, length}
+use Rattle.std.specs.Prelude.{◌+◌, ◌∷◌}
+use Rattle.rules.specs.Base.{ℕ, List, [], length}
 use Rattle.rules.specs.Manifest.{Seq, end, then, Cmd, one, sub, try, Alts, last, or}
 use Rattle.rules.specs.Program.{arg_bytes, size}
 

@@ -1,5 +1,6 @@
 -- The program test: the program that bytes are, or refusal 97 at place 0 (01, The flat program: 'Well formed').
-use Rattle.rules.specs.Base.{ℕ, zero, suc, ◌+◌, List, [], ◌∷◌, ◌++◌, Bool, true, false, ◌&&◌, ◌||◌, cond, not, Option, some}
+use Rattle.std.specs.Prelude.{◌+◌, ◌∷◌, ◌++◌, ◌&&◌, ◌||◌}
+use Rattle.rules.specs.Base.{ℕ, zero, suc, List, [], Bool, true, false, cond, not, Option, some}
 use Rattle.rules.specs.Base.{none, ltb, leb, eqb, length, get_or, take, drop, Group, Install, Boot, BadProgram}
 use Rattle.rules.specs.Limits.{limits}
 use Rattle.rules.specs.Bytes.{Bytes, part, num, same, repeats}

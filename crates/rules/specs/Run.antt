@@ -1,5 +1,6 @@
 -- The run of a checked manifest, what every run tests first, and what it gives back (01, How a run goes; Refusal numbers).
-use Rattle.rules.specs.Base.{ℕ, ◌-◌, ◌*◌, ◌%◌, List, [], ◌∷◌, ◌++◌, Bool, true, false, ◌&&◌, cond, not, Option·getD, ltb, leb, eqb, length, replicate, Controller, Group, Install, Boot}
+use Rattle.std.specs.Prelude.{◌-◌, ◌*◌, ◌%◌, ◌∷◌, ◌++◌, ◌&&◌}
+use Rattle.rules.specs.Base.{ℕ, List, [], Bool, true, false, cond, not, option_get_or, ltb, leb, eqb, length, replicate, Controller, Group, Install, Boot}
 use Rattle.rules.specs.Base.{NotVerified, EventOpen, BadSlots, NoSlot, BadAnswers, ShortTrace, End, Finished, ConditionFailed, Started, Failed, WrongNumber}
 use Rattle.rules.specs.Answers.{end_number}
 use Rattle.rules.specs.Limits.{limits}
@@ -19,7 +20,7 @@ index_after (sub s) i = i
 index_after (try a) i = i
 
 abbrev pub coerce_after : Cmd → Bool → Bool
-coerce_after (one p op b) c = Option·getD b c
+coerce_after (one p op b) c = option_get_or b c
 coerce_after (sub s) c = c
 coerce_after (try a) c = c
 

@@ -5,7 +5,8 @@
 --                   37 present, 0 for no    38 size (4)    42 digest (32)
 -- An answer, 37:     0 status, 0 for good    1 size (4)     5 digest (32)
 -- The last 37 bytes of a slot are its image, laid out as an answer is.
-use Rattle.rules.specs.Base.{ℕ, zero, suc, ◌+◌, ◌*◌, ◌/◌, ◌%◌, List, [], ◌∷◌, map, Bool, true, ◌&&◌, ◌||◌, not, leb, eqb, length, get_or, take}
+use Rattle.std.specs.Prelude.{◌+◌, ◌*◌, ◌/◌, ◌%◌, ◌∷◌, ◌&&◌, ◌||◌}
+use Rattle.rules.specs.Base.{ℕ, zero, suc, List, [], map, Bool, true, not, leb, eqb, length, get_or, take}
 use Rattle.rules.specs.Limits.{limits}
 use Rattle.rules.specs.Bytes.{Bytes, part, num, put, index_of, repeats}
 

@@ -1,5 +1,6 @@
 -- What one command does: its result, the slots and parameters that it changes, and its event (01, How a run goes).
-use Rattle.rules.specs.Base.{ℕ, ◌+◌, ◌-◌, ◌*◌, List, [], ◌∷◌, ◌++◌, Bool, true, false, ◌&&◌, Option, some, none, ltb, leb, eqb, length, get_or, set, Controller, Failure}
+use Rattle.std.specs.Prelude.{◌+◌, ◌-◌, ◌*◌, ◌∷◌, ◌++◌, ◌&&◌}
+use Rattle.rules.specs.Base.{ℕ, List, [], Bool, true, false, Option, some, none, ltb, leb, eqb, length, get_or, set, Controller, Failure}
 use Rattle.rules.specs.Base.{ParameterUnset, Aborted, NoAnswer, BadStatus, TooLarge, NothingToCopy, NothingToRun, End, Finished, ConditionFailed, Started, Failed}
 use Rattle.rules.specs.Answers.{result_number}
 use Rattle.rules.specs.Bytes.{Bytes, part, num, be2, same, put}

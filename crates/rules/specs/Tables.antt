@@ -1,7 +1,8 @@
 -- The tables of commands and parameters as the code keeps them: constant arrays, and one table by number that is lent to each look-up.
 -- 01, The shape of some places: 'constant table of codes, argument kinds and allowed sections, consulted by check, translator and program
 -- test'.
-use Rattle.rules.specs.Base.{ℕ, zero, suc, ◌+◌, ◌*◌, List, [], ◌∷◌, ◌++◌, Bool, true, false, cond, Option, some, none, eqb, Argument, Sixteen, Nil, Index}
+use Rattle.std.specs.Prelude.{◌+◌, ◌*◌, ◌∷◌, ◌++◌}
+use Rattle.rules.specs.Base.{ℕ, zero, suc, List, [], Bool, true, false, cond, Option, some, none, eqb, Argument, Sixteen, Nil, Index}
 use Rattle.rules.specs.Base.{Alternatives, Parameters, Sequence, Command, Listed, Parameter, Coerce, Uri, Source, Digest, Size, ParameterRow, Known}
 use Rattle.rules.specs.declared.tables.Listed.TheVariants as L
 use Rattle.rules.specs.declared.tables.Known.TheVariants as K
