@@ -1,5 +1,6 @@
 -- What a command with its event leaves in lent memory.
 use Rattle.std.specs.Prelude.{ℕ, ◌+◌, ◌<◌, ◌≡◌, length}
+use Rattle.rules.specs.Bytes.{Bytes}
 use Rattle.rules.specs.Lent.{Lent, was, left}
 use Rattle.rules.specs.Step.{Env, step}
 use Rattle.run_slots.specs.declared.params.Params.{Params}

@@ -1,4 +1,6 @@
 // A command whose argument was read: what it does, and its event.
+#![tactic(auto)]
+
 ghost use Rattle.run_commands.specs.Performed.{Commanded, RoomFor};
 ghost use Rattle.run_perform.specs.Performs.{Performs};
 

@@ -1,6 +1,5 @@
 use mathlib.Core.Path.{refl}
 use native.Mathlib.Omega.{arith}
-use borrow.Author.Rules.{rules}
 use Rattle.rules_theorems.proofs.OpLaws.{code-small}
 use Rattle.run_commands.specs.Performed.{command_of}
 use Rattle.run_commands.proofs.PerformLaws.{with_event_lem}
@@ -12,9 +11,6 @@ act-d-requires c = c.requires.0
 pub put_event-requires : goal.put_event-requires
 put_event-requires c =
     (c.requires.1, omega (arith, c.requires.0.coded, code-small (command_of c.args.s.now c.args.command c.args.given)), omega (arith, c.requires.0.inside), c.act-d.ensures.ends)
-
-pub overflow_add-result : goal.overflow_add-result
-overflow_add-result c = omega (arith, c.requires.1, c.good.1.1.1.1.1.1.1.1.0.0)
 
 pub returns : goal.returns
 returns c =
