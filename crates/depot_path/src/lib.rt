@@ -1,4 +1,6 @@
 // Where a place stands in an envelope, in words. The walk goes over any bytes, one part into the next, as check reads them.
+#![tactic(auto)]
+
 ghost use Rattle.text.specs.Text.{Writes};
 ghost use Rattle.depot_path.specs.Path.{within, path_text};
 
