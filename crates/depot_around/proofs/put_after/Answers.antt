@@ -1,4 +1,3 @@
-use borrow.Author.Rules.{rules}
 use Rattle.text_pieces.proofs.PieceLaws.{between-end}
 use Rattle.depot_around.specs.Around.{shown}
 use native.Mathlib.Omega.{arith}

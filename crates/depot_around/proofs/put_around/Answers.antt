@@ -1,4 +1,3 @@
-use borrow.Author.Rules.{rules}
 use Rattle.text.proofs.TextLaws.{wrote_then}
 use Rattle.depot_around.specs.Around.{around_text}
 use borrow.Author.Tests.{lt-ltb, le-ltb}

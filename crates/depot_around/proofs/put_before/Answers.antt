@@ -1,4 +1,3 @@
-use borrow.Author.Rules.{rules}
 use Rattle.text.proofs.TextLaws.{wrote_then}
 use Rattle.depot_around.specs.Around.{before_text}
 use Rattle.depot_around.proofs.put_before.Goals as goal
