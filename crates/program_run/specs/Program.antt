@@ -1,5 +1,5 @@
 -- The run of a program, over what it is lent.
-use Rattle.std.specs.Prelude.{Bool}
+use Rattle.std.specs.Prelude.{ℕ, Bool, List}
 use Rattle.rules.specs.declared.controller.Controller.{Controller}
 use Rattle.rules.specs.Lent.{Lent, was}
 use Rattle.rules.specs.ProgramRun.{run_program}

@@ -1,4 +1,6 @@
 // The run of a program.
+#![tactic(auto)]
+
 ghost use Rattle.program_run.specs.Known.{Known};
 ghost use Rattle.program_run.specs.Program.{Runs};
 

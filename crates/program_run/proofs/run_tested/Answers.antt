@@ -1,4 +1,3 @@
-use borrow.Author.Rules.{rules}
 use Rattle.program_run.proofs.OutcomeLaws.{few, inside, refused-answer, job, last-event, answered}
 use Rattle.program_run.proofs.run_tested.Goals as goal
 
