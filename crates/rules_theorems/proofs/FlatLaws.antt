@@ -23,26 +23,14 @@ use Rattle.rules.specs.ProgramSize.{arg_size, arg_size_cmd, arg_size_alts, size_
 use Rattle.rules.specs.ProgramTest.{group_allows, any_of, non_jumps}
 use Rattle.rules_theorems.proofs.OpLaws.{argument_growth, row_for, component-below}
 use Rattle.rules_theorems.proofs.RoundTrip.{GoodRecs, GoodIds, GoodProgram}
-use Rattle.rules_theorems.proofs.TreeLaws.{jumps, GoodSeq, GoodCmd, GoodAlts}
+use Rattle.rules_theorems.proofs.TreeLaws.{GoodSeq, GoodCmd, GoodAlts}
 use Rattle.rules_theorems.proofs.ManifestLaws.{Sound, sound, GoodSections, others, weighed, weight_of, weighted_sum, weight_law}
 use Rattle.rules_theorems.proofs.RunLaws.{length-seq, length-cmd}
+use Rattle.rules_theorems.proofs.SizeLaws.{seq_size}
 
--- counts
-mutual
-  unfolding GoodSeq size count
-
-  size-seq : (a : Seq) (n sec : ℕ) → GoodSeq a n sec → size a ≤ limits.alternatives * count a
-  size-seq end n sec g = omega arith
-  size-seq (then c s) n sec g = omega (arith, size-cmd c n sec g.0, size-seq s n sec g.1)
-
-  size-cmd : (c : Cmd) (n sec : ℕ) → GoodCmd c n sec → size_cmd c ≤ limits.alternatives * count_cmd c
-  size-cmd (one p op b) n sec g = omega arith
-  size-cmd (sub s) n sec g = omega (arith, size-seq s n sec g)
-  size-cmd (try a) n sec g = omega (arith, size-alts a n sec g.0, g.1)
-
-  size-alts : (a : Alts) (n sec : ℕ) → GoodAlts a n sec → size_alts a ≤ limits.alternatives * count_alts a + jumps a
-  size-alts (last s) n sec g = omega (arith, size-seq s n sec g)
-  size-alts (or s a) n sec g = omega (arith, size-seq s n sec g.0, size-alts a n sec g.1)
+-- counts: proved with those of commands and alternatives (SizeLaws)
+pub size-seq : (a : Seq) (n sec : ℕ) → GoodSeq a n sec → size a ≤ limits.alternatives * count a
+size-seq = seq_size
 
 pub non_jumps-append : (xs ys : List Rec) → non_jumps (xs ++ ys) ≡ non_jumps xs + non_jumps ys
 non_jumps-append [] ys = omega arith
@@ -221,7 +209,7 @@ sums_all g n (a ∷ xs) k p =
     let f' : List Rec = flat_all xs (k + size a) in
     let r = sum-seq a false 0 false NONE 0 k in
     let (x, y, z) = sums_all g n xs (k + size a) p.1 in
-    (omega (arith, size-seq a n p.0.0 p.0.2), omega (arith, r.0, non_jumps-append f f'), omega (arith, r.1, bytes-append f f'))
+    (omega (arith, seq_size a n p.0.0 p.0.2), omega (arith, r.0, non_jumps-append f f'), omega (arith, r.1, bytes-append f f'))
 
 recs_all : (g : Group) (n total : ℕ) (xs : List Seq) (k : ℕ) → 0 < n → total ≤ limits.records → Plan g n xs → arg_size_all xs < 65536 → k + size_all xs ≤ total → GoodRecs g n total k (flat_all xs k)
 unfolding flat_all size_all arg_size_all

@@ -5,9 +5,11 @@ pub mod Reread
 pub mod RoundTrip
 pub mod ManifestLaws
 pub mod RunLaws
+pub mod SizeLaws
 pub mod FlatLaws
 pub mod Demand3
 pub mod SlotLaws
 pub mod Effects
 pub mod ProgramFaults
 pub mod ProgramLength
+pub mod ProgramLimit

@@ -1,29 +1,28 @@
--- The size of a program never decides (02, T-01: 'their size limit becomes 49,152 bytes'): what is well formed by every other test has at
--- most 46,635 bytes, and what is longer has another fault, which is refused in the same way.
+-- What is well formed by every test but that of the size has at most 46,635 bytes (02, T-01: 'their size limit becomes 49,152 bytes').
 use Prim.Native.Nat.{ℕ, zero, suc, ◌+◌, ◌-◌, ◌*◌, ◌≤◌}
-use mathlib.Core.Path.{◌≡◌, refl, sym, ap, ◌∙◌}
+use mathlib.Core.Path.{◌≡◌, refl, ap}
 use mathlib.Core.List.{List, [], ◌∷◌}
 use mathlib.Core.Bool.{Bool, true, false, ◌&&◌, ◌||◌, not}
 use mathlib.Core.Option.{Option}
 use native.Mathlib.Omega.{arith}
 use lib.Dec.{eqb, ltb, leb}
 use lib.ListN.{length, get_or, take, drop, length-drop}
-use borrow.Author.Tests.{leb-true, leb-false, eqb-true}
+use borrow.Author.Tests.{leb-true, eqb-true}
 use Rattle.rules.specs.declared.answers.Group.{Group}
 use Rattle.rules.specs.declared.answers.Refusal.TheVariants.{BadProgram}
 use Rattle.rules.specs.Bytes.{Bytes, part, num, same, repeats}
 use Rattle.rules.specs.Limits.{limits}
-use Rattle.rules.specs.Got.{Got, refused, got, found}
+use Rattle.rules.specs.Got.{Got, got, found}
 use Rattle.rules.specs.Commands.{Op, Params, commands, row_of, Form, sixteen, nil, below, alternatives, parameters, sequence}
 use Rattle.rules.specs.Commands.{uri_key, source_key, digest_key, size_key}
 use Rattle.rules.specs.Program.{Rec, Program, target_of}
 use Rattle.rules.specs.ProgramFormat.{NONE, mark, START, NAME, JUMP, code_from, group_from, components_from, records_from, start_size, length_from}
 use Rattle.rules.specs.ProgramFormat.{name_size, component_from, place_from, target_from, argument_from, record_size, entry_size, source_bytes, size_bytes}
-use Rattle.rules.specs.ProgramTest.{marked, optional, params_in, op_in, group_allows, record_in, records_in, ids_in, non_jumps, group_in, program_in}
+use Rattle.rules.specs.ProgramTest.{marked, optional, params_in, op_in, group_allows, record_in, records_in, ids_in, non_jumps, group_in}
 use Rattle.rules.proofs.GotLaws.{and-true, passed, split, split₂, both}
 use Rattle.rules.proofs.BytesLaws.{length_part}
 use Rattle.rules_theorems.proofs.FlatLaws.{non_jumps-append}
-use Rattle.rules_theorems.proofs.ProgramFaults.{Only97, well_formed, size_fits, size-over, formed97}
+use Rattle.rules_theorems.proofs.ProgramFaults.{well_formed}
 
 -- all four entries of a set or override: '19 and 20, for each parameter but coerce: key 1, length 1, value (size 4 bytes, source 1)', with
 -- 'text, 1 to 96 bytes' and '32 bytes'. 1 and 2 have 16 bytes, 'other codes none'
@@ -164,12 +163,3 @@ program-short b p q₀ =
     let few : non_jumps rs ≤ limits.commands = leb-true _ _ t₃ in
     let (t₄, _) = passed (same p₂ []) BadProgram 0 _ p q₇ in
     omega (arith, ids-length comps (drop start_size b) ids p₁ e₁, records-length g comps total total 0 p₁ rs p₂ e₂, same-nil p₂ t₄)
-
--- with the test of the size and without it the answer is the same, for any bytes
-pub limit_never_decides : (b : Bytes) → program_in b ≡ well_formed b
-limit_never_decides b = go (leb (length b) limits.program) refl (well_formed b) refl (formed97 b)
-  where
-    go : (t : Bool) → leb (length b) limits.program ≡ t → (y : Got Program) → well_formed b ≡ y → Only97 y → program_in b ≡ well_formed b
-    go true e y q h = size_fits b e
-    go false e (got p) q h = absurd (omega (arith, leb-false (length b) limits.program e, program-short b p q))
-    go false e (refused r k) q h = size-over b e ∙ sym (q ∙ rw (h.0, h.1))
