@@ -1,4 +1,6 @@
 // A refusal as text in lent room: its number, place and meaning, the path to the place, and the bytes around it.
+#![tactic(auto)]
+
 ghost use Rattle.text.specs.Text.{Writes};
 ghost use Rattle.depot_refusals.specs.Refusals.{refused_line, path_line, refused_text};
 

@@ -1,6 +1,5 @@
 use Rattle.text.proofs.TextLaws.{wrote_then}
 use Rattle.depot_refusals.specs.Refusals.{path_line}
-use borrow.Author.Rules.{rules}
 use Rattle.depot_refusals.proofs.put_path_line.Goals as goal
 
 pub returns : goal.returns

@@ -1,4 +1,3 @@
-use borrow.Author.Rules.{rules}
 use Rattle.rules.specs.declared.answers.Refusal.TheVariants.{NotCbor, NotVerified}
 use Rattle.rules.specs.Answers.{refusal_number}
 use Rattle.text.proofs.TextLaws.{wrote_then}

@@ -1,4 +1,3 @@
-use borrow.Author.Rules.{rules}
 use Rattle.text.proofs.TextLaws.{wrote_then}
 use Rattle.depot_refusals.specs.Refusals.{refused_line}
 use Rattle.depot_refusals.proofs.put_refused_line.Goals as goal
