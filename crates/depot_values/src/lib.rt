@@ -1,4 +1,6 @@
 // The value of a parameter in a program: a URI in quotes, a digest in hexadecimal, a number in decimal.
+#![tactic(auto)]
+
 ghost use Rattle.text.specs.Text.{Writes};
 ghost use Rattle.depot_values.specs.Values.{number_text, known_text, value_text};
 

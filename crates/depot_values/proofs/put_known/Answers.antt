@@ -1,4 +1,3 @@
-use borrow.Author.Rules.{rules}
 use Rattle.depot_values.proofs.put_known.Goals as goal
 
 pub returns-in-Coerce : goal.returns-in-Coerce

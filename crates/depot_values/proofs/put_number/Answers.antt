@@ -2,7 +2,6 @@ use borrow.Author.Tests.{eq-eqb, ne_eqb}
 use lib.ListN.{length}
 use Rattle.rules.specs.ProgramFormat.{size_bytes, source_bytes}
 use Rattle.depot_values.specs.Values.{number_text}
-use borrow.Author.Rules.{rules}
 use Rattle.depot_values.proofs.put_number.Goals as goal
 
 pub returns-then-s-eq-SIZE_BYTES : goal.returns-then-s-eq-SIZE_BYTES

@@ -1,6 +1,5 @@
 use mathlib.Core.Path.{sym, ◌∙◌}
 use Rattle.depot_values.specs.Values.{value_text}
-use borrow.Author.Rules.{rules}
 use Rattle.depot_values.proofs.put_value.Goals as goal
 
 pub returns-in-Parameter : goal.returns-in-Parameter
