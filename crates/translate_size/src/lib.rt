@@ -1,2 +1,4 @@
 // The sizes of the records of an accepted envelope's sequences.
+#![tactic(auto)]
+
 pub mod sizes;

@@ -1,5 +1,4 @@
 use mathlib.Core.Path.{sym, ap, ◌∙◌}
-use borrow.Author.Rules.{rules}
 use Rattle.rules.specs.declared.tables.Argument.{Argument}
 use Rattle.translate_size.specs.Size.{argument_size}
 use Rattle.translate_size.proofs.sizes.argument_size.Goals as goal
