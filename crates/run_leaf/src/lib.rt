@@ -1,4 +1,6 @@
 // A command that holds no sequence, and the state of a run between commands.
+#![tactic(auto)]
+
 ghost use Rattle.std.specs.Prelude.{◌≡◌};
 ghost use Rattle.run_leaf.specs.Leaf.{LeafJob, LeafRuns, run_at, caught_by};
 

@@ -1,5 +1,4 @@
 use native.Mathlib.Omega.{arith}
-use borrow.Author.Rules.{rules}
 use Rattle.run_leaf.proofs.LeafLaws.{leaf-inside, leaf-fit, leaf-code, leaf_room, leaf-ran}
 use Rattle.run_leaf.proofs.leaf.Goals as goal
 
@@ -27,4 +26,4 @@ returns c = λ j.
     let n = j.count in
     leaf-ran _ _ _ _ _ _ _ _ _ j _ r _ c.component-index.ensures c.perform-d.result _ _ _ c.perform-d.ensures.events c.perform-d.ensures.ends
     (c.perform-d.ensures.does j.ready.env j.ready.lent.host (leaf-inside _ _ _ _ _ _ _ _ _ j _ r _ c.component-index.ensures) j.ready.lent.fit)
-    (c.perform-d.ensures.fit _ j.ready.lent.fit (rw n (goal.at.returns c).After-perform-arg-1 r.fit)) c.perform-d.ensures.kept _ c.either.ensures
+    (c.perform-d.ensures.fit _ j.ready.lent.fit (rw n at r.fit)) c.perform-d.ensures.kept _ c.either.ensures
