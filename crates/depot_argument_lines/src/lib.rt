@@ -1,4 +1,6 @@
 // The argument of a program's record, below its line: the parameters, or the bytes in hexadecimal.
+#![tactic(auto)]
+
 ghost use Rattle.std.specs.Prelude.{◌≡◌, ◌+◌, ◌≤◌, length, get_or};
 ghost use Rattle.rules.specs.ProgramFormat.{entry_length_from, entry_size};
 ghost use Rattle.rules_kinds.specs.Kinds.{kind_of};

@@ -1,6 +1,5 @@
 use mathlib.Core.Path.{sym, ap, ◌∙◌}
 use Rattle.depot_argument_lines.specs.Arguments.{lists_parameters}
-use borrow.Author.Rules.{rules}
 use Rattle.depot_argument_lines.proofs.lists_parameters.Goals as goal
 
 pub returns-in-Sixteen : goal.returns-in-Sixteen

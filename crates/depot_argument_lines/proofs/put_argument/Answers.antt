@@ -1,6 +1,5 @@
 use mathlib.Core.Path.{sym, ◌∙◌}
 use Rattle.depot_argument_lines.specs.Arguments.{argument_text}
-use borrow.Author.Rules.{rules}
 use Rattle.depot_argument_lines.proofs.put_argument.Goals as goal
 
 pub returns-then-lists_parameters : goal.returns-then-lists_parameters

@@ -2,7 +2,6 @@ use borrow.Author.Tests.{eq-eqb, ne_eqb}
 use lib.ListN.{length}
 use Rattle.depot_argument_lines.specs.Arguments.{hex_text}
 use Rattle.text.proofs.TextLaws.{wrote_none, wrote_then}
-use borrow.Author.Rules.{rules}
 use Rattle.depot_argument_lines.proofs.put_bytes.Goals as goal
 
 pub returns-then-s-eq0 : goal.returns-then-s-eq0

@@ -1,12 +1,9 @@
-use Prim.Native.Nat.{◌-◌}
 use mathlib.Core.Path.{◌∙◌}
 use lib.ListN.{get_or}
-use Rattle.rules.specs.Limits.{limits}
 use Rattle.rules.specs.ProgramFormat.{entry_length_from, entry_size}
-use Rattle.depot_argument_lines.specs.Arguments.{parameter_size, parameter_text, stray_text, parameters_text}
-use Rattle.depot_argument_lines.proofs.ItemLaws.{Going, size_lies, going_start, going-length, going_more, going_missing, going_end}
+use Rattle.depot_argument_lines.specs.Arguments.{parameter_size, parameters_text}
+use Rattle.depot_argument_lines.proofs.ItemLaws.{size_lies, going_start, going-length, going_more, going_missing, going_end}
 use Rattle.text.proofs.TextLaws.{wrote-length}
-use borrow.Author.Rules.{rules}
 use Rattle.depot_argument_lines.proofs.put_parameters.Goals as goal
 
 pub loop-n-init : goal.loop-n-init
@@ -19,16 +16,16 @@ shape_of-room-then-size-eq0 c =
 pub returns-then-size-eq0 : goal.returns-then-size-eq0
 unfolding parameters_text
 returns-then-size-eq0 c =
-    going_missing c.loop-n.invariant c.loop-n-test.true c.type_size.ensures.0 c.if-size-eq0.true c.put_stray.ensures
+    going_missing c.loop-n.invariant c.loop-n-test.true c.size_of-size.ensures.0 c.if-size-eq0.true c.put_stray.ensures
 
 pub put_parameter-to-requires : goal.put_parameter-to-requires
 unfolding parameter_size
 put_parameter-to-requires c =
-    size_lies c.loop-n.rest.now entry_size (get_or c.loop-n.rest.now entry_length_from 0) c.type_size.ensures.0 c.if-size-eq0.false
+    size_lies c.loop-n.rest.now entry_size (get_or c.loop-n.rest.now entry_length_from 0) c.size_of-size.ensures.0 c.if-size-eq0.false
 
 pub loop-n-preserved : goal.loop-n-preserved
 loop-n-preserved c =
-    going_more c.loop-n.invariant c.loop-n-test.true c.type_size.ensures.0 c.if-size-eq0.false c.put_parameter-to.ensures
+    going_more c.loop-n.invariant c.loop-n-test.true c.size_of-size.ensures.0 c.if-size-eq0.false c.put_parameter-to.ensures
 
 pub shape_of-room : goal.shape_of-room
 shape_of-room c =
