@@ -1,4 +1,6 @@
 // What the lines of answers share: numbers in a template, a refusal, and bytes in hexadecimal.
+#![tactic(auto)]
+
 ghost use Rattle.std.specs.Prelude.{◌≡◌, get_or};
 ghost use Rattle.text.specs.Text.{Writes};
 ghost use Rattle.conformance_format.specs.Format.{format, piece, refused_text, bytes_text};

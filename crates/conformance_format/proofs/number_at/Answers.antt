@@ -1,6 +1,5 @@
 use mathlib.Core.Path.{refl, sym}
 use lib.ListN.{get_or-eq_default}
-use borrow.Author.Rules.{rules}
 use Rattle.conformance_format.proofs.number_at.Goals as goal
 
 pub returns-then-k-numbers : goal.returns-then-k-numbers

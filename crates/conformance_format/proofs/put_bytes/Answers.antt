@@ -1,6 +1,5 @@
 use borrow.Author.Tests.{eq-eqb, ne_eqb}
 use Rattle.conformance_format.specs.Format.{bytes_text}
-use borrow.Author.Rules.{rules}
 use Rattle.conformance_format.proofs.put_bytes.Goals as goal
 
 pub put_byte-requires : goal.put_byte-requires

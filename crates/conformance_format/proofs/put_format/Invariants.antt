@@ -1,13 +1,8 @@
 use Prim.Native.Nat.{◌-◌, ◌≤◌}
 use mathlib.Core.Path.{◌≡◌}
-use mathlib.Core.Logic.{⊎_elim}
-use native.Mathlib.Omega.{arith}
 use lib.ListN.{length}
 use Rattle.text.specs.Text.{Wrote}
 use Rattle.conformance_format.specs.Format.{used, formatted}
-use Rattle.text.proofs.TextLaws.{wrote-length}
-use Rattle.conformance_format.proofs.FormatLaws.{used-none, used-more, used-same, format-none, format-next, format-all}
-use borrow.Author.Rules.{rules}
 use Rattle.conformance_format.proofs.put_format.Given as goal
 
 abbrev pub invariant-loop-i : goal.invariant-loop-i

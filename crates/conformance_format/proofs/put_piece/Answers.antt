@@ -1,5 +1,4 @@
 use borrow.Author.Tests.{eq-eqb, ne_eqb}
-use borrow.Author.Rules.{rules}
 use Rattle.conformance_format.proofs.put_piece.Goals as goal
 
 pub put_decimal-requires : goal.put_decimal-requires
