@@ -1,7 +1,6 @@
 use mathlib.Core.Path.{sym, ◌∙◌}
 use mathlib.Core.Logic.{⊎_elim}
 use native.Mathlib.Omega.{arith}
-use borrow.Author.Rules.{rules}
 use Rattle.rules.proofs.BytesLaws.{length_part}
 use Rattle.rules_kinds.proofs.KindLaws.{sixteen-codes, parameter-codes, nil-codes, index-codes, alternative_codes, sequence-codes}
 use Rattle.translate_argument.proofs.FillLaws.{filled_none}

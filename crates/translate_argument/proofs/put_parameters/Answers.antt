@@ -1,5 +1,4 @@
 use native.Mathlib.Omega.{arith}
-use borrow.Author.Rules.{rules}
 use Rattle.translate_argument.proofs.FillLaws.{filled-length}
 use Rattle.translate_argument.proofs.ArgumentLaws.{params-length, params-filled}
 use Rattle.translate_argument.proofs.put_parameters.Goals as goal

@@ -3,18 +3,15 @@ use mathlib.Core.Path.{◌∙◌}
 use mathlib.Core.List.{[], ◌∷◌}
 use native.Mathlib.Omega.{arith}
 use lib.ListN.{length, length-set}
-use borrow.Author.Rules.{rules}
 use Rattle.rules.specs.Bytes.{be4}
 use Rattle.rules.specs.ProgramFormat.{entry_size, size_bytes}
 use Rattle.byte_buffer.proofs.PutLaws.{in_a_row}
-use Rattle.byte_buffer.proofs.put_u32.Reads as put-u32-reads
 use Rattle.translate_argument.proofs.FillLaws.{unset-filled, set-fits, set-filled, length-kept}
-use Rattle.translate_argument.proofs.put_size.Reads as reads
-use Rattle.translate_argument.proofs.put_size.Lts as lts
 use Rattle.translate_argument.proofs.put_size.Goals as goal
+use Rattle.translate_argument.proofs.put_size.Goals.{Else-size-eq0}
 
-fits : (c : lts.Else1 (put-u32-reads.Asked, put-u32-reads.Learnt) reads.Pre reads.Post) → c.before.before.args.to + entry_size + size_bytes ≤ length c.before.before.args.room.now
-fits c = omega (arith, set-fits 12 be4 _ _ _ _ c.if1.false c.before.before.requires)
+fits : (c : Else-size-eq0) → c.args.to + entry_size + size_bytes ≤ length c.args.room.now
+fits c = omega (arith, set-fits 12 be4 _ _ _ _ c.if-size-eq0.false c.requires)
 
 pub returns-then-size-eq0 : goal.returns-then-size-eq0
 returns-then-size-eq0 c = unset-filled 12 be4 _ _ _ _ c.if-size-eq0.true

@@ -2,16 +2,14 @@ use Prim.Native.Nat.{◌+◌, ◌-◌, ◌≤◌}
 use mathlib.Core.List.{[], ◌∷◌}
 use native.Mathlib.Omega.{arith}
 use lib.ListN.{length, length-set}
-use borrow.Author.Rules.{rules}
 use Rattle.rules.specs.ProgramFormat.{entry_size, source_bytes}
 use Rattle.byte_buffer.proofs.PutLaws.{in_a_row}
 use Rattle.translate_argument.proofs.FillLaws.{unset-filled, set-fits, set-filled}
-use Rattle.translate_argument.proofs.put_source.Reads as reads
-use Rattle.translate_argument.proofs.put_source.Lts as lts
 use Rattle.translate_argument.proofs.put_source.Goals as goal
+use Rattle.translate_argument.proofs.put_source.Goals.{Else-source-eq0}
 
-fits : (c : lts.Else1 reads.Pre reads.Post) → c.before.args.to + entry_size + source_bytes ≤ length c.before.args.room.now
-fits c = omega (arith, set-fits 10 (λ n. n ∷ []) _ _ _ _ c.if1.false c.before.requires.1)
+fits : (c : Else-source-eq0) → c.args.to + entry_size + source_bytes ≤ length c.args.room.now
+fits c = omega (arith, set-fits 10 (λ n. n ∷ []) _ _ _ _ c.if-source-eq0.false c.requires.1)
 
 pub returns-then-source-eq0 : goal.returns-then-source-eq0
 returns-then-source-eq0 c = unset-filled 10 (λ n. n ∷ []) _ _ _ _ c.if-source-eq0.true

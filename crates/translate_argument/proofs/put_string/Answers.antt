@@ -3,28 +3,20 @@ use mathlib.Core.Path.{◌≡◌, ◌∙◌}
 use mathlib.Core.List.{[], ◌∷◌, append-nil}
 use native.Mathlib.Omega.{arith}
 use lib.ListN.{length, length-set}
-use borrow.Author.Rules.{rules}
 use Rattle.rules.specs.Bytes.{part}
 use Rattle.rules.specs.ProgramFormat.{entry_size}
 use Rattle.rules.proofs.BytesLaws.{length_part}
 use Rattle.byte_buffer.proofs.PutLaws.{in_a_row}
 use Rattle.translate_argument.proofs.FillLaws.{unset-filled, set-fits, set-filled, length-kept}
-use Rattle.translate_argument.proofs.put_string.Reads as reads
-use Rattle.translate_argument.proofs.put_string.Lts as lts
-use Rattle.byte_buffer.proofs.copy.Reads as copy-reads
 use Rattle.translate_argument.proofs.put_string.Goals as goal
+use Rattle.translate_argument.proofs.put_string.Goals.{Else-from-eq0}
 
-whole : (c : lts.Else1 (copy-reads.Asked, copy-reads.Learnt) reads.Pre reads.Post) →
-    let a = c.before.before.before.args in
-    length (part a.s.now a.from a.n) ≡ a.n
+whole : (c : Else-from-eq0) → length (part c.args.s.now c.args.from c.args.n) ≡ c.args.n
 whole c =
-    let a = c.before.before.before.args in
-    length_part a.s.now a.from a.n (c.before.before.before.requires.0 (omega (arith, c.if1.false)))
+    length_part c.args.s.now c.args.from c.args.n (c.requires.0 (omega (arith, c.if-from-eq0.false)))
 
-fits : (c : lts.Else1 (copy-reads.Asked, copy-reads.Learnt) reads.Pre reads.Post) →
-    let a = c.before.before.before.args in
-    a.to + entry_size + a.n ≤ length a.room.now
-fits c = omega (arith, whole c, set-fits _ (λ b. b) _ _ _ _ c.if1.false c.before.before.before.requires.2)
+fits : (c : Else-from-eq0) → c.args.to + entry_size + c.args.n ≤ length c.args.room.now
+fits c = omega (arith, whole c, set-fits _ (λ b. b) _ _ _ _ c.if-from-eq0.false c.requires.2)
 
 pub returns-then-from-eq0 : goal.returns-then-from-eq0
 returns-then-from-eq0 c = unset-filled _ (λ b. b) _ _ _ _ c.if-from-eq0.true
