@@ -1,4 +1,6 @@
 // Where a failed condition goes on.
+#![tactic(auto)]
+
 ghost use Rattle.std.specs.Prelude.{◌≡◌, ◌+◌, ◌≤◌, ◌&&◌, cond};
 ghost use Rattle.rules.specs.Limits.{limits};
 ghost use Rattle.manifest_accessors.specs.Arguments.{is_true};
