@@ -1,4 +1,6 @@
 // The lines of a program's records: commands and jumps.
+#![tactic(auto)]
+
 ghost use Rattle.std.specs.Prelude.{◌≡◌, ◌+◌, ◌-◌, ◌≤◌, length};
 ghost use Rattle.rules.specs.ProgramFormat.{argument_from};
 ghost use Rattle.rules.specs.ProgramFormat.{record_size as ProgramFormat·recordSize};

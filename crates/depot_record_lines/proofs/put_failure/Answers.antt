@@ -1,7 +1,6 @@
 use mathlib.Core.Path.{sym, ◌∙◌}
 use Rattle.depot_record_lines.specs.Lines.{failure_text}
 use Rattle.text.proofs.TextLaws.{wrote_then}
-use borrow.Author.Rules.{rules}
 use Rattle.depot_record_lines.proofs.put_failure.Goals as goal
 
 pub returns-then-condition_of : goal.returns-then-condition_of

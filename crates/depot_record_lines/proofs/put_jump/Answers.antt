@@ -1,7 +1,6 @@
 use borrow.Author.Tests.{eq-eqb, ne_eqb}
 use Rattle.depot_record_lines.specs.Lines.{jump_text}
 use Rattle.text.proofs.TextLaws.{wrote_then}
-use borrow.Author.Rules.{rules}
 use Rattle.depot_record_lines.proofs.put_jump.Goals as goal
 
 pub returns-then-target-total : goal.returns-then-target-total

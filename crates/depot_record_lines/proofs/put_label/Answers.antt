@@ -1,7 +1,6 @@
 use Rattle.text_rows.specs.Rows.{wide}
 use Rattle.depot_record_lines.specs.Lines.{column}
 use Rattle.depot_record_lines.proofs.LineLaws.{wrote-wide}
-use borrow.Author.Rules.{rules}
 use Rattle.depot_record_lines.proofs.put_label.Goals as goal
 
 pub returns : goal.returns

@@ -1,6 +1,5 @@
 use Rattle.depot_record_lines.specs.Lines.{line_text}
 use Rattle.text.proofs.TextLaws.{wrote_then}
-use borrow.Author.Rules.{rules}
 use Rattle.depot_record_lines.proofs.put_line.Goals as goal
 
 pub returns : goal.returns

@@ -1,6 +1,5 @@
 use Rattle.depot_record_lines.specs.Lines.{name_text}
 use Rattle.text.proofs.TextLaws.{wrote_then}
-use borrow.Author.Rules.{rules}
 use Rattle.depot_record_lines.proofs.put_name.Goals as goal
 
 pub returns : goal.returns

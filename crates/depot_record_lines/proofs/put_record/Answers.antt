@@ -2,7 +2,6 @@ use borrow.Author.Tests.{eq-eqb, ne_eqb}
 use Rattle.rules.specs.ProgramFormat.{JUMP}
 use Rattle.depot_record_lines.specs.Lines.{record_text}
 use Rattle.text.proofs.TextLaws.{wrote_then}
-use borrow.Author.Rules.{rules}
 use Rattle.depot_record_lines.proofs.put_record.Goals as goal
 
 pub returns-then-wide-eq-JUMP : goal.returns-then-wide-eq-JUMP

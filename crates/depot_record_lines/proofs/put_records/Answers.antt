@@ -1,12 +1,10 @@
-use Prim.Native.Nat.{◌-◌}
 use mathlib.Core.Path.{◌∙◌}
 use Rattle.rules.specs.ProgramFormat.{argument_from}
 use Rattle.rules.specs.ProgramFormat.{record_size as ProgramFormat·recordSize}
-use Rattle.depot_record_lines.specs.Lines.{record_size, record_text, missing_text, records_text}
+use Rattle.depot_record_lines.specs.Lines.{record_size, records_text}
 use Rattle.rules.specs.Bytes.{two_at}
-use Rattle.depot_argument_lines.proofs.ItemLaws.{Going, size_lies, going_start, going-length, going_more, going_missing, going_end}
+use Rattle.depot_argument_lines.proofs.ItemLaws.{size_lies, going_start, going-length, going_more, going_missing, going_end}
 use Rattle.text.proofs.TextLaws.{wrote-length}
-use borrow.Author.Rules.{rules}
 use Rattle.depot_record_lines.proofs.put_records.Goals as goal
 
 pub loop-n-init : goal.loop-n-init
@@ -19,16 +17,16 @@ shape_of-room-then-size-eq0 c =
 pub returns-then-size-eq0 : goal.returns-then-size-eq0
 unfolding records_text
 returns-then-size-eq0 c =
-    going_missing c.loop-n.invariant c.loop-n-test.true c.type_size.ensures.0 c.if-size-eq0.true c.put.ensures
+    going_missing c.loop-n.invariant c.loop-n-test.true c.size_of-size.ensures.0 c.if-size-eq0.true c.put.ensures
 
 pub put_record-to-requires : goal.put_record-to-requires
 unfolding record_size
 put_record-to-requires c =
-    size_lies c.loop-n.rest.now ProgramFormat·recordSize (two_at c.loop-n.rest.now argument_from) c.type_size.ensures.0 c.if-size-eq0.false
+    size_lies c.loop-n.rest.now ProgramFormat·recordSize (two_at c.loop-n.rest.now argument_from) c.size_of-size.ensures.0 c.if-size-eq0.false
 
 pub loop-n-preserved : goal.loop-n-preserved
 loop-n-preserved c =
-    going_more c.loop-n.invariant c.loop-n-test.true c.type_size.ensures.0 c.if-size-eq0.false c.put_record-to.ensures
+    going_more c.loop-n.invariant c.loop-n-test.true c.size_of-size.ensures.0 c.if-size-eq0.false c.put_record-to.ensures
 
 pub shape_of-room : goal.shape_of-room
 shape_of-room c =

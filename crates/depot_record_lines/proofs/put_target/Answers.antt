@@ -1,7 +1,6 @@
 use borrow.Author.Tests.{eq-eqb, ne_eqb}
 use Rattle.rules.specs.ProgramFormat.{NONE}
 use Rattle.depot_record_lines.specs.Lines.{target_text}
-use borrow.Author.Rules.{rules}
 use Rattle.depot_record_lines.proofs.put_target.Goals as goal
 
 pub returns-then-target-eq-NO_TARGET : goal.returns-then-target-eq-NO_TARGET

@@ -19,9 +19,8 @@ returns-then-s-size c =
 
 pub returns : goal.returns
 unfolding record_size
-returns c =
-    (
-      rw c.two-size.ensures.0 (sym (size-whole c.args.s.now ProgramFormat·recordSize (two_at c.args.s.now argument_from)
-          (rw c.two-size.ensures.0 at c.if-s-size.false))),
-      search rules,
-    )
+returns c = (
+  rw c.two-size.ensures.0 (sym (size-whole c.args.s.now ProgramFormat·recordSize (two_at c.args.s.now argument_from)
+      (rw c.two-size.ensures.0 at c.if-s-size.false))),
+  search rules,
+)
