@@ -1,5 +1,4 @@
 use native.Mathlib.Omega.{arith}
-use borrow.Author.Rules.{rules}
 use Rattle.translate_argument.proofs.FillLaws.{filled-length}
 use Rattle.translate_record.proofs.RecordLaws.{leaf-code, leaf-small, leaf-fit, leaf_room, leaf-inside, leaf-wrote}
 use Rattle.translate_record.proofs.record.put_command.Goals as goal
@@ -17,8 +16,7 @@ overflow_sub-end c = omega (arith, c.put_argument-end.ensures.next)
 
 pub put_head-requires : goal.put_head-requires
 put_head-requires c =
-    let r = c.read_one-a.ensures c.requires.argument in
-    (
+    let r = c.read_one-a.ensures c.requires.argument in (
       omega (arith, filled-length _ _ _ _ _ c.put_argument-end.ensures, c.requires.enough),
       leaf-small _ _ _ _ _ _ c.requires _ r,
       omega (arith, leaf-inside _ _ _ _ _ _ c.requires _ r _ c.component-index.ensures, c.requires.components),

@@ -1,4 +1,3 @@
-use borrow.Author.Rules.{rules}
 use Rattle.translate_record.proofs.RecordLaws.{jump-wrote}
 use Rattle.translate_record.proofs.record.put_jump.Goals as goal
 

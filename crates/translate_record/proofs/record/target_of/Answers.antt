@@ -1,5 +1,4 @@
 use mathlib.Core.Path.{sym, ◌∙◌}
-use borrow.Author.Rules.{rules}
 use Rattle.translate_record.proofs.record.target_of.Goals as goal
 
 pub returns-then-is_condition : goal.returns-then-is_condition
