@@ -1,4 +1,6 @@
 // The status of a command of the depot tool.
+#![tactic(auto)]
+
 ghost use Rattle.std.specs.Prelude.{◌≡◌};
 ghost use Rattle.depot_status.specs.Status.{refusal_status, run_status};
 

@@ -1,4 +1,3 @@
-use borrow.Author.Rules.{rules}
 use borrow.Author.Tests.{eq-eqb, ne_eqb}
 use Rattle.depot_status.specs.Status.{run_status}
 use Rattle.depot_status.proofs.run_status.Goals as goal
