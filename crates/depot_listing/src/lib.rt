@@ -1,4 +1,6 @@
 // The listing of a program: a line for the program, for each component, each record and each parameter.
+#![tactic(auto)]
+
 ghost use Rattle.std.specs.Prelude.{◌≤◌, length};
 ghost use Rattle.rules.specs.ProgramFormat.{start_size};
 ghost use Rattle.text.specs.Text.{Writes};

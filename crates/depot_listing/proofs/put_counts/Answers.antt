@@ -1,6 +1,5 @@
 use Rattle.depot_listing.specs.Listing.{counts_text}
 use Rattle.text.proofs.TextLaws.{wrote_then}
-use borrow.Author.Rules.{rules}
 use Rattle.depot_listing.proofs.put_counts.Goals as goal
 
 pub returns : goal.returns

@@ -3,7 +3,6 @@ use borrow.Author.Tests.{eq-eqb, ne_eqb}
 use Rattle.rules.specs.declared.answers.Group.TheVariants.{Boot}
 use Rattle.rules.specs.Answers.{group_number}
 use Rattle.depot_listing.specs.Listing.{group_text}
-use borrow.Author.Rules.{rules}
 use Rattle.depot_listing.proofs.put_group.Goals as goal
 
 pub returns-then-group-wide : goal.returns-then-group-wide

@@ -4,7 +4,6 @@ use Rattle.rules.specs.ProgramFormat.{start_size}
 use Rattle.depot_listing.specs.Listing.{program_text}
 use Rattle.text.proofs.TextLaws.{wrote_then}
 use Rattle.rules.proofs.BytesLaws.{part-rest}
-use borrow.Author.Rules.{rules}
 use Rattle.depot_listing.proofs.put_program.Goals as goal
 
 pub returns-then-p-lt-START_BYTES : goal.returns-then-p-lt-START_BYTES

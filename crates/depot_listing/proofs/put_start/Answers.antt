@@ -1,6 +1,5 @@
 use Rattle.depot_listing.specs.Listing.{start_text}
 use Rattle.text.proofs.TextLaws.{wrote_then}
-use borrow.Author.Rules.{rules}
 use Rattle.depot_listing.proofs.put_start.Goals as goal
 
 pub returns : goal.returns

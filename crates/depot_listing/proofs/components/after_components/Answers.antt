@@ -1,7 +1,5 @@
-use Prim.Native.Nat.{◌-◌}
-use Rattle.depot_listing.specs.Listing.{component_size, after_components}
-use Rattle.depot_listing.proofs.ListingLaws.{Following, following_start, following_more, following_missing, following_end}
-use borrow.Author.Rules.{rules}
+use Rattle.depot_listing.specs.Listing.{after_components}
+use Rattle.depot_listing.proofs.ListingLaws.{following_start, following_more, following_missing, following_end}
 use Rattle.depot_listing.proofs.components.after_components.Goals as goal
 
 pub loop-n-init : goal.loop-n-init
@@ -10,11 +8,11 @@ loop-n-init c = following_start _ _ _
 pub returns-then-size-eq0 : goal.returns-then-size-eq0
 unfolding after_components
 returns-then-size-eq0 c =
-    following_missing c.loop-n.invariant c.loop-n-test.true c.type_size.ensures.0 c.if-size-eq0.true
+    following_missing c.loop-n.invariant c.loop-n-test.true c.size_of-size.ensures.0 c.if-size-eq0.true
 
 pub loop-n-preserved : goal.loop-n-preserved
 loop-n-preserved c =
-    following_more c.loop-n.invariant c.loop-n-test.true c.type_size.ensures.0 c.if-size-eq0.false
+    following_more c.loop-n.invariant c.loop-n-test.true c.size_of-size.ensures.0 c.if-size-eq0.false
 
 pub returns : goal.returns
 unfolding after_components

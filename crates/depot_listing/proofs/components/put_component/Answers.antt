@@ -5,7 +5,6 @@ use mathlib.Core.Path.{◌≡◌}
 use lib.ListN.{get_or}
 use native.Mathlib.Omega.{arith}
 use Rattle.text.proofs.TextLaws.{wrote_then}
-use borrow.Author.Rules.{rules}
 use Rattle.depot_listing.proofs.components.put_component.Goals as goal
 
 pub returns : goal.returns
