@@ -1,4 +1,6 @@
 // The command line of the depot tool: which job its words ask for.
+#![tactic(auto)]
+
 ghost use Rattle.std.specs.Prelude.{◌≡◌};
 ghost use Rattle.depot_usage.specs.Usage.{told_of, job_of, words_of, most_of, asked_of};
 ghost use Rattle.depot_usage.specs.Usage.{fits as Usage·fits};

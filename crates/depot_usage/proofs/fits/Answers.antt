@@ -1,5 +1,4 @@
 use mathlib.Core.Path.{◌∙◌, sym}
-use borrow.Author.Rules.{rules}
 use borrow.Author.Tests.{eq-eqb, ne_eqb}
 use Rattle.depot_usage.specs.Usage.{words_of, fits}
 use Rattle.depot_usage.proofs.fits.Goals as goal

@@ -1,5 +1,4 @@
 use mathlib.Core.Path.{sym, ◌∙◌}
-use borrow.Author.Rules.{rules}
 use Rattle.depot_usage.specs.Usage.{job_of}
 use Rattle.depot_usage.proofs.job_of.Goals as goal
 
