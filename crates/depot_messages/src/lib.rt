@@ -1,4 +1,6 @@
 // What the depot tool says of its command line and of files, as text in lent room.
+#![tactic(auto)]
+
 ghost use Rattle.text.specs.Text.{Writes};
 ghost use Rattle.depot_messages.specs.Messages.{around, unknown_text, words_text, count_text, option_text, group_text};
 ghost use Rattle.depot_messages.specs.Messages.{named_text, long_text, error_text, command_text, status_text, once_text, nested_text, message_text};

@@ -1,4 +1,3 @@
-use borrow.Author.Rules.{rules}
 use Rattle.text.proofs.TextLaws.{wrote_then}
 use Rattle.depot_messages.specs.Messages.{error_text}
 use Rattle.depot_messages.proofs.put_error.Goals as goal

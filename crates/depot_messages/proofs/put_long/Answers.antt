@@ -1,4 +1,3 @@
-use borrow.Author.Rules.{rules}
 use Rattle.text.proofs.TextLaws.{wrote_then}
 use Rattle.depot_messages.specs.Messages.{long_text}
 use Rattle.depot_messages.proofs.put_long.Goals as goal

@@ -1,4 +1,3 @@
-use borrow.Author.Rules.{rules}
 use Rattle.depot_messages.specs.Messages.{named_text}
 use Rattle.depot_messages.proofs.put_named.Goals as goal
 

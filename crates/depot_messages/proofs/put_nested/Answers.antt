@@ -1,4 +1,3 @@
-use borrow.Author.Rules.{rules}
 use Rattle.depot_messages.specs.Messages.{nested_text}
 use Rattle.depot_messages.proofs.put_nested.Goals as goal
 

@@ -1,4 +1,3 @@
-use borrow.Author.Rules.{rules}
 use Rattle.depot_messages.specs.Messages.{once_text}
 use Rattle.depot_messages.proofs.put_once.Goals as goal
 

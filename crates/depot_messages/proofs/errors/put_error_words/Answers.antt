@@ -1,11 +1,5 @@
-use mathlib.Core.Path.{◌≡◌, refl}
-use mathlib.Core.Bool.{true, false}
-use borrow.Author.Rules.{rules}
+use mathlib.Core.Path.{refl}
 use borrow.Author.Tests.{lt-ltb, le-ltb}
-use native.Mathlib.Omega.{arith}
-use lib.Dec.{ltb}
-use lib.ListN.{length}
-use Rattle.text.specs.Text.{position}
 use Rattle.text_rows.specs.Rows.{numbers, words, plain, barless}
 use Rattle.text_rows.proofs.RowLaws.{wrote-word}
 use Rattle.depot_messages.specs.Errors.{errors, error_words}

@@ -1,4 +1,3 @@
-use borrow.Author.Rules.{rules}
 use Rattle.depot_messages.specs.Help.{help_text}
 use Rattle.depot_messages.proofs.help.put_help.Goals as goal
 

@@ -1,4 +1,3 @@
-use borrow.Author.Rules.{rules}
 use Rattle.depot_messages.specs.Help.{version_text}
 use Rattle.depot_messages.proofs.help.put_version.Goals as goal
 
