@@ -1,4 +1,6 @@
 // The order in which a group runs, by the places of the sections that check reported, as a person reads it in lent room.
+#![tactic(auto)]
+
 ghost use Rattle.std.specs.Prelude.{◌≡◌, cond, [], ◌∷◌, ◌≤◌};
 ghost use Rattle.rules.specs.declared.answers.Group.TheVariants.{Install, Boot};
 ghost use Rattle.rules.specs.Commands.{COMMON as Commands-as-COMMON, RUN as Commands-as-RUN};

@@ -1,6 +1,5 @@
 use Rattle.depot_order.proofs.OrderLaws.{low-number, high-number}
 use Rattle.depot_order.specs.Order.{end_of}
-use borrow.Author.Rules.{rules}
 use Rattle.depot_order.proofs.end_of.Goals as goal
 
 pub returns-then-key-lt-PAYLOAD_FETCH : goal.returns-then-key-lt-PAYLOAD_FETCH

@@ -1,6 +1,5 @@
 use borrow.Author.Tests.{eq-eqb, ne_eqb}
 use Rattle.depot_order.specs.Order.{order_text}
-use borrow.Author.Rules.{rules}
 use Rattle.depot_order.proofs.put_alone.Goals as goal
 
 pub returns-then-common-eq0 : goal.returns-then-common-eq0

@@ -2,7 +2,6 @@ use mathlib.Core.List.{[], ◌∷◌}
 use Rattle.rules.specs.declared.answers.Group.TheVariants.{Boot}
 use Rattle.rules.specs.Commands.{VALIDATE, LOAD, RUN}
 use Rattle.depot_order.proofs.OrderLaws.{tells_none, turn-then, line_wrote}
-use borrow.Author.Rules.{rules}
 use Rattle.depot_order.proofs.put_boot.Goals as goal
 
 pub returns : goal.returns

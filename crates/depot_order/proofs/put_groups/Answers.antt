@@ -1,6 +1,5 @@
 use Rattle.text.proofs.TextLaws.{wrote_then}
 use Rattle.depot_order.specs.Order.{groups_text}
-use borrow.Author.Rules.{rules}
 use Rattle.depot_order.proofs.put_groups.Goals as goal
 
 pub returns : goal.returns

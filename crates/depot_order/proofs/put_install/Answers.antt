@@ -2,7 +2,6 @@ use mathlib.Core.List.{[], ◌∷◌}
 use Rattle.rules.specs.declared.answers.Group.TheVariants.{Install}
 use Rattle.rules.specs.Commands.{PAYLOAD_FETCH, INSTALL}
 use Rattle.depot_order.proofs.OrderLaws.{tells_none, turn-then, line_wrote}
-use borrow.Author.Rules.{rules}
 use Rattle.depot_order.proofs.put_install.Goals as goal
 
 pub returns : goal.returns

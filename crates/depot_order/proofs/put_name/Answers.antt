@@ -1,5 +1,4 @@
 use Rattle.depot_order.proofs.OrderLaws.{name-tells}
-use borrow.Author.Rules.{rules}
 use Rattle.depot_order.proofs.put_name.Goals as goal
 
 pub returns : goal.returns

@@ -1,6 +1,5 @@
 use borrow.Author.Tests.{eq-eqb, ne_eqb}
 use Rattle.depot_order.proofs.OrderLaws.{tells_none}
-use borrow.Author.Rules.{rules}
 use Rattle.depot_order.proofs.put_one.Goals as goal
 
 pub returns-then-end-eq0 : goal.returns-then-end-eq0

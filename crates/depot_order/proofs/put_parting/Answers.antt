@@ -1,5 +1,4 @@
 use Rattle.depot_order.specs.Order.{parting}
-use borrow.Author.Rules.{rules}
 use Rattle.depot_order.proofs.put_parting.Goals as goal
 
 pub returns-then-some : goal.returns-then-some

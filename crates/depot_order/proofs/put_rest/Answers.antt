@@ -1,5 +1,4 @@
 use Rattle.text.proofs.TextLaws.{wrote_none}
-use borrow.Author.Rules.{rules}
 use Rattle.depot_order.proofs.put_rest.Goals as goal
 
 pub returns-then-some : goal.returns-then-some
