@@ -1,4 +1,6 @@
 // The events of a trace, as a table in lent room.
+#![tactic(auto)]
+
 ghost use Rattle.std.specs.Prelude.{◌≡◌, ◌+◌, ◌*◌, ◌/◌, ◌≤◌, length, get_or};
 ghost use Rattle.rules.specs.Step.{event_bytes};
 ghost use Rattle.text.specs.Text.{Writes};

@@ -1,6 +1,5 @@
 use mathlib.Core.Path.{sym}
 use lib.ListN.{get_or-eq_default}
-use borrow.Author.Rules.{rules}
 use Rattle.depot_events.proofs.note_at.Goals as goal
 
 pub returns-then-notes-k : goal.returns-then-notes-k

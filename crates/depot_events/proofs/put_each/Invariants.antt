@@ -1,10 +1,6 @@
-use borrow.Author.Rules.{rules}
 use Prim.Native.Nat.{◌-◌, ◌≤◌}
-use native.Mathlib.Omega.{arith}
 use Rattle.text.specs.Text.{Wrote}
-use Rattle.text.proofs.TextLaws.{wrote-length}
 use Rattle.text_pieces.specs.Pieces.{lines}
-use Rattle.text_pieces.proofs.PieceLaws.{lines_none, lines_next, lines-all}
 use Rattle.depot_events.specs.Events.{event_text}
 use Rattle.depot_events.proofs.put_each.Given as goal
 

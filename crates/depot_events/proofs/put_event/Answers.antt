@@ -1,6 +1,5 @@
 use Rattle.text.proofs.TextLaws.{wrote_then}
 use Rattle.depot_events.specs.Events.{event_text}
-use borrow.Author.Rules.{rules}
 use Rattle.depot_events.proofs.put_event.Goals as goal
 
 pub returns : goal.returns

@@ -1,4 +1,3 @@
-use borrow.Author.Rules.{rules}
 use Rattle.text.proofs.TextLaws.{wrote_then}
 use Rattle.depot_events.specs.Events.{events_text}
 use Rattle.depot_events.proofs.put_events.Goals as goal

@@ -1,6 +1,5 @@
 use Rattle.text.proofs.TextLaws.{wrote_then}
 use Rattle.depot_events.specs.Events.{fields_text}
-use borrow.Author.Rules.{rules}
 use Rattle.depot_events.proofs.put_fields.Goals as goal
 
 pub returns : goal.returns

@@ -2,7 +2,6 @@ use borrow.Author.Tests.{eq-eqb, ne_eqb}
 use Rattle.text.proofs.TextLaws.{wrote_none}
 use Rattle.depot_events.specs.Notes.{slot_absent, other_digest, other_size}
 use Rattle.depot_events.specs.Events.{note_text}
-use borrow.Author.Rules.{rules}
 use Rattle.depot_events.proofs.put_note.Goals as goal
 
 pub returns-then-note-eq-SLOT_ABSENT : goal.returns-then-note-eq-SLOT_ABSENT
