@@ -3,7 +3,6 @@ use mathlib.Core.List.{[], ◌∷◌, append-nil}
 use native.Mathlib.Omega.{arith}
 use lib.ListN.{length, length-set}
 use lib.Seq.{length-sets}
-use borrow.Author.Rules.{rules}
 use Rattle.rules.specs.Bytes.{part}
 use Rattle.rules.specs.ProgramFormat.{NAME}
 use Rattle.rules.proofs.BytesLaws.{length_part}

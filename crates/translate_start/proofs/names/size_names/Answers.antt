@@ -1,12 +1,7 @@
-use Prim.Native.Nat.{◌+◌, ◌-◌, ◌*◌, ◌≤◌}
-use mathlib.Core.Path.{◌≡◌, ap}
+use mathlib.Core.Path.{ap}
 use native.Mathlib.Omega.{arith}
 use lib.ListN.{length}
-use borrow.Author.Rules.{rules}
-use Rattle.rules.specs.Limits.{limits}
-use Rattle.rules.specs.ProgramFormat.{name_size}
-use Rattle.rules.specs.Bytes.{Bytes, InBytes}
-use Rattle.translate_start.proofs.NameLaws.{named, names_left, names-all, names-none, left-size}
+use Rattle.translate_start.proofs.NameLaws.{names-all, names-none, left-size}
 use Rattle.translate_start.proofs.names.size_names.Goals as goal
 
 pub loop-k-init : goal.loop-k-init
@@ -28,3 +23,6 @@ loop-k-preserved c =
       omega (arith, i),
       λ s j. omega (arith, i, c.loop-k.invariant.2 s j, left-size s c.args.ids.now c.args.n c.loop-k.k c.loop-k-test.true j),
     )
+
+pub returns : goal.returns
+returns c s i = omega (arith, c.loop-k.invariant.2 s i, ap length (names-none s c.args.ids.now c.args.n _ c.loop-k-test.false))

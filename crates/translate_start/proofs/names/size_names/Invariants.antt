@@ -1,12 +1,10 @@
 use Prim.Native.Nat.{◌+◌, ◌-◌, ◌*◌, ◌≤◌}
-use mathlib.Core.Path.{◌≡◌, ap}
-use native.Mathlib.Omega.{arith}
+use mathlib.Core.Path.{◌≡◌}
 use lib.ListN.{length}
-use borrow.Author.Rules.{rules}
 use Rattle.rules.specs.Limits.{limits}
 use Rattle.rules.specs.ProgramFormat.{name_size}
 use Rattle.rules.specs.Bytes.{Bytes, InBytes}
-use Rattle.translate_start.proofs.NameLaws.{named, names_left, names-all, names-none, left-size}
+use Rattle.translate_start.proofs.NameLaws.{named, names_left}
 use Rattle.translate_start.proofs.names.size_names.Given as goal
 
 abbrev pub invariant-loop-k : goal.invariant-loop-k

@@ -1,10 +1,9 @@
-use Prim.Native.Nat.{◌+◌, ◌-◌, ◌≤◌}
-use mathlib.Core.Path.{◌≡◌, refl, sym, ap, ◌∙◌}
+use mathlib.Core.Path.{refl, sym, ap, ◌∙◌}
 use native.Mathlib.Omega.{arith}
 use lib.ListN.{length}
 use borrow.Author.Rules.{rules}
 use Rattle.rules.specs.Bytes.{put}
-use Rattle.translate_start.proofs.NameLaws.{named, names_left, names-all, names-none, left-size, left-put, left-next}
+use Rattle.translate_start.proofs.NameLaws.{names-all, names-none, left-size, left-put, left-next}
 use Rattle.translate_start.proofs.names.write_names.Goals as goal
 
 pub loop-k-init : goal.loop-k-init
@@ -20,13 +19,12 @@ put_name-to-requires c =
     (omega (arith, c.requires.1 c.loop-k.k c.loop-k-test.true), c.requires.2 c.loop-k.k c.loop-k-test.true, omega (arith, c.requires.1 c.loop-k.k c.loop-k-test.true, c.requires.3, left-size c.args.s.now c.args.ids.now c.args.n c.loop-k.k c.loop-k-test.true c.requires.1, c.loop-k.invariant.1, c.loop-k.invariant.3))
 
 pub loop-k-preserved : goal.loop-k-preserved
-loop-k-preserved c =
-    (
-      omega arith,
-      search rules,
-      c.loop-k.invariant.2 ∙ left-put _ _ _ _ c.loop-k-test.true c.requires.1 _ _ _ _ c.put_name-to.ensures,
-      left-next _ _ _ _ c.loop-k-test.true c.requires.1 _ _ _ _ c.put_name-to.ensures ∙ c.loop-k.invariant.3,
-    )
+loop-k-preserved c = (
+  omega arith,
+  search rules,
+  c.loop-k.invariant.2 ∙ left-put _ _ _ _ c.loop-k-test.true c.requires.1 _ _ _ _ c.put_name-to.ensures,
+  left-next _ _ _ _ c.loop-k-test.true c.requires.1 _ _ _ _ c.put_name-to.ensures ∙ c.loop-k.invariant.3,
+)
 
 pub returns : goal.returns
 returns c =

@@ -1,10 +1,8 @@
 use Prim.Native.Nat.{◌+◌, ◌-◌, ◌≤◌}
-use mathlib.Core.Path.{◌≡◌, refl, sym, ap, ◌∙◌}
-use native.Mathlib.Omega.{arith}
+use mathlib.Core.Path.{◌≡◌}
 use lib.ListN.{length}
-use borrow.Author.Rules.{rules}
 use Rattle.rules.specs.Bytes.{put}
-use Rattle.translate_start.proofs.NameLaws.{named, names_left, names-all, names-none, left-size, left-put, left-next}
+use Rattle.translate_start.proofs.NameLaws.{named, names_left}
 use Rattle.translate_start.proofs.names.write_names.Given as goal
 
 abbrev pub invariant-loop-k : goal.invariant-loop-k
