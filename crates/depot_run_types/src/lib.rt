@@ -1,4 +1,6 @@
 // What a run is asked for, and what it is about: the types alone, so that a report needs no job.
+#![tactic(auto)]
+
 use rules::controller::Places;
 
 // What is run. A program has its group in itself.
