@@ -1,5 +1,7 @@
 // The device and the answers as C has them, and what C's device and group are to the jobs. include/pitvorgas.h declares the structs by
 // the same names, with `pitvorgas_` before them: `CheckAnswer` is `struct pitvorgas_check_answer`.
+#![tactic(auto)]
+
 ghost use Rattle.std.specs.Prelude.{◌≡◌};
 ghost use Rattle.pitvorgas_answers.specs.Inputs.{controller_of, group_of};
 
