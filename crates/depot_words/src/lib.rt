@@ -1,4 +1,6 @@
 // The words of a command line, as bytes: one after the other, each ended by a zero byte.
+#![tactic(auto)]
+
 ghost use Rattle.std.specs.Prelude.{◌≡◌, map, ◌≤◌, length, drop};
 ghost use Rattle.text.specs.Text.{Writes};
 ghost use Rattle.depot_words.specs.CommandLine.{word_at, word_count, later_words, words_of};

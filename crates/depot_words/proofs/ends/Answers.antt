@@ -1,6 +1,5 @@
 use borrow.Author.Rules.{rules}
 use borrow.Author.Tests.{eq-eqb, ne_eqb}
-use mathlib.Core.Path.{refl}
 use Rattle.depot_words.proofs.ends.Goals as goal
 
 pub returns-then-b-eq0 : goal.returns-then-b-eq0

@@ -1,4 +1,3 @@
-use borrow.Author.Rules.{rules}
 use Rattle.depot_words.proofs.WordLaws.{later_part}
 use Rattle.depot_words.proofs.later_words.Goals as goal
 

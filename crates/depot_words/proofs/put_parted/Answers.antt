@@ -1,7 +1,4 @@
-use Prim.Native.Nat.{◌-◌, ◌≤◌}
 use mathlib.Core.List.{map, map-append}
-use lib.ListN.{length, take}
-use Rattle.text.specs.Text.{Wrote}
 use Rattle.depot_words.specs.CommandLine.{parted}
 use Rattle.text.proofs.TextLaws.{wrote_none, wrote-length, each_next, each_all}
 use borrow.Author.Rules.{rules}

@@ -1,10 +1,8 @@
 use Prim.Native.Nat.{◌-◌, ◌≤◌}
-use mathlib.Core.List.{map, map-append}
+use mathlib.Core.List.{map}
 use lib.ListN.{length, take}
 use Rattle.text.specs.Text.{Wrote}
 use Rattle.depot_words.specs.CommandLine.{parted}
-use Rattle.text.proofs.TextLaws.{wrote_none, wrote-length, each_next, each_all}
-use borrow.Author.Rules.{rules}
 use Rattle.depot_words.proofs.put_parted.Given as goal
 
 -- The invariant: the bytes passed were written.

@@ -1,4 +1,3 @@
-use borrow.Author.Rules.{rules}
 use Rattle.text.proofs.TextLaws.{wrote_then}
 use Rattle.depot_words.specs.CommandLine.{words_of}
 use Rattle.depot_words.proofs.put_words.Goals as goal

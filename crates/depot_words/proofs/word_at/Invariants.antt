@@ -1,7 +1,5 @@
-use mathlib.Core.Path.{◌≡◌, refl}
-use borrow.Author.Rules.{rules}
+use mathlib.Core.Path.{◌≡◌}
 use Rattle.depot_words.specs.CommandLine.{word_at}
-use Rattle.depot_words.proofs.WordLaws.{later_part, word_later, word-here}
 use Rattle.depot_words.proofs.word_at.Given as goal
 
 abbrev pub invariant-loop-left : goal.invariant-loop-left

@@ -1,9 +1,7 @@
 use Prim.Native.Nat.{◌+◌, ◌-◌, ◌≤◌}
 use mathlib.Core.Path.{◌≡◌}
-use borrow.Author.Rules.{rules}
 use lib.ListN.{length, drop}
 use Rattle.depot_words.specs.CommandLine.{word_count}
-use Rattle.depot_words.proofs.WordLaws.{count_none, count_next, count-all}
 use Rattle.depot_words.proofs.word_count.Given as goal
 
 abbrev pub invariant-loop-i : goal.invariant-loop-i
