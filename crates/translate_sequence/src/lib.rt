@@ -1,2 +1,4 @@
 // The records of an accepted envelope's sequences, written to lent room.
+#![tactic(auto)]
+
 pub mod write;
