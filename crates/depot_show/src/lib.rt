@@ -1,4 +1,6 @@
 // A manifest as a person reads it, in lent room.
+#![tactic(auto)]
+
 ghost use Rattle.std.specs.Prelude.{◌≤◌};
 ghost use Rattle.rules.specs.Limits.{limits};
 ghost use Rattle.text.specs.Text.{Writes};

@@ -1,6 +1,5 @@
 use Rattle.text.proofs.TextLaws.{wrote_then}
 use Rattle.depot_show.specs.Manifest.{component_text}
-use borrow.Author.Rules.{rules}
 use Rattle.depot_show.proofs.put_component.Goals as goal
 
 pub returns : goal.returns

@@ -1,5 +1,3 @@
-use Prim.Native.Nat.{◌-◌, ◌≤◌}
-use Rattle.text.specs.Text.{Wrote}
 use Rattle.text.proofs.TextLaws.{wrote-length}
 use Rattle.text_pieces.proofs.PieceLaws.{lines_none, lines_next, lines-all}
 use Rattle.depot_show.specs.Manifest.{components_text}

@@ -1,9 +1,6 @@
 use Prim.Native.Nat.{◌-◌, ◌≤◌}
 use Rattle.text.specs.Text.{Wrote}
-use Rattle.text.proofs.TextLaws.{wrote-length}
-use Rattle.text_pieces.proofs.PieceLaws.{lines_none, lines_next, lines-all}
 use Rattle.depot_show.specs.Manifest.{components_text}
-use borrow.Author.Rules.{rules}
 use Rattle.depot_show.proofs.put_components.Given as goal
 
 -- The invariant: the components passed were written.

@@ -1,7 +1,6 @@
 use borrow.Author.Tests.{eq-eqb, ne_eqb}
 use Rattle.text.proofs.TextLaws.{wrote_none, wrote_then}
 use Rattle.depot_show.specs.Manifest.{section_text}
-use borrow.Author.Rules.{rules}
 use Rattle.depot_show.proofs.put_section.Goals as goal
 
 pub returns-then-end-eq0 : goal.returns-then-end-eq0

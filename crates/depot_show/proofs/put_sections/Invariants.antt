@@ -2,10 +2,7 @@ use Prim.Native.Nat.{◌-◌, ◌≤◌}
 use Rattle.rules.specs.Limits.{section_count}
 use Rattle.text.specs.Text.{Wrote}
 use Rattle.text_pieces.specs.Pieces.{lines}
-use Rattle.text.proofs.TextLaws.{wrote-length}
-use Rattle.text_pieces.proofs.PieceLaws.{lines_none, lines_next, lines-all}
-use Rattle.depot_show.specs.Manifest.{section_at, sections_text}
-use borrow.Author.Rules.{rules}
+use Rattle.depot_show.specs.Manifest.{section_at}
 use Rattle.depot_show.proofs.put_sections.Given as goal
 
 -- The invariant: the sections passed were written.

@@ -1,5 +1,4 @@
 use mathlib.Core.Path.{ap, ◌∙◌}
-use borrow.Author.Rules.{rules}
 use Rattle.rules_kinds.specs.Kinds.{is_sequence}
 use Rattle.depot_show.proofs.walk.holds_sequence.Goals as goal
 

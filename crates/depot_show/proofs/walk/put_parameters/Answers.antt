@@ -1,8 +1,6 @@
 use mathlib.Core.Logic.{inl, inr}
-use Rattle.depot_show.specs.Shown.{parameters_shown}
-use Rattle.depot_show.proofs.ShownLaws.{Rest, rest-start, rest-length, rest-text, rest-done}
+use Rattle.depot_show.proofs.ShownLaws.{rest-start, rest-length, rest-text, rest-done}
 use Rattle.depot_show.proofs.WalkLaws.{no_parameters, more-parameters}
-use borrow.Author.Rules.{rules}
 use Rattle.depot_show.proofs.walk.put_parameters.Goals as goal
 
 pub loop-left-init : goal.loop-left-init

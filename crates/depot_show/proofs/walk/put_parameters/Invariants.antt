@@ -1,8 +1,5 @@
-use mathlib.Core.Logic.{inl, inr}
 use Rattle.depot_show.specs.Shown.{parameters_shown}
-use Rattle.depot_show.proofs.ShownLaws.{Rest, rest-start, rest-length, rest-text, rest-done}
-use Rattle.depot_show.proofs.WalkLaws.{no_parameters, more-parameters}
-use borrow.Author.Rules.{rules}
+use Rattle.depot_show.proofs.ShownLaws.{Rest}
 use Rattle.depot_show.proofs.walk.put_parameters.Given as goal
 
 -- The invariant: what is written, and the parameters that are left, make the whole.

@@ -1,7 +1,6 @@
 use Rattle.text.proofs.TextLaws.{wrote_then}
 use mathlib.Core.Path.{refl}
 use Rattle.depot_show.specs.Shown.{stopped}
-use borrow.Author.Rules.{rules}
 use Rattle.depot_show.proofs.walk.put_stop.Goals as goal
 
 pub returns : goal.returns
