@@ -1,4 +1,6 @@
 // The plan of a group: its sequences sized, and written one after the other.
+#![tactic(auto)]
+
 ghost use Rattle.translate_plan.specs.Plan.{PlanHere, PlanSized, PlanJob, PlanWrites};
 
 use manifest_accessors::arguments::COERCE_FALSE;

@@ -1,8 +1,5 @@
-use Prim.Native.Nat.{◌-◌}
 use native.Mathlib.Omega.{arith}
-use borrow.Author.Rules.{rules}
-use Rattle.translate_plan.specs.Plan.{PlanHere}
-use Rattle.translate_plan.proofs.PlanLaws.{Sizing, sizing_starts, sizing_done, sizing_job, sizing_on, sizing_adds}
+use Rattle.translate_plan.proofs.PlanLaws.{sizing_starts, sizing_done, sizing_job, sizing_on, sizing_adds}
 use Rattle.translate_plan.proofs.size_plan.Goals as goal
 
 pub offset_bounds-starts-k : goal.offset_bounds-starts-k
@@ -22,3 +19,13 @@ overflow_add-now c =
 pub overflow_add-now-in-loop-k : goal.overflow_add-now-in-loop-k
 overflow_add-now-in-loop-k c =
     omega (arith, (sizing_adds _ _ _ _ c.requires _ _ (c.loop-k.invariant c.requires) c.loop-k-test.true _ c.size_sequence-r.ensures).1)
+
+pub loop-k-init : goal.loop-k-init
+loop-k-init c j = sizing_starts _ _ _ _ j
+
+pub loop-k-preserved : goal.loop-k-preserved
+loop-k-preserved c j =
+    sizing_on _ _ _ _ j _ _ (c.loop-k.invariant j) c.loop-k-test.true _ c.size_sequence-r.ensures
+
+pub returns : goal.returns
+returns c j = sizing_done _ _ _ _ j _ _ (c.loop-k.invariant j) c.loop-k-test.false

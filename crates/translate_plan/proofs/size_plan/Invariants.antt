@@ -1,8 +1,6 @@
 use Prim.Native.Nat.{◌-◌}
-use native.Mathlib.Omega.{arith}
-use borrow.Author.Rules.{rules}
 use Rattle.translate_plan.specs.Plan.{PlanHere}
-use Rattle.translate_plan.proofs.PlanLaws.{Sizing, sizing_starts, sizing_done, sizing_job, sizing_on, sizing_adds}
+use Rattle.translate_plan.proofs.PlanLaws.{Sizing}
 use Rattle.translate_plan.proofs.size_plan.Given as goal
 
 abbrev pub invariant-loop-k : goal.invariant-loop-k

@@ -1,10 +1,7 @@
-use Prim.Native.Nat.{◌-◌}
-use mathlib.Core.Path.{◌≡◌, refl}
+use mathlib.Core.Path.{refl}
 use native.Mathlib.Omega.{arith}
-use lib.ListN.{length}
 use borrow.Author.Rules.{rules}
-use Rattle.translate_plan.specs.Plan.{PlanJob}
-use Rattle.translate_plan.proofs.PlanLaws.{Writing, writing_starts, writing_done, writing_job, writing_on}
+use Rattle.translate_plan.proofs.PlanLaws.{writing_starts, writing_done, writing_job, writing_on}
 use Rattle.translate_plan.proofs.write_plan.Goals as goal
 
 pub loop-k-init : goal.loop-k-init
@@ -23,3 +20,6 @@ write_sequence-r-requires c =
 pub loop-k-preserved : goal.loop-k-preserved
 loop-k-preserved c =
     (search rules, λ j. writing_on _ _ _ _ _ _ j _ _ _ _ (c.loop-k.invariant.1 j) c.loop-k-test.true _ _ c.write_sequence-r.ensures)
+
+pub returns : goal.returns
+returns c j = writing_done _ _ _ _ _ _ j _ _ _ _ (c.loop-k.invariant.1 j) c.loop-k-test.false

@@ -1,10 +1,8 @@
 use Prim.Native.Nat.{◌-◌}
-use mathlib.Core.Path.{◌≡◌, refl}
-use native.Mathlib.Omega.{arith}
+use mathlib.Core.Path.{◌≡◌}
 use lib.ListN.{length}
-use borrow.Author.Rules.{rules}
 use Rattle.translate_plan.specs.Plan.{PlanJob}
-use Rattle.translate_plan.proofs.PlanLaws.{Writing, writing_starts, writing_done, writing_job, writing_on}
+use Rattle.translate_plan.proofs.PlanLaws.{Writing}
 use Rattle.translate_plan.proofs.write_plan.Given as goal
 
 abbrev pub invariant-loop-k : goal.invariant-loop-k
