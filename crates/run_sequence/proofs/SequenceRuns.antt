@@ -12,7 +12,7 @@ use Rattle.rules.specs.Answers.{end_number, end_of, failure_of}
 use Rattle.rules.specs.Bytes.{Bytes}
 use Rattle.rules.specs.Manifest.{Seq, then, Cmd, count_cmd}
 use Rattle.rules.specs.Step.{Env, State, Out, out}
-use Rattle.rules.specs.Run.{on, next, run_seq, run_cmd, index_after, coerce_after}
+use Rattle.rules.specs.Run.{on, run_seq, run_cmd, index_after, coerce_after}
 use Rattle.run_slots.specs.Params.{SlotsKept}
 use Rattle.run_actions.specs.Action.{Ends}
 use Rattle.run_commands.specs.Machine.{out_at}

@@ -1,4 +1,6 @@
 // The run of sequences and commands: sequences hold commands and commands hold sequences.
+#![tactic(auto)]
+
 ghost use Rattle.run_sequence.specs.Cycle.{CommandJob, SequenceJob, CommandRuns, SequenceRuns};
 
 use manifest_accessors::arguments::COERCE_FALSE;
