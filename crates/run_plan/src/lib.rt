@@ -1,4 +1,6 @@
 // The sequences of a group's plan, one after the other.
+#![tactic(auto)]
+
 ghost use Rattle.std.specs.Prelude.{◌≡◌};
 ghost use Rattle.run_plan.specs.Plan.{start_of, PlanJob, PlanRuns};
 

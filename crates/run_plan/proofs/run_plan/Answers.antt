@@ -1,10 +1,7 @@
-use mathlib.Core.Path.{◌≡◌, refl}
-use Prim.Native.Nat.{◌-◌}
-use lib.ListN.{length}
+use mathlib.Core.Path.{refl}
 use native.Mathlib.Omega.{arith}
 use borrow.Author.Rules.{rules}
-use Rattle.run_plan.specs.Plan.{PlanJob}
-use Rattle.run_plan.proofs.PlanLaws.{Going, going_starts, turn_inside, turn-job, turn-stops, turn-goes, all_done}
+use Rattle.run_plan.proofs.PlanLaws.{going_starts, turn_inside, turn-job, turn-stops, turn-goes, all_done}
 use Rattle.run_plan.proofs.run_plan.Goals as goal
 
 pub loop-k-init : goal.loop-k-init
@@ -20,11 +17,18 @@ run_sequence-now-requires c =
     (turn-job _ _ _ _ _ _ _ _ _ _ _ _ _ _ _ _ (c.loop-k.invariant.2 c.requires) c.loop-k-test.true)
 
 pub loop-k-preserved : goal.loop-k-preserved
-loop-k-preserved c =
-    (
-      search rules,
-      search rules,
-      λ j.
-          turn-goes _ _ _ _ _ _ _ _ _ _ _ _ _ _ _ _ (c.loop-k.invariant.2 j) c.loop-k-test.true
-          c.start_of-run.result c.start_of-run.ensures _ _ _ _ c.run_sequence-now.ensures c.if-end-ne-FINISHED.false,
-    )
+loop-k-preserved c = (
+  search rules,
+  search rules,
+  λ j.
+      turn-goes _ _ _ _ _ _ _ _ _ _ _ _ _ _ _ _ (c.loop-k.invariant.2 j) c.loop-k-test.true
+      c.start_of-run.result c.start_of-run.ensures _ _ _ _ c.run_sequence-now.ensures c.if-end-ne-FINISHED.false,
+)
+
+pub returns-then-end-ne-FINISHED : goal.returns-then-end-ne-FINISHED
+returns-then-end-ne-FINISHED c = λ j.
+    turn-stops _ _ _ _ _ _ _ _ _ _ _ _ _ _ _ _ (c.loop-k.invariant.2 j) c.loop-k-test.true
+    c.start_of-run.result c.start_of-run.ensures _ _ _ _ c.run_sequence-now.ensures c.if-end-ne-FINISHED.true
+
+pub returns : goal.returns
+returns c = λ j. all_done _ _ _ _ _ _ _ _ _ _ _ _ _ _ _ _ (c.loop-k.invariant.2 j) c.loop-k-test.false

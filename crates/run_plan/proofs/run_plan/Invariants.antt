@@ -1,10 +1,8 @@
-use mathlib.Core.Path.{◌≡◌, refl}
+use mathlib.Core.Path.{◌≡◌}
 use Prim.Native.Nat.{◌-◌}
 use lib.ListN.{length}
-use native.Mathlib.Omega.{arith}
-use borrow.Author.Rules.{rules}
 use Rattle.run_plan.specs.Plan.{PlanJob}
-use Rattle.run_plan.proofs.PlanLaws.{Going, going_starts, turn_inside, turn-job, turn-stops, turn-goes, all_done}
+use Rattle.run_plan.proofs.PlanLaws.{Going}
 use Rattle.run_plan.proofs.run_plan.Given as goal
 
 abbrev pub invariant-loop-k : goal.invariant-loop-k
