@@ -1,4 +1,6 @@
 // Translate: the program of an accepted envelope's group, written to lent room.
+#![tactic(auto)]
+
 ghost use Rattle.std.specs.Prelude.{length};
 ghost use Rattle.rules.specs.Program as Rule;
 ghost use Rattle.manifest_accessors.specs.Accepted.{Accepted};

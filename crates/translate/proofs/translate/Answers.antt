@@ -1,4 +1,3 @@
-use borrow.Author.Rules.{rules}
 use Rattle.manifest_accessors.proofs.AcceptedLaws.{accepted, refused-by}
 use Rattle.translate.proofs.TranslateLaws.{refused_translation}
 use Rattle.translate.proofs.translate.Goals as goal

@@ -8,14 +8,11 @@ use Rattle.manifest_accessors.proofs.AcceptedLaws.{few, inside}
 use Rattle.translate_size.specs.Size.{most}
 use Rattle.translate.proofs.TranslateLaws.{ids_near, ids_short, here, total-small, too_short, names-fit, job, translated}
 use Rattle.translate.proofs.translate_checked.Goals as goal
-
--- the room, as it was lent
-room-near : (c : goal.After-slice_known-1) → length c.before.before.args.room.now ≤ most
-room-near c = search rules
+use Rattle.translate.proofs.translate_checked.Goals.{After-size_names-names}
 
 -- the program's length, from where its parts were sized
-small : (c : goal.After-size_names-names) →
-    start_size + c.size-names.result + record_size * c.before.size-plan.result.records + c.before.size-plan.result.arguments ≤ limits.program
+small : (c : After-size_names-names) →
+    start_size + c.size_names-names.result + record_size * c.size_plan-size.result.records + c.size_plan-size.result.arguments ≤ limits.program
 small c =
     total-small _ _ _ _ _ c.requires c.args.group _ c.tables-table.ensures _ _ c.plan-total.ensures _ c.size_plan-size.ensures _ c.size_names-names.ensures
 
@@ -49,23 +46,24 @@ put_start-requires c =
     (omega (arith, c.if-room-length.false), omega (arith, few _ _ _ _ _ c.requires))
 
 pub write_names-at-requires : goal.write_names-at-requires
-write_names-at-requires c =
-    (
-      few _ _ _ _ _ c.requires,
-      inside _ _ _ _ _ c.requires,
-      ids_short _ _ _ _ _ c.requires,
-      names-fit _ _ _ _ _ c.requires c.args.group _ c.tables-table.ensures _ _ c.plan-total.ensures _ c.size_plan-size.ensures _
-          c.size_names-names.ensures c.args.room.now c.if-room-length.false _ c.put_start.ensures,
-    )
+write_names-at-requires c = (
+  few _ _ _ _ _ c.requires,
+  inside _ _ _ _ _ c.requires,
+  ids_short _ _ _ _ _ c.requires,
+  names-fit _ _ _ _ _ c.requires c.args.group _ c.tables-table.ensures _ _ c.plan-total.ensures _ c.size_plan-size.ensures _
+      c.size_names-names.ensures c.args.room.now c.if-room-length.false _ c.put_start.ensures,
+)
 
 pub write_plan-requires : goal.write_plan-requires
 write_plan-requires c =
+    let near : length c.args.room.now ≤ most = search rules in
     job _ _ _ _ _ c.requires c.args.group _ c.tables-table.ensures _ _ c.plan-total.ensures _ c.size_plan-size.ensures _
     c.size_names-names.ensures c.args.room.now c.if-room-length.false _ c.put_start.ensures _ _
-    c.write_names-at.ensures (room-near (goal.at.write_plan-requires c).After-slice_known-1)
+    c.write_names-at.ensures near
 
 pub returns : goal.returns
 returns c =
+    let near : length c.args.room.now ≤ most = search rules in
     translated _ _ _ _ _ c.requires c.args.group _ c.tables-table.ensures _ _ c.plan-total.ensures _ c.size_plan-size.ensures _
     c.size_names-names.ensures c.args.room.now c.if-room-length.false _ c.put_start.ensures _ _
-    c.write_names-at.ensures (room-near (goal.at.returns c).After-slice_known-1) _ c.write_plan.ensures
+    c.write_names-at.ensures near _ c.write_plan.ensures
