@@ -1,4 +1,6 @@
 // Slots and components by their identifiers, in any bytes: an identifier of a slot is cut where its room ends.
+#![tactic(auto)]
+
 ghost use Rattle.std.specs.Prelude.{◌≡◌, ◌≤◌, ◌<◌};
 ghost use Rattle.rules.specs.Bytes.{same, index_of, bytes_at, span_at};
 ghost use Rattle.rules.specs.Limits.{limits};

@@ -1,9 +1,4 @@
-use mathlib.Core.Path.{◌≡◌, sym, ◌∙◌}
-use Prim.Native.Nat.{◌+◌, ◌-◌}
-use borrow.Author.Rules.{rules}
-use Rattle.rules.specs.Bytes.{index_of}
-use Rattle.run_slot_search.specs.Search.{names_at}
-use Rattle.run_slot_search.proofs.SearchLaws.{left_at}
+use mathlib.Core.Path.{sym, ◌∙◌}
 use Rattle.depot_slot_names.proofs.NameLaws.{component-start, component_hit, component-next, component-end}
 use Rattle.depot_slot_names.proofs.component_with.Goals as goal
 

@@ -1,10 +1,8 @@
-use mathlib.Core.Path.{◌≡◌, sym, ◌∙◌}
+use mathlib.Core.Path.{◌≡◌}
 use Prim.Native.Nat.{◌+◌, ◌-◌}
-use borrow.Author.Rules.{rules}
 use Rattle.rules.specs.Bytes.{index_of}
 use Rattle.run_slot_search.specs.Search.{names_at}
 use Rattle.run_slot_search.proofs.SearchLaws.{left_at}
-use Rattle.depot_slot_names.proofs.NameLaws.{component-start, component_hit, component-next, component-end}
 use Rattle.depot_slot_names.proofs.component_with.Given as goal
 
 abbrev pub invariant-loop-k : goal.invariant-loop-k

@@ -1,5 +1,4 @@
 use mathlib.Core.Path.{◌∙◌, ap}
-use borrow.Author.Rules.{rules}
 use Rattle.rules.specs.Bytes.{same}
 use Rattle.depot_slot_names.proofs.has_name.Goals as goal
 

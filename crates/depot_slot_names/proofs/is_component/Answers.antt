@@ -1,4 +1,3 @@
-use borrow.Author.Rules.{rules}
 use Rattle.text_pieces.specs.Pieces.{between}
 use Rattle.depot_slot_names.proofs.is_component.Goals as goal
 

@@ -1,6 +1,5 @@
 use mathlib.Core.Path.{refl, ◌∙◌, ap}
 use Prim.Native.Nat.{ℕ}
-use borrow.Author.Rules.{rules}
 use Rattle.depot_slot_names.proofs.NameLaws.{slot-id}
 use Rattle.rules.specs.Limits.{limits}
 use Rattle.text.specs.Text.{least}

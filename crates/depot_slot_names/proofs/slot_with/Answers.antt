@@ -1,10 +1,6 @@
-use mathlib.Core.Path.{◌≡◌, refl, sym, ◌∙◌}
-use Prim.Native.Nat.{◌+◌, ◌-◌}
+use mathlib.Core.Path.{refl, sym, ◌∙◌}
 use native.Mathlib.Omega.{arith}
-use borrow.Author.Rules.{rules}
 use Rattle.depot_slot_names.specs.Names.{slot_with}
-use Rattle.rules.specs.Bytes.{index_of}
-use Rattle.run_slot_search.specs.Search.{names_from}
 use Rattle.run_slot_search.proofs.SearchLaws.{find_hit, find-next, find-end}
 use Rattle.depot_slot_names.proofs.slot_with.Goals as goal
 

@@ -1,11 +1,8 @@
-use mathlib.Core.Path.{◌≡◌, refl, sym, ◌∙◌}
+use mathlib.Core.Path.{◌≡◌}
 use Prim.Native.Nat.{◌+◌, ◌-◌}
-use native.Mathlib.Omega.{arith}
-use borrow.Author.Rules.{rules}
 use Rattle.depot_slot_names.specs.Names.{slot_with}
 use Rattle.rules.specs.Bytes.{index_of}
 use Rattle.run_slot_search.specs.Search.{names_from}
-use Rattle.run_slot_search.proofs.SearchLaws.{find_hit, find-next, find-end}
 use Rattle.depot_slot_names.proofs.slot_with.Given as goal
 
 abbrev pub invariant-loop-k : goal.invariant-loop-k
