@@ -1,4 +1,6 @@
 // The slots after a run, as text in lent room.
+#![tactic(auto)]
+
 ghost use Rattle.std.specs.Prelude.{◌≤◌};
 ghost use Rattle.rules.specs.Limits.{limits};
 ghost use Rattle.run_slots.specs.Slot.{Holds};

@@ -1,4 +1,3 @@
-use borrow.Author.Rules.{rules}
 use Rattle.text.proofs.TextLaws.{wrote_then}
 use Rattle.depot_slot_lines.specs.SlotLines.{names_text}
 use Rattle.depot_slot_lines.proofs.put_names.Goals as goal

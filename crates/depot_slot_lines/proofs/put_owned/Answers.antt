@@ -1,4 +1,3 @@
-use borrow.Author.Rules.{rules}
 use Rattle.depot_slot_lines.specs.SlotLines.{owned_text}
 use Rattle.depot_slot_lines.proofs.put_owned.Goals as goal
 

@@ -1,5 +1,4 @@
 use borrow.Author.Tests.{lt-ltb, le-ltb}
-use borrow.Author.Rules.{rules}
 use Rattle.text.proofs.TextLaws.{wrote_then}
 use Rattle.depot_slot_lines.specs.SlotLines.{owner_text}
 use Rattle.depot_slot_lines.proofs.put_owner.Goals as goal

@@ -1,11 +1,7 @@
 use Prim.Native.Nat.{◌-◌, ◌≤◌}
-use native.Mathlib.Omega.{arith}
-use borrow.Author.Rules.{rules}
 use Rattle.text.specs.Text.{Wrote}
-use Rattle.text.proofs.TextLaws.{wrote-length}
 use Rattle.text_pieces.specs.Pieces.{lines}
-use Rattle.text_pieces.proofs.PieceLaws.{lines_none, lines_next, lines-all}
-use Rattle.depot_slot_lines.specs.SlotLines.{owned_text, slots_text}
+use Rattle.depot_slot_lines.specs.SlotLines.{owned_text}
 use Rattle.depot_slot_lines.proofs.put_slots.Given as goal
 
 abbrev pub invariant-loop-k : goal.invariant-loop-k
