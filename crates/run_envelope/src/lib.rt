@@ -1,4 +1,6 @@
 // A run: the envelope is checked, the run is admitted, and the sequences of the group's plan are run.
+#![tactic(auto)]
+
 ghost use Rattle.manifest_accessors.specs.Accepted.{Accepted};
 ghost use Rattle.run_envelope.specs.Envelope.{Runs};
 

@@ -1,4 +1,3 @@
-use borrow.Author.Rules.{rules}
 use Rattle.manifest_accessors.proofs.AcceptedLaws.{accepted}
 use Rattle.run_envelope.proofs.OutcomeLaws.{refused-check}
 use Rattle.run_envelope.proofs.run.Goals as goal

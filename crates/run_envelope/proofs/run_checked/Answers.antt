@@ -1,4 +1,3 @@
-use borrow.Author.Rules.{rules}
 use Rattle.manifest_accessors.proofs.AcceptedLaws.{few, inside}
 use Rattle.run_envelope.proofs.OutcomeLaws.{refused-answer, job, last-event, answered}
 use Rattle.run_envelope.proofs.run_checked.Goals as goal
