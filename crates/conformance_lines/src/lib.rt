@@ -1,4 +1,6 @@
 // The lines of newer, translate and a head.
+#![tactic(auto)]
+
 ghost use Rattle.text.specs.Text.{Writes};
 ghost use Rattle.conformance_lines.specs.Lines.{newer_text, program_text, translated_text, head_text};
 

@@ -1,10 +1,6 @@
 use borrow.Author.Tests.{eq-eqb, ne_eqb}
 use Rattle.conformance_lines.specs.Lines.{head_text}
-use borrow.Author.Rules.{rules}
 use Rattle.conformance_lines.proofs.put_head.Goals as goal
-
-pub shape_of-room-then-head-eq0 : goal.shape_of-room-then-head-eq0
-shape_of-room-then-head-eq0 c = tt
 
 pub returns-then-head-eq0 : goal.returns-then-head-eq0
 unfolding head_text

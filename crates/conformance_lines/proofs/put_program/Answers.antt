@@ -1,6 +1,5 @@
 use Rattle.text.proofs.TextLaws.{wrote_then}
 use Rattle.conformance_lines.specs.Lines.{program_text}
-use borrow.Author.Rules.{rules}
 use Rattle.conformance_lines.proofs.put_program.Goals as goal
 
 pub put_bytes-b-requires : goal.put_bytes-b-requires
@@ -8,9 +7,6 @@ put_bytes-b-requires c = tt
 
 pub put_byte-requires : goal.put_byte-requires
 put_byte-requires c = tt
-
-pub shape_of-room : goal.shape_of-room
-shape_of-room c = tt
 
 pub returns : goal.returns
 unfolding program_text

@@ -3,7 +3,6 @@ use native.Mathlib.Omega.{arith}
 use lib.Seq.{length-take-le}
 use borrow.Author.Tests.{eq-eqb, ne_eqb}
 use Rattle.conformance_lines.specs.Lines.{translated_text}
-use borrow.Author.Rules.{rules}
 use Rattle.conformance_lines.proofs.put_translated.Goals as goal
 
 pub least-n-requires : goal.least-n-requires
