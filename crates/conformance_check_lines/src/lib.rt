@@ -1,4 +1,6 @@
 // The lines of check.
+#![tactic(auto)]
+
 ghost use Rattle.std.specs.Prelude.{◌<◌};
 ghost use Rattle.text.specs.Text.{Writes};
 ghost use Rattle.rules.specs.Limits.{limits};

@@ -1,6 +1,5 @@
 use Rattle.text.proofs.TextLaws.{wrote_then}
 use Rattle.conformance_check_lines.specs.CheckLines.{accepted_text}
-use borrow.Author.Rules.{rules}
 use Rattle.conformance_check_lines.proofs.put_accepted.Goals as goal
 
 pub put_places-b-requires : goal.put_places-b-requires
@@ -8,9 +7,6 @@ put_places-b-requires c = tt
 
 pub put_sections-requires : goal.put_sections-requires
 put_sections-requires c = tt
-
-pub shape_of-room : goal.shape_of-room
-shape_of-room c = tt
 
 pub returns : goal.returns
 unfolding accepted_text

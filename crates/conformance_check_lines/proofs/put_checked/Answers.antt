@@ -1,6 +1,5 @@
 use borrow.Author.Tests.{eq-eqb, ne_eqb}
 use Rattle.conformance_check_lines.specs.CheckLines.{checked_text}
-use borrow.Author.Rules.{rules}
 use Rattle.conformance_check_lines.proofs.put_checked.Goals as goal
 
 pub put_accepted-requires : goal.put_accepted-requires

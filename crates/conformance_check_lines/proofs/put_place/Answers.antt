@@ -1,6 +1,5 @@
 use borrow.Author.Tests.{eq-eqb, ne_eqb}
 use Rattle.conformance_check_lines.specs.CheckLines.{place_text}
-use borrow.Author.Rules.{rules}
 use Rattle.conformance_check_lines.proofs.put_place.Goals as goal
 
 pub returns-then-k-eq0 : goal.returns-then-k-eq0

@@ -1,11 +1,7 @@
-use borrow.Author.Rules.{rules}
 use Prim.Native.Nat.{◌-◌, ◌≤◌}
-use native.Mathlib.Omega.{arith}
 use Rattle.text.specs.Text.{Wrote}
 use Rattle.text_pieces.specs.Pieces.{lines}
-use Rattle.text.proofs.TextLaws.{wrote-length}
-use Rattle.text_pieces.proofs.PieceLaws.{lines_none, lines_next, lines-all}
-use Rattle.conformance_check_lines.specs.CheckLines.{place_text, places_text}
+use Rattle.conformance_check_lines.specs.CheckLines.{place_text}
 use Rattle.conformance_check_lines.proofs.put_places.Given as goal
 
 abbrev pub invariant-loop-k : goal.invariant-loop-k

@@ -1,5 +1,4 @@
 use Rattle.conformance_check_lines.specs.CheckLines.{sections_text}
-use borrow.Author.Rules.{rules}
 use Rattle.conformance_check_lines.proofs.put_sections.Goals as goal
 
 pub least-requires : goal.least-requires
@@ -16,9 +15,6 @@ least-requires-4 c = tt
 
 pub least-requires-5 : goal.least-requires-5
 least-requires-5 c = tt
-
-pub shape_of-room : goal.shape_of-room
-shape_of-room c = tt
 
 pub returns : goal.returns
 unfolding sections_text
