@@ -1,4 +1,6 @@
 // The line of a run.
+#![tactic(auto)]
+
 ghost use Rattle.std.specs.Prelude.{◌≡◌, ◌*◌, ◌/◌, length};
 ghost use Rattle.text.specs.Text.{Writes, least as Text·least};
 ghost use Rattle.rules.specs.Slots.{slot_bytes};

@@ -1,18 +1,11 @@
 use borrow.Author.Tests.{eq-eqb, ne_eqb}
 use Rattle.conformance_run_lines.specs.Lines.{ran_text}
-use borrow.Author.Rules.{rules}
 use Rattle.conformance_run_lines.proofs.put_ran.Goals as goal
-
-pub put_end-requires : goal.put_end-requires
-put_end-requires c = tt
 
 pub returns-then-answer-eq0 : goal.returns-then-answer-eq0
 unfolding ran_text
 returns-then-answer-eq0 c =
     rw (eq-eqb _ _ c.if-answer-eq0.true) c.put_end.ensures
-
-pub put_refused-requires : goal.put_refused-requires
-put_refused-requires c = tt
 
 pub returns : goal.returns
 unfolding ran_text

@@ -1,10 +1,8 @@
-use Prim.Native.Nat.{◌-◌, ◌/◌, ◌≤◌}
+use Prim.Native.Nat.{◌/◌}
 use mathlib.Core.Path.{◌≡◌}
 use native.Mathlib.Omega.{arith}
 use lib.ListN.{length}
 use Rattle.rules.specs.Slots.{slot_bytes}
-use Rattle.text.specs.Text.{Wrote}
-use Rattle.conformance_run_lines.specs.Lines.{slots_text}
 use Rattle.text.proofs.TextLaws.{wrote-length}
 use Rattle.conformance_run_lines.proofs.LineLaws.{slots-none, slots_next}
 use borrow.Author.Rules.{rules}

@@ -1,13 +1,6 @@
-use Prim.Native.Nat.{◌-◌, ◌/◌, ◌≤◌}
-use mathlib.Core.Path.{◌≡◌}
-use native.Mathlib.Omega.{arith}
-use lib.ListN.{length}
-use Rattle.rules.specs.Slots.{slot_bytes}
+use Prim.Native.Nat.{◌-◌, ◌≤◌}
 use Rattle.text.specs.Text.{Wrote}
 use Rattle.conformance_run_lines.specs.Lines.{slots_text}
-use Rattle.text.proofs.TextLaws.{wrote-length}
-use Rattle.conformance_run_lines.proofs.LineLaws.{slots-none, slots_next}
-use borrow.Author.Rules.{rules}
 use Rattle.conformance_run_lines.proofs.put_slots.Given as goal
 
 abbrev pub invariant-loop-k : goal.invariant-loop-k
