@@ -1,4 +1,6 @@
 // Check's report in numbers, for C.
+#![tactic(auto)]
+
 ghost use Rattle.std.specs.Prelude.{◌≡◌};
 ghost use Rattle.pitvorgas_check_answer.specs.Answer.{answer_of};
 
