@@ -1,4 +1,6 @@
 // The outcome of a run in numbers, for C.
+#![tactic(auto)]
+
 ghost use Rattle.std.specs.Prelude.{◌≡◌};
 ghost use Rattle.pitvorgas_run_answer.specs.Answer.{answer_of};
 

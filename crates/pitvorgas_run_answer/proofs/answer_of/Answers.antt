@@ -1,4 +1,3 @@
-use borrow.Author.Rules.{rules}
 use Rattle.pitvorgas_run_answer.proofs.answer_of.Goals as goal
 
 pub returns-in-Refused : goal.returns-in-Refused
