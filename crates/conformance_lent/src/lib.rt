@@ -1,4 +1,6 @@
 // Lent bytes: filled before a job, and looked at after it, beside the line of its answer.
+#![tactic(auto)]
+
 ghost use Rattle.std.specs.Prelude.{◌≡◌, length, drop, replicate};
 ghost use Rattle.text.specs.Text.{Writes};
 ghost use Rattle.conformance_lent.specs.Lent.{all_are, altered_text, translation_line, kept_all, ran_line};

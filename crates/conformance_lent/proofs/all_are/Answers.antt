@@ -1,10 +1,6 @@
-use Prim.Native.Nat.{◌-◌}
-use mathlib.Core.Path.{◌≡◌, refl, sym, ◌∙◌}
+use mathlib.Core.Path.{refl, sym, ◌∙◌}
 use native.Mathlib.Omega.{arith}
-use lib.ListN.{length, drop}
-use Rattle.conformance_lent.specs.Lent.{all_are}
 use Rattle.conformance_lent.proofs.LentLaws.{are_next, are_stop, are_end}
-use borrow.Author.Rules.{rules}
 use Rattle.conformance_lent.proofs.all_are.Goals as goal
 
 pub loop-i-init : goal.loop-i-init

@@ -1,8 +1,7 @@
-use Prim.Native.Nat.{◌-◌, ◌≤◌}
-use mathlib.Core.Path.{◌≡◌, refl, ◌∙◌}
+use mathlib.Core.Path.{refl, ◌∙◌}
 use native.Mathlib.Omega.{arith}
-use lib.ListN.{length, length-set}
-use Rattle.conformance_lent.proofs.LentLaws.{filled, fill_start, fill_next, fill_end}
+use lib.ListN.{length-set}
+use Rattle.conformance_lent.proofs.LentLaws.{fill_start, fill_next, fill_end}
 use borrow.Author.Rules.{rules}
 use Rattle.conformance_lent.proofs.fill.Goals as goal
 

@@ -1,9 +1,7 @@
 use Prim.Native.Nat.{◌-◌, ◌≤◌}
-use mathlib.Core.Path.{◌≡◌, refl, ◌∙◌}
-use native.Mathlib.Omega.{arith}
-use lib.ListN.{length, length-set}
-use Rattle.conformance_lent.proofs.LentLaws.{filled, fill_start, fill_next, fill_end}
-use borrow.Author.Rules.{rules}
+use mathlib.Core.Path.{◌≡◌}
+use lib.ListN.{length}
+use Rattle.conformance_lent.proofs.LentLaws.{filled}
 use Rattle.conformance_lent.proofs.fill.Given as goal
 
 abbrev pub invariant-loop-i : goal.invariant-loop-i

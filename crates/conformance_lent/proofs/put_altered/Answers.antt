@@ -1,14 +1,10 @@
 use Rattle.conformance_lent.specs.Lent.{altered_text}
 use Rattle.text.proofs.TextLaws.{wrote_none}
-use borrow.Author.Rules.{rules}
 use Rattle.conformance_lent.proofs.put_altered.Goals as goal
 
 pub returns-then-kept : goal.returns-then-kept
 unfolding altered_text
 returns-then-kept c = rw c.if-kept.true (wrote_none _ _)
-
-pub shape_of-room : goal.shape_of-room
-shape_of-room c = tt
 
 pub returns : goal.returns
 unfolding altered_text
