@@ -1,5 +1,5 @@
 -- What a refusal of a run is about, on a line below it.
-use Rattle.std.specs.Prelude.{ℕ, ◌+◌, ◌*◌, ◌/◌, Bool, cond, List, [], ◌++◌, eqb, leb, length}
+use Rattle.std.specs.Prelude.{ℕ, ◌/◌, Bool, cond, List, [], ◌++◌, eqb, leb, length}
 use Rattle.rules.specs.declared.answers.Refusal.TheVariants.{WrongNumber, NoSlot, BadSlots}
 use Rattle.rules.specs.Answers.{refusal_number}
 use Rattle.rules.specs.Bytes.{bytes_at, span_at}

@@ -1,4 +1,6 @@
 // What a refusal of a run is about, on a line below it: the numbers, a component, or a slot.
+#![tactic(auto)]
+
 ghost use Rattle.std.specs.Prelude.{◌≡◌, ◌≤◌, ◌<◌};
 ghost use Rattle.rules.specs.Limits.{limits};
 ghost use Rattle.text.specs.Text.{Writes};

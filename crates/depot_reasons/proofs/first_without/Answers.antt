@@ -1,8 +1,4 @@
-use mathlib.Core.Path.{◌≡◌, sym, ◌∙◌}
-use Prim.Native.Nat.{◌-◌}
-use borrow.Author.Rules.{rules}
-use Rattle.depot_reasons.specs.First.{first}
-use Rattle.depot_reasons.specs.Reasons.{has_no_slot}
+use mathlib.Core.Path.{sym, ◌∙◌}
 use Rattle.depot_reasons.proofs.ReasonLaws.{first-start, first_hit, first_next, first-end}
 use Rattle.depot_reasons.proofs.first_without.Goals as goal
 

@@ -1,9 +1,7 @@
-use mathlib.Core.Path.{◌≡◌, sym, ◌∙◌}
+use mathlib.Core.Path.{◌≡◌}
 use Prim.Native.Nat.{◌-◌}
-use borrow.Author.Rules.{rules}
 use Rattle.depot_reasons.specs.First.{first}
 use Rattle.depot_reasons.specs.Reasons.{has_no_slot}
-use Rattle.depot_reasons.proofs.ReasonLaws.{first-start, first_hit, first_next, first-end}
 use Rattle.depot_reasons.proofs.first_without.Given as goal
 
 abbrev pub invariant-loop-k : goal.invariant-loop-k

@@ -1,4 +1,3 @@
-use borrow.Author.Rules.{rules}
 use Rattle.text_pieces.specs.Pieces.{between}
 use Rattle.depot_slot_names.proofs.NameLaws.{first_slot}
 use Rattle.depot_reasons.specs.Reasons.{has_no_slot}

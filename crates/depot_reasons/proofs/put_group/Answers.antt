@@ -1,4 +1,3 @@
-use borrow.Author.Rules.{rules}
 use Rattle.depot_reasons.proofs.put_group.Goals as goal
 
 pub returns-then-boot : goal.returns-then-boot

@@ -1,5 +1,4 @@
 use borrow.Author.Tests.{le-leb, lt-leb}
-use borrow.Author.Rules.{rules}
 use Rattle.text.proofs.TextLaws.{wrote_none, wrote_then}
 use Rattle.depot_reasons.specs.Reasons.{no_slot_text, without_text}
 use Rattle.text_pieces.specs.Pieces.{between}

@@ -1,4 +1,3 @@
-use borrow.Author.Rules.{rules}
 use Rattle.text.proofs.TextLaws.{wrote_then}
 use Rattle.depot_reasons.specs.Reasons.{numbers_text}
 use Rattle.depot_reasons.proofs.put_numbers.Goals as goal

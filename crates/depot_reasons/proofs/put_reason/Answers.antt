@@ -1,5 +1,4 @@
 use borrow.Author.Tests.{eq-eqb, ne_eqb}
-use borrow.Author.Rules.{rules}
 use Rattle.text.proofs.TextLaws.{wrote_none}
 use Rattle.depot_reasons.specs.Reasons.{reason_text}
 use Rattle.depot_reasons.proofs.put_reason.Goals as goal

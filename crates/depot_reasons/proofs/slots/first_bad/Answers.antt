@@ -1,10 +1,6 @@
-use mathlib.Core.Path.{◌≡◌, sym, ◌∙◌, ap}
-use mathlib.Core.Bool.{Bool, not}
-use Prim.Native.Nat.{◌-◌}
+use mathlib.Core.Path.{sym, ◌∙◌, ap}
+use mathlib.Core.Bool.{not}
 use native.Mathlib.Omega.{arith}
-use borrow.Author.Rules.{rules}
-use Rattle.depot_reasons.specs.First.{first}
-use Rattle.depot_reasons.specs.BadSlots.{is_bad}
 use Rattle.depot_reasons.proofs.ReasonLaws.{first-start, first_hit, first_next, first-end}
 use Rattle.depot_reasons.proofs.slots.first_bad.Goals as goal
 
@@ -16,11 +12,11 @@ good_slot-requires c = omega (arith, c.loop-k-test.true, c.requires)
 
 pub returns-then-not-good_slot : goal.returns-then-not-good_slot
 returns-then-not-good_slot c =
-    first_hit _ _ _ c.loop-k.invariant c.loop-k-test.true (ap (λ (t : Bool). not t) (sym c.good_slot.ensures) ∙ c.if-not-good_slot.true)
+    first_hit _ _ _ c.loop-k.invariant c.loop-k-test.true (ap not (sym c.good_slot.ensures ∙ c.if-not-good_slot.true))
 
 pub loop-k-preserved : goal.loop-k-preserved
 loop-k-preserved c =
-    first_next _ _ _ c.loop-k.invariant c.loop-k-test.true (ap (λ (t : Bool). not t) (sym c.good_slot.ensures) ∙ c.if-not-good_slot.false)
+    first_next _ _ _ c.loop-k.invariant c.loop-k-test.true (ap not (sym c.good_slot.ensures ∙ c.if-not-good_slot.false))
 
 pub returns : goal.returns
 returns c = first-end _ _ _ c.loop-k.invariant c.loop-k-test.false

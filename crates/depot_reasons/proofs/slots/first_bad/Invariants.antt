@@ -1,11 +1,7 @@
-use mathlib.Core.Path.{◌≡◌, sym, ◌∙◌, ap}
-use mathlib.Core.Bool.{Bool, not}
+use mathlib.Core.Path.{◌≡◌}
 use Prim.Native.Nat.{◌-◌}
-use native.Mathlib.Omega.{arith}
-use borrow.Author.Rules.{rules}
 use Rattle.depot_reasons.specs.First.{first}
 use Rattle.depot_reasons.specs.BadSlots.{is_bad}
-use Rattle.depot_reasons.proofs.ReasonLaws.{first-start, first_hit, first_next, first-end}
 use Rattle.depot_reasons.proofs.slots.first_bad.Given as goal
 
 abbrev pub invariant-loop-k : goal.invariant-loop-k

@@ -1,10 +1,5 @@
-use mathlib.Core.Path.{◌≡◌}
-use Prim.Native.Nat.{◌-◌}
 use native.Mathlib.Omega.{arith}
 use borrow.Author.Tests.{lt-ltb, le-ltb}
-use borrow.Author.Rules.{rules}
-use Rattle.depot_reasons.specs.First.{first}
-use Rattle.depot_reasons.specs.BadSlots.{is_twice}
 use Rattle.depot_reasons.proofs.ReasonLaws.{first-start, first_hit, first_next, first-end}
 use Rattle.depot_reasons.proofs.slots.first_twice.Goals as goal
 

@@ -1,6 +1,5 @@
 use native.Mathlib.Omega.{arith}
 use borrow.Author.Tests.{lt-ltb, le-ltb}
-use borrow.Author.Rules.{rules}
 use Rattle.text.proofs.TextLaws.{wrote_none}
 use Rattle.depot_reasons.specs.BadSlots.{among_text}
 use Rattle.depot_reasons.proofs.slots.put_among.Goals as goal

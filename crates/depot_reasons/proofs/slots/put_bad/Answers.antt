@@ -1,5 +1,4 @@
 use borrow.Author.Tests.{lt-ltb, le-ltb}
-use borrow.Author.Rules.{rules}
 use Rattle.text.proofs.TextLaws.{wrote_then}
 use Rattle.depot_reasons.specs.BadSlots.{bad_text}
 use Rattle.depot_reasons.proofs.slots.put_bad.Goals as goal

@@ -1,6 +1,5 @@
 use native.Mathlib.Omega.{arith}
 use borrow.Author.Tests.{lt-ltb, le-ltb, eq-eqb, ne_eqb}
-use borrow.Author.Rules.{rules}
 use Rattle.depot_reasons.specs.BadSlots.{bad_slots_text}
 use Rattle.depot_reasons.proofs.slots.put_bad_slots.Goals as goal
 

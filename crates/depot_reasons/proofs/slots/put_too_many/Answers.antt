@@ -1,4 +1,3 @@
-use borrow.Author.Rules.{rules}
 use Rattle.text.proofs.TextLaws.{wrote_then}
 use Rattle.depot_reasons.specs.BadSlots.{too_many_text}
 use Rattle.depot_reasons.proofs.slots.put_too_many.Goals as goal

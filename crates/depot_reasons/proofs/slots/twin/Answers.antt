@@ -1,4 +1,3 @@
-use borrow.Author.Rules.{rules}
 use Rattle.depot_reasons.proofs.slots.twin.Goals as goal
 
 pub returns : goal.returns
