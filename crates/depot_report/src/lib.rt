@@ -1,4 +1,6 @@
 // The answers of check, newer and translate, as text in lent room.
+#![tactic(auto)]
+
 ghost use Rattle.std.specs.Prelude.{◌<◌};
 ghost use Rattle.rules.specs.Limits.{limits, section_count};
 ghost use Rattle.text.specs.Text.{Writes};

@@ -1,4 +1,3 @@
-use borrow.Author.Rules.{rules}
 use Rattle.text.proofs.TextLaws.{wrote_then}
 use Rattle.depot_report.specs.Report.{accepted_text}
 use Rattle.depot_report.proofs.put_accepted.Goals as goal

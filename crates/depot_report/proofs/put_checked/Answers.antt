@@ -1,4 +1,3 @@
-use borrow.Author.Rules.{rules}
 use Rattle.depot_report.specs.Report.{checked_text}
 use borrow.Author.Tests.{eq-eqb, ne_eqb}
 use Rattle.depot_report.proofs.put_checked.Goals as goal

@@ -1,11 +1,7 @@
-use borrow.Author.Rules.{rules}
 use Prim.Native.Nat.{◌-◌, ◌≤◌}
-use native.Mathlib.Omega.{arith}
 use Rattle.text.specs.Text.{Wrote}
-use Rattle.text.proofs.TextLaws.{wrote-length}
 use Rattle.text_pieces.specs.Pieces.{lines}
-use Rattle.text_pieces.proofs.PieceLaws.{lines_none, lines_next, lines-all}
-use Rattle.depot_report.specs.Report.{component_text, components_text}
+use Rattle.depot_report.specs.Report.{component_text}
 use Rattle.depot_report.proofs.put_components.Given as goal
 
 abbrev pub invariant-loop-k : goal.invariant-loop-k

@@ -1,4 +1,3 @@
-use borrow.Author.Rules.{rules}
 use Rattle.text.proofs.TextLaws.{wrote_then}
 use Rattle.depot_report.specs.Report.{newer_text}
 use borrow.Author.Tests.{eq-eqb, ne_eqb}

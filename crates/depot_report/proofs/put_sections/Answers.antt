@@ -1,11 +1,8 @@
 use borrow.Author.Rules.{rules}
-use Prim.Native.Nat.{◌-◌, ◌≤◌}
 use Rattle.rules.specs.Limits.{section_count}
-use Rattle.text.specs.Text.{Wrote}
 use Rattle.text.proofs.TextLaws.{wrote-length}
-use Rattle.text_pieces.specs.Pieces.{lines}
 use Rattle.text_pieces.proofs.PieceLaws.{lines_none, lines_next, lines-all}
-use Rattle.depot_report.specs.Report.{section_text, sections_text}
+use Rattle.depot_report.specs.Report.{sections_text}
 use Rattle.depot_report.proofs.put_sections.Goals as goal
 
 pub loop-j-init : goal.loop-j-init
