@@ -1,5 +1,5 @@
 -- The images in the slots before an event: where each comes from, and its bytes.
-use Rattle.std.specs.Prelude.{ℕ, zero, suc, ◌+◌, ◌-◌, ◌*◌, ◌/◌, Bool, true, false, cond, [], eqb, ltb, leb, length, get_or, drop}
+use Rattle.std.specs.Prelude.{ℕ, zero, suc, ◌+◌, ◌*◌, ◌/◌, Bool, true, false, cond, [], eqb, ltb, leb, length, get_or, drop}
 use Rattle.rules.specs.declared.answers.End.TheVariants.{Finished}
 use Rattle.rules.specs.Answers.{result_number}
 use Rattle.rules.specs.Bytes.{Bytes, part}

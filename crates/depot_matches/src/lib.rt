@@ -1,4 +1,6 @@
 // Why the image matches of a run failed, worked out from the program, the trace, the slots before the run and the host's answers.
+#![tactic(auto)]
+
 ghost use Rattle.std.specs.Prelude.{◌≡◌, [], ◌∷◌, ◌+◌, ◌*◌, ◌≤◌, length};
 ghost use Rattle.std.proofs.lemmas.List.Edits.{sets};
 ghost use Rattle.rules.specs.Step.{event_bytes};

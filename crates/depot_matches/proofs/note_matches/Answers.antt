@@ -1,6 +1,5 @@
 use Rattle.text.proofs.TextLaws.{wrote-length}
 use Rattle.depot_matches.specs.Matches.{notes_of}
-use borrow.Author.Rules.{rules}
 use Rattle.depot_matches.proofs.note_matches.Goals as goal
 
 pub shape_of-notes : goal.shape_of-notes

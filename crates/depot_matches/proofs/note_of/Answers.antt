@@ -1,14 +1,13 @@
 use mathlib.Core.Path.{◌≡◌, sym, ◌∙◌}
-use borrow.Author.Tests.{lt-ltb, le-ltb, not-true, not-false}
+use borrow.Author.Tests.{lt-ltb, le-ltb}
 use Rattle.rules.specs.Commands.{digest_key}
 use Rattle.depot_matches.specs.Values.{value_before}
 use Rattle.depot_matches.specs.Matches.{image_from, note_of}
-use borrow.Author.Rules.{rules}
 use Rattle.depot_matches.proofs.note_of.Goals as goal
 
 pub returns-then-not-is_of : goal.returns-then-not-is_of
 unfolding note_of
-returns-then-not-is_of c = rw (← c.event_at-e.ensures, sym c.is_of.ensures ∙ not-true _ c.if-not-is_of.true)
+returns-then-not-is_of c = rw (← c.event_at-e.ensures, sym c.is_of.ensures ∙ c.if-not-is_of.true)
 
 pub returns-then-from-lt-COMPONENTS : goal.returns-then-from-lt-COMPONENTS
 unfolding note_of image_from
@@ -17,7 +16,7 @@ returns-then-from-lt-COMPONENTS c =
     c.value_before-digest.ensures in
     rw (
       ← c.event_at-e.ensures,
-      sym c.is_of.ensures ∙ not-false _ c.if-not-is_of.false,
+      sym c.is_of.ensures ∙ c.if-not-is_of.false,
       ← digest,
       ← c.origin-from.ensures,
       lt-ltb _ _ c.if-from-lt-COMPONENTS.true,
@@ -32,7 +31,7 @@ returns c =
     c.value_before-digest.ensures in
     rw (
       ← c.event_at-e.ensures,
-      sym c.is_of.ensures ∙ not-false _ c.if-not-is_of.false,
+      sym c.is_of.ensures ∙ c.if-not-is_of.false,
       ← digest,
       ← c.origin-from.ensures,
       le-ltb _ _ c.if-from-lt-COMPONENTS.false,

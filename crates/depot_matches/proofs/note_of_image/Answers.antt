@@ -4,7 +4,6 @@ use lib.ListN.{length}
 use Rattle.rules.proofs.BytesLaws.{part-rest}
 use Rattle.rules.specs.Slots.{answer_bytes, digest_from}
 use Rattle.depot_matches.specs.Matches.{note_of_image}
-use borrow.Author.Rules.{rules}
 use Rattle.depot_matches.proofs.note_of_image.Goals as goal
 
 pub returns-then-image-lt-IMAGE_BYTES : goal.returns-then-image-lt-IMAGE_BYTES

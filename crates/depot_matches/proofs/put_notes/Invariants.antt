@@ -1,12 +1,8 @@
 use Prim.Native.Nat.{◌-◌, ◌≤◌}
 use mathlib.Core.List.{[], ◌∷◌}
-use native.Mathlib.Omega.{arith}
 use Rattle.text.specs.Text.{Wrote}
-use Rattle.text.proofs.TextLaws.{wrote-length}
 use Rattle.text_pieces.specs.Pieces.{lines}
-use Rattle.text_pieces.proofs.PieceLaws.{lines_none, lines_next, lines-all}
 use Rattle.depot_matches.specs.Matches.{note_of}
-use borrow.Author.Rules.{rules}
 use Rattle.depot_matches.proofs.put_notes.Given as goal
 
 abbrev pub invariant-loop-j : goal.invariant-loop-j

@@ -1,5 +1,4 @@
 use Rattle.depot_matches.specs.Events.{event_at}
-use borrow.Author.Rules.{rules}
 use Rattle.depot_matches.proofs.events.event_at.Goals as goal
 
 pub returns : goal.returns

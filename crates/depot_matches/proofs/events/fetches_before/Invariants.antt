@@ -1,9 +1,6 @@
 use Prim.Native.Nat.{◌-◌, ◌≤◌}
 use mathlib.Core.Path.{◌≡◌}
-use native.Mathlib.Omega.{arith}
 use Rattle.depot_matches.specs.Events.{fetches_before}
-use Rattle.depot_matches.proofs.TurnLaws.{fetches-start, fetches-next}
-use borrow.Author.Rules.{rules}
 use Rattle.depot_matches.proofs.events.fetches_before.Given as goal
 
 abbrev pub invariant-loop-i : goal.invariant-loop-i

@@ -5,7 +5,6 @@ use native.Mathlib.Omega.{arith}
 use borrow.Author.Tests.{le-leb, lt-leb}
 use Rattle.rules.specs.Slots.{answer_bytes}
 use Rattle.depot_matches.specs.Images.{answer_image}
-use borrow.Author.Rules.{rules}
 use Rattle.depot_matches.proofs.images.answer_image.Goals as goal
 
 pub returns-then-answers-k : goal.returns-then-answers-k

@@ -1,19 +1,18 @@
-use borrow.Author.Tests.{eq-eqb, ne_eqb, not-true, not-false}
+use borrow.Author.Tests.{eq-eqb, ne_eqb}
 use mathlib.Core.Path.{sym, ◌∙◌}
 use Rattle.depot_matches.specs.Images.{came_from}
-use borrow.Author.Rules.{rules}
 use Rattle.depot_matches.proofs.images.came_from.Goals as goal
 
 pub returns-then-not-moves : goal.returns-then-not-moves
 unfolding came_from
-returns-then-not-moves c = rw (← c.event_at-e.ensures, sym c.moves.ensures ∙ not-true _ c.if-not-moves.true)
+returns-then-not-moves c = rw (← c.event_at-e.ensures, sym c.moves.ensures ∙ c.if-not-moves.true)
 
 pub returns-then-e-c : goal.returns-then-e-c
 unfolding came_from
 returns-then-e-c c =
     rw (
       ← c.event_at-e.ensures,
-      sym c.moves.ensures ∙ not-false _ c.if-not-moves.false,
+      sym c.moves.ensures ∙ c.if-not-moves.false,
       ← c.source_at-source.ensures,
       eq-eqb _ _ c.if-e-c.true,
     )
@@ -23,7 +22,7 @@ unfolding came_from
 returns-then-e-eq-COPY c =
     rw (
       ← c.event_at-e.ensures,
-      sym c.moves.ensures ∙ not-false _ c.if-not-moves.false,
+      sym c.moves.ensures ∙ c.if-not-moves.false,
       ← c.source_at-source.ensures,
       ne_eqb _ _ c.if-e-c.false,
       eq-eqb _ _ c.if-e-eq-COPY.true,
@@ -34,7 +33,7 @@ unfolding came_from
 returns-then-source-c c =
     rw (
       ← c.event_at-e.ensures,
-      sym c.moves.ensures ∙ not-false _ c.if-not-moves.false,
+      sym c.moves.ensures ∙ c.if-not-moves.false,
       ← c.source_at-source.ensures,
       ne_eqb _ _ c.if-e-c.false,
       ne_eqb _ _ c.if-e-eq-COPY.false,
@@ -46,7 +45,7 @@ unfolding came_from
 returns c =
     rw (
       ← c.event_at-e.ensures,
-      sym c.moves.ensures ∙ not-false _ c.if-not-moves.false,
+      sym c.moves.ensures ∙ c.if-not-moves.false,
       ← c.source_at-source.ensures,
       ne_eqb _ _ c.if-e-c.false,
       ne_eqb _ _ c.if-e-eq-COPY.false,

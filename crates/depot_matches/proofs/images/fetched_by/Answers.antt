@@ -1,5 +1,4 @@
 use borrow.Author.Tests.{eq-eqb, ne_eqb}
-use borrow.Author.Rules.{rules}
 use Rattle.depot_matches.proofs.images.fetched_by.Goals as goal
 
 pub returns-then-e-c : goal.returns-then-e-c

@@ -1,5 +1,4 @@
 use mathlib.Core.Path.{sym, ◌∙◌}
-use borrow.Author.Rules.{rules}
 use Rattle.depot_matches.proofs.images.moves.Goals as goal
 
 pub returns-then-is_of : goal.returns-then-is_of

@@ -8,7 +8,6 @@ use Rattle.rules.proofs.BytesLaws.{part-rest}
 use Rattle.depot_argument_lines.proofs.ItemLaws.{size_lies}
 use Rattle.depot_listing.specs.Listing.{component_size}
 use Rattle.depot_matches.specs.Images.{name_of}
-use borrow.Author.Rules.{rules}
 use Rattle.depot_matches.proofs.images.name_of.Goals as goal
 
 pub returns-then-p-lt-START_BYTES : goal.returns-then-p-lt-START_BYTES
@@ -23,18 +22,18 @@ returns-then-size_of-eq0 c =
       le-ltb (length c.args.p.now) start_size c.if-p-lt-START_BYTES.false,
       ← part-rest c.args.p.now start_size,
       ← c.after_components-s.ensures,
-      eq-eqb _ 0 (sym c.type_size.ensures.0 ∙ c.if-size_of-eq0.true),
+      eq-eqb _ 0 (sym c.size_of.ensures.0 ∙ c.if-size_of-eq0.true),
     )
 
 pub bounds-s-3 : goal.bounds-s-3
 unfolding component_size
 bounds-s-3 c =
-    omega (arith, size_lies c.after_components-s.result.now name_size (get_or c.after_components-s.result.now length_from 0) c.type_size.ensures.0 c.if-size_of-eq0.false)
+    omega (arith, size_lies c.after_components-s.result.now name_size (get_or c.after_components-s.result.now length_from 0) c.size_of.ensures.0 c.if-size_of-eq0.false)
 
 pub slice_bounds-result-end-2 : goal.slice_bounds-result-end-2
 unfolding component_size
 slice_bounds-result-end-2 c =
-    omega (arith, size_lies c.after_components-s.result.now name_size (get_or c.after_components-s.result.now length_from 0) c.type_size.ensures.0 c.if-size_of-eq0.false, c.wide-end.ensures.0)
+    omega (arith, size_lies c.after_components-s.result.now name_size (get_or c.after_components-s.result.now length_from 0) c.size_of.ensures.0 c.if-size_of-eq0.false, c.wide-end.ensures.0)
 
 pub returns : goal.returns
 unfolding name_of
@@ -44,6 +43,6 @@ returns c =
       le-ltb (length c.args.p.now) start_size c.if-p-lt-START_BYTES.false,
       ← part-rest c.args.p.now start_size,
       ← c.after_components-s.ensures,
-      ne_eqb _ 0 (λ y. c.if-size_of-eq0.false (c.type_size.ensures.0 ∙ y)),
+      ne_eqb _ 0 (λ y. c.if-size_of-eq0.false (c.size_of.ensures.0 ∙ y)),
       e,
     )

@@ -1,7 +1,5 @@
-use Prim.Native.Nat.{◌≤◌}
 use mathlib.Core.Path.{◌≡◌, refl, sym, ◌∙◌}
 use native.Mathlib.Omega.{arith}
-use Rattle.depot_matches.specs.Images.{origin}
 use Rattle.depot_matches.proofs.TurnLaws.{origin_fetched, origin-moved, origin-start}
 use borrow.Author.Rules.{rules}
 use Rattle.depot_matches.proofs.images.origin.Goals as goal

@@ -2,10 +2,9 @@ use Prim.Native.Nat.{◌+◌, ◌-◌, ◌*◌, ◌/◌}
 use mathlib.Core.Path.{◌≡◌, sym, ◌∙◌}
 use lib.ListN.{length}
 use native.Mathlib.Omega.{arith}
-use borrow.Author.Tests.{le-leb, lt-leb, not-true, not-false}
+use borrow.Author.Tests.{le-leb, lt-leb}
 use Rattle.rules.specs.Slots.{slot_bytes, image_from, answer_bytes, image_at}
 use Rattle.depot_matches.specs.Images.{present_image}
-use borrow.Author.Rules.{rules}
 use Rattle.depot_matches.proofs.images.present_image.Goals as goal
 
 pub returns-then-slots-k : goal.returns-then-slots-k
@@ -16,7 +15,7 @@ returns-then-slots-k c =
 pub returns-then-not-present : goal.returns-then-not-present
 unfolding present_image
 returns-then-not-present c =
-    rw (lt-leb (length c.args.slots.now / slot_bytes) c.args.k c.if-slots-k.false, sym c.present.ensures ∙ not-true _ c.if-not-present.true)
+    rw (lt-leb (length c.args.slots.now / slot_bytes) c.args.k c.if-slots-k.false, sym c.present.ensures ∙ c.if-not-present.true)
 
 pub returns : goal.returns
 unfolding present_image image_at
@@ -25,6 +24,6 @@ returns c =
     let e : at + answer_bytes - at ≡ answer_bytes = omega arith in
     rw (
       lt-leb (length c.args.slots.now / slot_bytes) c.args.k c.if-slots-k.false,
-      sym c.present.ensures ∙ not-false _ c.if-not-present.false,
+      sym c.present.ensures ∙ c.if-not-present.false,
       e,
     )

@@ -1,6 +1,5 @@
 use Rattle.depot_matches.specs.Images.{source_at}
 use Rattle.depot_matches.proofs.TurnLaws.{none_first}
-use borrow.Author.Rules.{rules}
 use Rattle.depot_matches.proofs.images.source_at.Goals as goal
 
 pub returns-then-v-eq0 : goal.returns-then-v-eq0

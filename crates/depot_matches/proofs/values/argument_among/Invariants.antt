@@ -1,14 +1,7 @@
 use Prim.Native.Nat.{◌-◌}
-use mathlib.Core.Path.{sym, ◌∙◌}
-use native.Mathlib.Omega.{arith}
-use Rattle.rules.specs.Bytes.{two_at}
-use Rattle.rules.specs.ProgramFormat.{argument_from}
-use Rattle.rules.specs.ProgramFormat.{record_size as ProgramFormat·recordSize}
 use Rattle.depot_record_lines.specs.Lines.{record_size}
-use Rattle.depot_argument_lines.proofs.ItemLaws.{size_lies}
 use Rattle.depot_matches.specs.Values.{record_is, argument_in}
-use Rattle.depot_matches.proofs.FindLaws.{Seeking, seeking_start, seeking_missing, seeking_found, seeking_more, seeking_end}
-use borrow.Author.Rules.{rules}
+use Rattle.depot_matches.proofs.FindLaws.{Seeking}
 use Rattle.depot_matches.proofs.values.argument_among.Given as goal
 
 abbrev pub invariant-loop-n : goal.invariant-loop-n

@@ -4,7 +4,6 @@ use native.Mathlib.Omega.{arith}
 use Rattle.rules.specs.Bytes.{two_at}
 use Rattle.rules.specs.ProgramFormat.{argument_from, record_size}
 use Rattle.depot_matches.specs.Values.{argument_in}
-use borrow.Author.Rules.{rules}
 use Rattle.depot_matches.proofs.values.argument_in.Goals as goal
 
 pub returns : goal.returns

@@ -3,7 +3,6 @@ use borrow.Author.Tests.{lt-ltb, le-ltb}
 use Rattle.rules.specs.ProgramFormat.{start_size}
 use Rattle.rules.proofs.BytesLaws.{part-rest}
 use Rattle.depot_matches.specs.Values.{argument_of}
-use borrow.Author.Rules.{rules}
 use Rattle.depot_matches.proofs.values.argument_of.Goals as goal
 
 pub returns-then-p-lt-START_BYTES : goal.returns-then-p-lt-START_BYTES

@@ -4,7 +4,6 @@ use lib.ListN.{get_or}
 use native.Mathlib.Omega.{arith}
 use Rattle.rules.specs.ProgramFormat.{entry_length_from, entry_size}
 use Rattle.depot_matches.specs.Values.{entry_in}
-use borrow.Author.Rules.{rules}
 use Rattle.depot_matches.proofs.values.entry_in.Goals as goal
 
 pub returns : goal.returns

@@ -1,6 +1,5 @@
 use borrow.Author.Tests.{eq-eqb, ne_eqb}
 use Rattle.depot_matches.specs.Values.{record_is}
-use borrow.Author.Rules.{rules}
 use Rattle.depot_matches.proofs.values.record_is.Goals as goal
 
 pub returns-then-wide-e : goal.returns-then-wide-e

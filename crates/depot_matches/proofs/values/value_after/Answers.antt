@@ -1,6 +1,5 @@
 use borrow.Author.Tests.{eq-eqb, ne_eqb}
 use Rattle.depot_matches.specs.Values.{value_after}
-use borrow.Author.Rules.{rules}
 use Rattle.depot_matches.proofs.values.value_after.Goals as goal
 
 pub returns-then-e-c : goal.returns-then-e-c

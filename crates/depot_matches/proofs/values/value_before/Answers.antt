@@ -1,7 +1,5 @@
-use Prim.Native.Nat.{◌-◌, ◌≤◌}
 use mathlib.Core.Path.{◌≡◌}
 use native.Mathlib.Omega.{arith}
-use Rattle.depot_matches.specs.Values.{value_before}
 use Rattle.depot_matches.proofs.TurnLaws.{value-start, value-next}
 use borrow.Author.Rules.{rules}
 use Rattle.depot_matches.proofs.values.value_before.Goals as goal

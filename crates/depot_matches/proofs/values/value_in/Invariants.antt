@@ -1,15 +1,8 @@
 use Prim.Native.Nat.{◌-◌}
-use mathlib.Core.Path.{sym, ◌∙◌}
-use lib.ListN.{get_or}
-use native.Mathlib.Omega.{arith}
-use borrow.Author.Tests.{eq-eqb, ne_eqb}
 use Rattle.rules.specs.Limits.{limits}
-use Rattle.rules.specs.ProgramFormat.{entry_length_from, entry_size}
 use Rattle.depot_argument_lines.specs.Arguments.{parameter_size}
-use Rattle.depot_argument_lines.proofs.ItemLaws.{size_lies}
-use Rattle.depot_matches.specs.Values.{key_is, entry_in, value_in}
-use Rattle.depot_matches.proofs.FindLaws.{Seeking, seeking_start, seeking_missing, seeking_found, seeking_more, seeking_end}
-use borrow.Author.Rules.{rules}
+use Rattle.depot_matches.specs.Values.{key_is, entry_in}
+use Rattle.depot_matches.proofs.FindLaws.{Seeking}
 use Rattle.depot_matches.proofs.values.value_in.Given as goal
 
 abbrev pub invariant-loop-n : goal.invariant-loop-n
