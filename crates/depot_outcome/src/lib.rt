@@ -1,4 +1,6 @@
 // What a run did, as text in lent room.
+#![tactic(auto)]
+
 ghost use Rattle.text.specs.Text.{Writes};
 ghost use Rattle.depot_outcome.specs.Outcome.{end_text, counts_text, ran_text, stopped_text, run_text};
 

@@ -1,4 +1,3 @@
-use borrow.Author.Rules.{rules}
 use Rattle.text.proofs.TextLaws.{wrote_then}
 use Rattle.depot_outcome.specs.Outcome.{stopped_text}
 use Rattle.depot_outcome.proofs.put_stopped.Goals as goal
