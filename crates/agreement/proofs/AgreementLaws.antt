@@ -103,7 +103,7 @@ module _ (s : Bytes) (group : Group) (verdict : Bool) (device : Controller) (ans
         translated = rw q at h;
         envelope = ran;
         program = λ n z. apart k p n z;
-        no_program = λ k' p' z. let a : k ≡ k' = cc in let b : p ≡ p' = cc in (rw (← a, ← b) is, refl, refl);
+        no_program_lem = λ k' p' z. let a : k ≡ k' = cc in let b : p ≡ p' = cc in (rw (← a, ← b) is, refl, refl);
         short = λ m c l.
             let z : Translates (refused ShortRoom 0) (Refused k p) room room' = rw (q, (demand_3 s group m c).short (length room) l) at h in
             (z.0, z.1);
@@ -125,7 +125,7 @@ module _ (s : Bytes) (group : Group) (verdict : Bool) (device : Controller) (ans
         translated = rw q at h;
         envelope = ran;
         program = λ n' z. let a : n ≡ n' = cc in rw (← a, ← is) d;
-        no_program = λ k p z. apart k p n (sym z);
+        no_program_lem = λ k p z. apart k p n (sym z);
         short = λ m c l.
             let z : Translates (refused ShortRoom 0) (Program n) room room' = rw (q, (demand_3 s group m c).short (length room) l) at h in
             apart ShortRoom 0 n (sym z.0);

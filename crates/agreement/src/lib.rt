@@ -1,4 +1,6 @@
 // Demand 3 over the jobs: an envelope is translated, its program is run, and the envelope itself is run.
+#![tactic(auto)]
+
 ghost use Rattle.agreement.specs.Agreement.{Agrees};
 
 use program_run::run_program;
