@@ -1,5 +1,7 @@
 // The five jobs and the program test as C has them: numbers, slices, and structs by value (pitvorgas_answers); pitvorgas_c exports each under
 // its name. The promises give refusals and ends by their numbers in document 01 (rules/specs/Answers.antt: refusal_number, end_number).
+#![tactic(auto)]
+
 ghost use Rattle.std.specs.Prelude.{◌≡◌, length};
 ghost use Rattle.rules.specs.Got.{accepted};
 ghost use Rattle.rules.specs.Check as Check;

@@ -1,4 +1,3 @@
-use borrow.Author.Rules.{rules}
 use Rattle.rules.specs.Check.{check}
 use Rattle.pitvorgas.proofs.AnswerLaws.{checked-answer}
 use Rattle.pitvorgas.proofs.pitvorgas_check.Goals as goal

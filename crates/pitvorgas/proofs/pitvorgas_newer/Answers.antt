@@ -1,4 +1,3 @@
-use borrow.Author.Rules.{rules}
 use Rattle.rules.specs.Newer.{newer}
 use Rattle.pitvorgas.proofs.AnswerLaws.{newer-answer}
 use Rattle.pitvorgas.proofs.pitvorgas_newer.Goals as goal

@@ -2,7 +2,6 @@ use Rattle.rules.specs.Run.{run_envelope}
 use Rattle.run_ending.specs.Answer.{input_of}
 use Rattle.pitvorgas_answers.specs.Inputs.{controller_of, group_of}
 use Rattle.pitvorgas.proofs.AnswerLaws.{ran-answer}
-use borrow.Author.Rules.{rules}
 use Rattle.pitvorgas.proofs.pitvorgas_run.Goals as goal
 
 pub returns : goal.returns

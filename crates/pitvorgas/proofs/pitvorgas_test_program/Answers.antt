@@ -1,4 +1,3 @@
-use borrow.Author.Rules.{rules}
 use Rattle.rules.specs.ProgramTest.{program_in}
 use Rattle.pitvorgas.proofs.AnswerLaws.{tested-answer}
 use Rattle.pitvorgas.proofs.pitvorgas_test_program.Goals as goal

@@ -2,7 +2,6 @@ use lib.ListN.{length}
 use Rattle.rules.specs.Program.{translate}
 use Rattle.pitvorgas_answers.specs.Inputs.{group_of}
 use Rattle.pitvorgas.proofs.AnswerLaws.{refused_translation, program_translation}
-use borrow.Author.Rules.{rules}
 use Rattle.pitvorgas.proofs.pitvorgas_translate.Goals as goal
 
 pub returns-in-Refused : goal.returns-in-Refused
