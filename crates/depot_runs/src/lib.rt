@@ -1,4 +1,6 @@
 // What the depot tool runs on a described device, and what the run is given.
+#![tactic(auto)]
+
 ghost use Rattle.std.specs.Prelude.{◌≡◌};
 ghost use Rattle.pitvorgas.specs.Answers.{given, Answers};
 ghost use Rattle.depot_runs.specs.Ran.{device_of, ran_as};
