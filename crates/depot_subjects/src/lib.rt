@@ -1,4 +1,6 @@
 // What a run is about, read from the envelope or program: all 0 where that is refused.
+#![tactic(auto)]
+
 ghost use Rattle.std.specs.Prelude.{◌≡◌};
 ghost use Rattle.rules.specs.Check.{check};
 ghost use Rattle.rules.specs.ProgramTest.{program_in};

@@ -1,5 +1,4 @@
 use mathlib.Core.Path.{ap}
-use borrow.Author.Rules.{rules}
 use Rattle.depot_subjects.specs.Subject.{of_checked}
 use Rattle.depot_subjects.proofs.of_envelope.Goals as goal
 

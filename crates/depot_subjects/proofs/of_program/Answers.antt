@@ -1,4 +1,3 @@
-use borrow.Author.Rules.{rules}
 use Rattle.rules.specs.ProgramTest.{program_in}
 use Rattle.depot_subjects.proofs.SubjectLaws.{tested_subject}
 use Rattle.depot_subjects.proofs.of_program.Goals as goal

@@ -1,4 +1,3 @@
-use borrow.Author.Rules.{rules}
 use Rattle.depot_subjects.proofs.subject_of.Goals as goal
 
 pub returns-in-Install : goal.returns-in-Install
