@@ -1,4 +1,6 @@
 // A case of the conformance program: a job with its input in a compact form, done, and its answer as a line of text.
+#![tactic(auto)]
+
 ghost use Rattle.std.specs.Prelude.{◌≡◌, ◌<◌, length};
 ghost use Rattle.text.specs.Text.{Writes};
 ghost use Rattle.conformance_cases.specs.Fields.{run_head};

@@ -1,19 +1,12 @@
 use Rattle.rules.proofs.BytesLaws.{part-rest}
 use borrow.Author.Tests.{eq-eqb, ne_eqb}
 use Rattle.conformance_cases.specs.Cases.{line_of}
-use borrow.Author.Rules.{rules}
 use Rattle.conformance_cases.proofs.answer.Goals as goal
-
-pub put_malformed-requires : goal.put_malformed-requires
-put_malformed-requires c = tt
 
 pub returns-then-case-eq0 : goal.returns-then-case-eq0
 unfolding line_of
 returns-then-case-eq0 c =
     rw (eq-eqb _ _ c.if-case-eq0.true) c.put_malformed.ensures
-
-pub job_line-requires : goal.job_line-requires
-job_line-requires c = tt
 
 pub returns : goal.returns
 unfolding line_of

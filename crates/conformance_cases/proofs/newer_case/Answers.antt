@@ -1,14 +1,7 @@
 use borrow.Author.Tests.{eq-eqb, ne_eqb}
 use Rattle.conformance_cases.specs.Cases.{newer_case}
 use Rattle.rules.proofs.BytesLaws.{part-rest}
-use borrow.Author.Rules.{rules}
 use Rattle.conformance_cases.proofs.newer_case.Goals as goal
-
-pub string_end-end-requires : goal.string_end-end-requires
-string_end-end-requires c = tt
-
-pub put_malformed-requires : goal.put_malformed-requires
-put_malformed-requires c = tt
 
 pub returns-then-end-eq0 : goal.returns-then-end-eq0
 unfolding newer_case
@@ -22,9 +15,6 @@ slice_bounds-newer_line-count c =
 pub slice_bounds-newer_line-start : goal.slice_bounds-newer_line-start
 slice_bounds-newer_line-start c =
     c.string_end-end.ensures.whole c.if-end-eq0.false
-
-pub newer_line-requires : goal.newer_line-requires
-newer_line-requires c = tt
 
 pub returns : goal.returns
 unfolding newer_case

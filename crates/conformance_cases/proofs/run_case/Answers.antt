@@ -4,11 +4,7 @@ use mathlib.Core.Path.{sym}
 use lib.Seq.{length-take-le}
 use borrow.Author.Tests.{lt-ltb, le-ltb}
 use Rattle.conformance_cases.specs.Cases.{run_case}
-use borrow.Author.Rules.{rules}
 use Rattle.conformance_cases.proofs.run_case.Goals as goal
-
-pub put_malformed-requires : goal.put_malformed-requires
-put_malformed-requires c = tt
 
 pub returns-then-b-lt-RUN_HEAD : goal.returns-then-b-lt-RUN_HEAD
 unfolding run_case

@@ -1,14 +1,7 @@
 use borrow.Author.Tests.{eq-eqb, ne_eqb}
 use Rattle.conformance_cases.specs.Cases.{run_slots}
 use Rattle.rules.proofs.BytesLaws.{part-rest}
-use borrow.Author.Rules.{rules}
 use Rattle.conformance_cases.proofs.run_slots.Goals as goal
-
-pub string_end-end-requires : goal.string_end-end-requires
-string_end-end-requires c = tt
-
-pub put_malformed-requires : goal.put_malformed-requires
-put_malformed-requires c = tt
 
 pub returns-then-end-eq0 : goal.returns-then-end-eq0
 unfolding run_slots

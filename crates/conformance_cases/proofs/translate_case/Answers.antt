@@ -1,11 +1,7 @@
 use Rattle.rules.proofs.BytesLaws.{part-rest}
 use borrow.Author.Tests.{lt-ltb, le-ltb}
 use Rattle.conformance_cases.specs.Cases.{translate_case}
-use borrow.Author.Rules.{rules}
 use Rattle.conformance_cases.proofs.translate_case.Goals as goal
-
-pub put_malformed-requires : goal.put_malformed-requires
-put_malformed-requires c = tt
 
 pub returns-then-b-lt-TRANSLATE_HEAD : goal.returns-then-b-lt-TRANSLATE_HEAD
 unfolding translate_case

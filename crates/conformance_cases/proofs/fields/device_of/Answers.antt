@@ -1,5 +1,4 @@
 use Rattle.conformance_cases.specs.Fields.{device_of}
-use borrow.Author.Rules.{rules}
 use Rattle.conformance_cases.proofs.fields.device_of.Goals as goal
 
 pub returns : goal.returns

@@ -1,9 +1,7 @@
-use Prim.Native.Nat.{◌-◌, ◌≤◌}
 use mathlib.Core.Path.{◌≡◌, refl, ◌∙◌}
 use native.Mathlib.Omega.{arith}
-use lib.ListN.{length}
 use Rattle.rules.specs.Limits.{limits}
-use Rattle.byte_buffer.proofs.ByteLoops.{copied, copy_start, copy-next, copy-end}
+use Rattle.byte_buffer.proofs.ByteLoops.{copy_start, copy-next, copy-end}
 use Rattle.conformance_cases.proofs.fields.sixteen.Goals as goal
 
 pub loop-k-init : goal.loop-k-init

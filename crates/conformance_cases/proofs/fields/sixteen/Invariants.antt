@@ -1,9 +1,8 @@
 use Prim.Native.Nat.{◌-◌, ◌≤◌}
-use mathlib.Core.Path.{◌≡◌, refl, ◌∙◌}
-use native.Mathlib.Omega.{arith}
+use mathlib.Core.Path.{◌≡◌}
 use lib.ListN.{length}
 use Rattle.rules.specs.Limits.{limits}
-use Rattle.byte_buffer.proofs.ByteLoops.{copied, copy_start, copy-next, copy-end}
+use Rattle.byte_buffer.proofs.ByteLoops.{copied}
 use Rattle.conformance_cases.proofs.fields.sixteen.Given as goal
 
 abbrev pub invariant-loop-k : goal.invariant-loop-k

@@ -2,7 +2,6 @@ use mathlib.Core.Path.{refl}
 use native.Mathlib.Omega.{arith}
 use borrow.Author.Tests.{lt-ltb, le-ltb}
 use Rattle.conformance_cases.specs.Fields.{string_end}
-use borrow.Author.Rules.{rules}
 use Rattle.conformance_cases.proofs.fields.string_end.Goals as goal
 
 pub returns-then-b-lt2 : goal.returns-then-b-lt2

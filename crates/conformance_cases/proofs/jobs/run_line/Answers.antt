@@ -3,14 +3,7 @@ use native.Mathlib.Omega.{arith}
 use lib.ListN.{length}
 use lib.Seq.{length-take-le}
 use Rattle.conformance_cases.specs.Cases.{run_line}
-use borrow.Author.Rules.{rules}
 use Rattle.conformance_cases.proofs.jobs.run_line.Goals as goal
-
-pub memory-slots-requires : goal.memory-slots-requires
-memory-slots-requires c = tt
-
-pub memory-trace-requires : goal.memory-trace-requires
-memory-trace-requires c = tt
 
 pub slice_bounds-run_with-end : goal.slice_bounds-run_with-end
 slice_bounds-run_with-end c =

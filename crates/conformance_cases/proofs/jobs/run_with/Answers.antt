@@ -7,22 +7,12 @@ use lib.ListN.{length, drop_of_length-le}
 use lib.Seq.{sets-eq}
 use Rattle.rules.specs.Bytes.{Bytes}
 use Rattle.text.specs.Text.{Wrote}
-use borrow.Author.Rules.{rules}
 use Rattle.conformance_cases.proofs.jobs.run_with.Goals as goal
 
 -- bytes that were written over all of a room
 wrote-whole : {b : Bytes} {room : Bytes} {r : ℕ} {room' : Bytes} → length room ≡ length b → Wrote b 0 room r room' → room' ≡ b
 wrote-whole {b} {room} e w =
     w.filled ∙ sets-eq b room 0 (omega arith) ∙ rw (zero-add (length b), drop_of_length-le room {i = length b} (omega arith)) (append-nil b)
-
-pub put-requires : goal.put-requires
-put-requires c = tt
-
-pub fill-requires : goal.fill-requires
-fill-requires c = tt
-
-pub put_run-requires : goal.put_run-requires
-put_run-requires c = tt
 
 pub returns : goal.returns
 returns c =

@@ -1,17 +1,7 @@
 use Prim.Native.Nat.{ℕ}
 use lib.ListN.{length, length-replicate}
 use Rattle.conformance_cases.specs.Cases.{translate_line}
-use borrow.Author.Rules.{rules}
 use Rattle.conformance_cases.proofs.jobs.translate_into.Goals as goal
-
-pub fill-requires : goal.fill-requires
-fill-requires c = tt
-
-pub pitvorgas_translate-answer-requires : goal.pitvorgas_translate-answer-requires
-pitvorgas_translate-answer-requires c = tt
-
-pub put_translation-requires : goal.put_translation-requires
-put_translation-requires c = tt
 
 pub returns : goal.returns
 unfolding translate_line
