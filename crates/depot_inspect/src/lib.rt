@@ -1,4 +1,6 @@
 // What is printed of envelopes and programs, by the jobs' answers, and its status.
+#![tactic(auto)]
+
 ghost use Rattle.std.specs.Prelude.{◌≡◌};
 ghost use Rattle.text.specs.Text.{Writes};
 ghost use Rattle.depot_inspect.specs.Printed.{check_text, shown_text, newest_text, listed_text, view_text};

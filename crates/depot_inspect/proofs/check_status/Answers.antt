@@ -1,5 +1,4 @@
 use mathlib.Core.Path.{◌∙◌, ap}
-use borrow.Author.Rules.{rules}
 use Rattle.pitvorgas_answers.specs.declared.CheckAnswer.{CheckAnswer}
 use Rattle.depot_status.specs.Status.{refusal_status}
 use Rattle.depot_inspect.proofs.check_status.Goals as goal

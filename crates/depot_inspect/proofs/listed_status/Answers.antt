@@ -1,5 +1,4 @@
 use mathlib.Core.Path.{◌∙◌, sym}
-use borrow.Author.Rules.{rules}
 use Rattle.depot_inspect.specs.Printed.{listed_status}
 use Rattle.depot_inspect.proofs.listed_status.Goals as goal
 

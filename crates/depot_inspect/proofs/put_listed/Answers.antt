@@ -1,4 +1,3 @@
-use borrow.Author.Rules.{rules}
 use Rattle.text.proofs.TextLaws.{wrote_then}
 use Rattle.depot_inspect.proofs.PrintedLaws.{printed, listed-program, listed-refused}
 use Rattle.depot_inspect.proofs.put_listed.Goals as goal

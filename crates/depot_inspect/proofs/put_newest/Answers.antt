@@ -1,4 +1,3 @@
-use borrow.Author.Rules.{rules}
 use Rattle.depot_inspect.proofs.PrintedLaws.{printed, newest-first, newest_second}
 use Rattle.depot_inspect.proofs.put_newest.Goals as goal
 

@@ -1,4 +1,3 @@
-use borrow.Author.Rules.{rules}
 use Rattle.depot_inspect.proofs.PrintedLaws.{printed, shown-refused, shown_parts}
 use Rattle.depot_inspect.proofs.put_shown.Goals as goal
 

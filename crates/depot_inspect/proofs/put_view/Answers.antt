@@ -1,4 +1,3 @@
-use borrow.Author.Rules.{rules}
 use Rattle.depot_inspect.specs.Printed.{view_text}
 use Rattle.depot_inspect.proofs.put_view.Goals as goal
 

@@ -1,4 +1,3 @@
-use borrow.Author.Rules.{rules}
 use Rattle.depot_inspect.specs.Printed.{view_status}
 use Rattle.depot_inspect.proofs.view_status.Goals as goal
 
