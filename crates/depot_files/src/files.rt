@@ -29,8 +29,16 @@ pub fn is_standard(name: &[u8]) -> bool
     is(name, b"-")
 }
 
+// The bytes of the longest name that the system takes, with the one that ends it, and its number for a longer one.
+const PATH_BYTES: usize = 4096;
+
+const LONG_NAME: i32 = 36;
+
 // A name as text, which std takes the names of files to be.
 fn path_of(name: &[u8]) -> io::Result<&str> {
+    if name.len() >= PATH_BYTES {
+        return Err(Error::from_raw_os_error(LONG_NAME));
+    }
     match str::from_utf8(name) {
         Ok(path) => Ok(path),
         Err(_) => Err(Error::from(ErrorKind::InvalidInput)),
