@@ -1,4 +1,3 @@
-pub mod GoodSlot
 pub mod ImageLaws
 pub mod NumbersLaws
 pub mod ParamsLaws

@@ -1,4 +1,6 @@
 // The image of a slot: present, size and digest, laid out as an answer of the host.
+#![tactic(auto, using(crate::proofs::ImageLaws::put_mid_sets), unfolding(rules::specs::Slots::image_at, rules::specs::Slots::put_image))]
+
 ghost use Rattle.std.specs.Prelude.{◌≡◌, ◌+◌, ◌≤◌, length};
 ghost use Rattle.rules.specs.Bytes.{part};
 ghost use Rattle.rules.specs.Slots.{answer_bytes, image_at, put_image};
@@ -12,11 +14,7 @@ pub fn take(b: &[u8], at: usize) -> Image
     ensures { result ≡ part b.now at answer_bytes }
 {
     let mut image = [0u8; IMAGE_BYTES];
-    let mut k = 0;
-    while k < IMAGE_BYTES {
-        image[k] = b[at + k];
-        k += 1;
-    }
+    image.copy_from_slice(&b[at..at + IMAGE_BYTES]);
     image
 }
 
@@ -33,9 +31,5 @@ pub fn put_image(slots: &mut [u8], k: usize, image: Image)
     ensures { slots.new ≡ put_image slots.old k image }
 {
     let at = SLOT_BYTES * k + IMAGE;
-    let mut i = 0;
-    while i < IMAGE_BYTES {
-        slots[at + i] = image[i];
-        i += 1;
-    }
+    slots[at..at + IMAGE_BYTES].copy_from_slice(&image);
 }

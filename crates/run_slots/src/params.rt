@@ -45,10 +45,7 @@ pub fn store(memory: &mut [usize], i: usize, p: Params)
 pub fn either(test: usize, x: usize, y: usize) -> usize
     ensures { result ≡ cond (eqb test 0) y x }
 {
-    if test == 0 {
-        return y;
-    }
-    x
+    if test == 0 { y } else { x }
 }
 
 // Those of a, and those of b that a leaves unset.

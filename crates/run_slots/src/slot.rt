@@ -1,4 +1,6 @@
 // The fields of a slot.
+#![tactic(auto, using(rules::proofs::BytesLaws::num_4), unfolding(rules::specs::Slots::slot_at))]
+
 ghost use Rattle.std.specs.Prelude.{◌≡◌};
 ghost use Rattle.rules.specs.Slots.{slot_at, good_slot};
 ghost use Rattle.run_slots.specs.Slot.{Holds};
@@ -34,14 +36,7 @@ pub fn good_slot(slots: &[u8], k: usize) -> bool
     ensures { result ≡ good_slot (slot_at slots.now k) }
 {
     let length = slots[SLOT_BYTES * k] as usize;
-    if length < 1 {
-        return false;
-    }
-    if Controller::IDENTIFIER_BYTES < length {
-        return false;
-    }
-    if present(slots, k) {
-        return size(slots, k) <= capacity(slots, k);
-    }
-    true
+    1 <= length
+        && length <= Controller::IDENTIFIER_BYTES
+        && (!present(slots, k) || size(slots, k) <= capacity(slots, k))
 }
