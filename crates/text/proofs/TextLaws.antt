@@ -5,10 +5,14 @@ use mathlib.Core.List.{[], ◌∷◌, ◌++◌}
 use mathlib.Core.Bool.{Bool, true, false}
 use lib.Dec.{leb}
 use borrow.Author.Tests.{leb-true, leb-false, eq-eqb, ne_eqb}
+use Rattle.std.specs.Prelude.{Option, Some, None, MatchOption, HoldsAt, ◌≢◌}
+use Rattle.std.specs.List.{AllWithin}
+use Rattle.std.specs.Option.{unwrap_or}
+use Rattle.std.proofs.lemmas.Iterator.{index_from_first}
 use native.Mathlib.Omega.{arith}
 use native.Mathlib.Numerals.{add-one}
-use lib.ListN.{length, take, drop, get_or, length-append, replicate, drop_of_length-le}
-use lib.Seq.{sets, set_out, length-sets, take-suc, take_all, drop-cons}
+use lib.ListN.{length, take, get_or, length-append, replicate}
+use lib.Seq.{sets, set_out, length-sets, take-suc, take_all}
 use Rattle.rules.proofs.BytesLaws.{put-append}
 use Rattle.text.specs.Text.{Bytes, Wrote, least, position}
 
@@ -81,15 +85,14 @@ wrote-again x n f g = rw (add-one n, ← more x n) (wrote_then f g)
     more x zero = refl
     more x (suc n) = ap (λ (l : Bytes). x ∷ l) (more x n)
 
-module _ (s : Bytes) (i n : ℕ) where
-  pub position_here : i < length s → get_or s i 0 ≡ n → position n s ≡ i + position n (drop i s) → i ≡ position n s
-  unfolding position
-  position_here h e q = sym (q ∙ (rw (drop-cons s i 0 h, eq-eqb (get_or s i 0) n e) (omega arith)))
-
-  pub position-next : i < length s → (get_or s i 0 ≡ n → ⊥) → position n s ≡ i + position n (drop i s) → position n s ≡ i + 1 + position n (drop (i + 1) s)
-  unfolding position
-  position-next h e q = q ∙ (rw (drop-cons s i 0 h, ne_eqb (get_or s i 0) n e, add-one i) (omega arith))
-
-  pub position-none : length s ≤ i → position n s ≡ i + position n (drop i s) → i ≡ position n s
-  unfolding position
-  position-none h q = sym (q ∙ (rw (drop_of_length-le s h) (omega arith)))
+-- what `position` followed by `unwrap_or` gives
+pub position_is : (n : ℕ) (s : Bytes) (r : Option ℕ) →
+    MatchOption r (AllWithin (λ b. b ≢ n) s 0 (length s)) (λ i. (i < length s) × HoldsAt (λ b. b ≡ n) s i × AllWithin (λ b. b ≢ n) s 0 i) →
+    (unwrap_or r (length s) ≡ position n s) × (unwrap_or r (length s) ≤ length s)
+unfolding position
+position_is n s r h = (sym (index_from_first (position n) (λ b. b ≡ n) (λ b. b ≢ n) refl (λ x xs e. rw (eq-eqb x n e)) (λ x xs e. rw (ne_eqb x n e, add-one (position n xs))) s r h), within r h)
+  where
+    within : (r : Option ℕ) → MatchOption r (AllWithin (λ b. b ≢ n) s 0 (length s)) (λ i. (i < length s) × HoldsAt (λ b. b ≡ n) s i × AllWithin (λ b. b ≢ n) s 0 i) →
+        unwrap_or r (length s) ≤ length s
+    within None h = omega arith
+    within (Some i) h = omega (arith, h.0)

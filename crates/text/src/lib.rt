@@ -11,28 +11,22 @@ const QUOTE: u8 = 34;
 
 const POINT: u8 = 46;
 
+const TILDE: u8 = 126;
+
 // The lesser of two numbers, for what is shown of a count.
 pub fn least(a: usize, b: usize) -> usize
     ensures { result ≡ Text·least a b }
 {
-    if a < b {
-        return a;
-    }
-    b
+    a.min(b)
 }
 
 // The first place of a number, or the length.
 pub fn position(s: &[u8], n: usize) -> usize
     ensures { (result ≡ Text·position n s.now) × (result ≤ length s.now) }
 {
-    let mut i = 0;
-    while i < s.len() {
-        if s[i] as usize == n {
-            return i;
-        }
-        i += 1;
-    }
-    i
+    s.iter()
+        .position(|b| usize::from(*b) == n)
+        .unwrap_or(s.len())
 }
 
 pub fn put_byte(room: &mut [u8], at: usize, b: u8) -> usize
@@ -49,10 +43,8 @@ pub fn put(room: &mut [u8], at: usize, s: &[u8]) -> usize
     ensures { Writes s.now at room result }
 {
     let mut to = at;
-    let mut i = 0;
-    while i < s.len() {
-        to = put_byte(room, to, s[i]);
-        i += 1;
+    for b in s {
+        to = put_byte(room, to, *b);
     }
     to
 }
@@ -62,10 +54,8 @@ pub fn put_times(room: &mut [u8], at: usize, b: u8, n: usize) -> usize
     ensures { Writes (replicate n b) at room result }
 {
     let mut to = at;
-    let mut i = 0;
-    while i < n {
+    for _ in 0..n {
         to = put_byte(room, to, b);
-        i += 1;
     }
     to
 }
@@ -79,23 +69,15 @@ pub fn put_spaces(room: &mut [u8], at: usize, n: usize) -> usize
 fn printable(b: u8) -> u8
     ensures { result ≡ Text·printable b }
 {
-    if b < 32 {
-        return POINT;
-    }
-    if 126 < b {
-        return POINT;
-    }
-    b
+    if b < SPACE || TILDE < b { POINT } else { b }
 }
 
 fn put_printed(room: &mut [u8], at: usize, s: &[u8]) -> usize
     ensures { Writes (map Text·printable s.now) at room result }
 {
     let mut to = at;
-    let mut i = 0;
-    while i < s.len() {
-        to = put_byte(room, to, printable(s[i]));
-        i += 1;
+    for b in s {
+        to = put_byte(room, to, printable(*b));
     }
     to
 }

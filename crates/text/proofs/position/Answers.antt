@@ -1,21 +1,11 @@
-use native.Mathlib.Omega.{arith}
-use borrow.Author.Rules.{rules}
-use Rattle.text.proofs.TextLaws.{position_here, position-next, position-none}
+use Rattle.std.proofs.Common.{rules, ◌≡◌, ◌≢◌}
+use borrow.Author.Tests.{tests}
+use Rattle.std.proofs.lemmas.Iterator.{IsFirst-from_position, YieldsList-from_slice}
+use Rattle.text.proofs.TextLaws.{position_is}
 use Rattle.text.proofs.position.Goals as goal
 
-pub loop-i-init : goal.loop-i-init
-loop-i-init c = (search rules, omega arith)
-
-pub overflow_cast-s : goal.overflow_cast-s
-overflow_cast-s c = omega (arith, c.shared_slice_known-1.given c.loop-i.i)
-
-pub returns-then-s-i : goal.returns-then-s-i
-returns-then-s-i c =
-    (position_here _ c.loop-i.i _ (search rules) c.if-s-i.true c.loop-i.invariant.1, c.loop-i.invariant.0)
-
-pub loop-i-preserved : goal.loop-i-preserved
-loop-i-preserved c =
-    (search rules, position-next _ c.loop-i.i _ (search rules) c.if-s-i.false c.loop-i.invariant.1)
-
 pub returns : goal.returns
-returns c = (position-none _ c.loop-i.i _ (search rules) c.loop-i.invariant.1, c.loop-i.invariant.0)
+returns c =
+    rw c.unwrap_or.ensures
+    (position_is c.args.n c.args.s.now c.position.result
+    (IsFirst-from_position _ _ _ (λ b. b ≡ c.args.n) (λ b. b ≢ c.args.n) c.position.ensures.ran (YieldsList-from_slice c.args.s.now cc) (λ x q k. search (rules, tests)) (λ x q k. search (rules, tests))))
