@@ -11,7 +11,7 @@ use Rattle.rules.specs.declared.tables.Argument.TheVariants.{Sixteen, Nil, Index
 use Rattle.rules.specs.declared.tables.Parameter.{Parameter}
 use Rattle.rules.specs.declared.tables.Parameter.TheVariants.{Coerce, Uri, Source, Digest, Size}
 use Rattle.rules.specs.declared.answers.Refusal.TheVariants.{Malformed, NoSuchComponent, UnknownParameter}
-use Rattle.rules.specs.declared.tables.Known.TheVariants as K
+use Rattle.std.specs.Prelude.{Some, None}
 use Rattle.rules.specs.Tables.{known}
 use Rattle.rules.specs.Limits.{limits}
 use Rattle.rules.specs.Bytes.{Bytes}
@@ -79,11 +79,11 @@ unfolding parameter
 index_stop s n e at r x = rw x.was x.is
 
 -- what a look-up of a parameter found
-pub known_some : (o : Option Parameter) (p : Parameter) → known o ≡ K.Parameter p → o ≡ some p
+pub known_some : (o : Option Parameter) (p : Parameter) → known o ≡ Some p → o ≡ some p
 known_some none p e = let z : ◌≡◌ {A = ℕ} 0 1 = cc in absurd (omega arith)
 known_some (some q) p e = let f : q ≡ p = cc in ap some f
 
-pub known-none : (o : Option Parameter) → known o ≡ K.Unknown → o ≡ none
+pub known-none : (o : Option Parameter) → known o ≡ None → o ≡ none
 known-none none e = refl
 known-none (some q) e = let z : ◌≡◌ {A = ℕ} 0 1 = cc in absurd (omega arith)
 

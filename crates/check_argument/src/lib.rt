@@ -13,7 +13,7 @@ ghost use Rattle.check_argument.specs.Argument.{argument_start};
 use cbor_reading::{Reading, item, nil, one_of, refuse};
 use rules::answers::Refusal;
 use rules::controller::Controller;
-use rules::tables::{Argument, Known, Parameter};
+use rules::tables::{Argument, Parameter};
 use rules_lookup::look_up_parameter;
 use rules_tables::Table;
 
@@ -112,7 +112,7 @@ fn entries(
         if name < low {
             return refuse(Refusal::Malformed, p);
         }
-        let Known::Parameter(what) = look_up_parameter(table, name) else {
+        let Some(what) = look_up_parameter(table, name) else {
             return refuse(Refusal::UnknownParameter, p);
         };
         let v = parameter(s, components, what, end, key.at);

@@ -8,7 +8,7 @@ use lib.Dec.{leb, eqb}
 use borrow.Author.Tests.{lt-leb, le-leb, leb-true}
 use Rattle.rules.specs.declared.answers.Refusal.TheVariants.{UnknownCommand, NotAllowed, TooManyCommands}
 use Rattle.rules.specs.declared.tables.Command.{Command}
-use Rattle.rules.specs.declared.tables.Listed.TheVariants as L
+use Rattle.std.specs.Prelude.{Some, None}
 use Rattle.rules.specs.Limits.{limits}
 use Rattle.rules.specs.Bytes.{Bytes}
 use Rattle.rules.specs.Got.{got, found}
@@ -32,11 +32,11 @@ module _ (s : Bytes) (n section wt m e at : ℕ) where
   start_stop r x = rw x.was x.is
 
   module _ (code p : ℕ) (q : number s e at ≡ got (code, p)) where
-    pub start_unknown : listed (row_of code commands) ≡ L.Unlisted → fault UnknownCommand at ≡ reading (λ k. k) (command_start s n section wt m e at)
+    pub start_unknown : listed (row_of code commands) ≡ None → fault UnknownCommand at ≡ reading (λ k. k) (command_start s n section wt m e at)
     unfolding command_start
     start_unknown u = rw (q, listed-none (row_of code commands) u)
 
-    module _ (c : Command) (u : listed (row_of code commands) ≡ L.Command c) (is : Section section) where
+    module _ (c : Command) (u : listed (row_of code commands) ≡ Some c) (is : Section section) where
       allowed : (r : Row) → row_of code commands ≡ some r → as_command r ≡ c → is_allowed section r.allowed ≡ eqb (c.sections / weight_of section % 2) 1
       allowed r f g = allowed_bit code section r f is ∙ ap (λ (x : Command). eqb (x.sections / weight_of section % 2) 1) g
 

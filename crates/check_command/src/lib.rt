@@ -12,7 +12,6 @@ use check_argument::{number, read_argument};
 use rules::answers::Refusal;
 use rules::codes;
 use rules::controller::Controller;
-use rules::tables::Listed;
 use rules_lookup::look_up;
 use rules_tables::Table;
 
@@ -51,7 +50,7 @@ pub fn open_command(
     if refusal != 0 {
         return c;
     }
-    let Listed::Command(row) = look_up(table, c.value) else {
+    let Some(row) = look_up(table, c.value) else {
         return refuse(Refusal::UnknownCommand, at);
     };
     let sections = row.sections;

@@ -1,7 +1,5 @@
 -- The value of a parameter in a program, as text.
-use Rattle.std.specs.Prelude.{ℕ, cond, eqb, length, get_or}
-use Rattle.rules.specs.declared.tables.Known.{Known}
-use Rattle.rules.specs.declared.tables.Known.TheVariants as K
+use Rattle.std.specs.Prelude.{ℕ, cond, eqb, length, get_or, Option, Some, None}
 use Rattle.rules.specs.declared.tables.Parameter.{Parameter}
 use Rattle.rules.specs.declared.tables.Parameter.TheVariants as P
 use Rattle.rules.specs.Bytes.{four_at}
@@ -22,9 +20,9 @@ known_text P.Source v = number_text v
 known_text P.Digest v = hex v
 known_text P.Size v = number_text v
 
-abbrev pub value_in : Known → Bytes → Bytes
-value_in (K.Parameter p) v = known_text p v
-value_in K.Unknown v = number_text v
+abbrev pub value_in : Option Parameter → Bytes → Bytes
+value_in (Some p) v = known_text p v
+value_in None v = number_text v
 
 unfoldable pub value_text : ℕ → Bytes → Bytes
 value_text key v = value_in (known (param_of key params)) v

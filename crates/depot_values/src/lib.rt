@@ -6,7 +6,7 @@ ghost use Rattle.depot_values.specs.Values.{number_text, known_text, value_text}
 
 use byte_buffer::{four, wide};
 use rules::program_format::{SIZE_BYTES, SOURCE_BYTES};
-use rules::tables::{Known, Parameter};
+use rules::tables::Parameter;
 use rules_lookup::look_up_parameter;
 use rules_tables::tables;
 use text::put_quoted;
@@ -42,7 +42,7 @@ pub fn put_value(room: &mut [u8], at: usize, key: usize, s: &[u8]) -> usize
 {
     let row = look_up_parameter(&tables(), key);
     match row {
-        Known::Parameter(parameter) => put_known(room, at, parameter, s),
-        Known::Unknown => put_number(room, at, s),
+        Some(parameter) => put_known(room, at, parameter, s),
+        None => put_number(room, at, s),
     }
 }

@@ -8,7 +8,7 @@ use native.Mathlib.Omega.{arith}
 use borrow.Author.Tests.{eqb-true}
 use lib.Dec.{eqb}
 use Rattle.rules.specs.declared.tables.Command.{Command}
-use Rattle.rules.specs.declared.tables.Listed.TheVariants as L
+use Rattle.std.specs.Prelude.{Some, None}
 use Rattle.rules.specs.Commands.{all_sections, Row, commands, row_of, among, is_allowed}
 use Rattle.rules.specs.Tables.{weight_of, set_of, as_command, listed}
 use Rattle.rules.proofs.GotLaws.{and-true}
@@ -72,11 +72,11 @@ pub ◌&◌ : {A B : Type 0} → A → B → A × B
 a & b = (a, b)
 
 -- what a look-up answered
-pub listed-some : (o : Option Row) (c : Command) → listed o ≡ L.Command c → (r : Row) × (o ≡ some r) × (as_command r ≡ c)
+pub listed-some : (o : Option Row) (c : Command) → listed o ≡ Some c → (r : Row) × (o ≡ some r) × (as_command r ≡ c)
 listed-some none c e = let z : ◌≡◌ {A = ℕ} 0 1 = cc in absurd (omega arith)
 listed-some (some r) c e = let f : as_command r ≡ c = cc in (r, refl, f)
 
-pub listed-none : (o : Option Row) → listed o ≡ L.Unlisted → o ≡ none
+pub listed-none : (o : Option Row) → listed o ≡ None → o ≡ none
 listed-none none e = refl
 listed-none (some r) e = let z : ◌≡◌ {A = ℕ} 0 1 = cc in absurd (omega arith)
 

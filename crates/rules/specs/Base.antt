@@ -6,6 +6,7 @@ pub use Rattle.rules.specs.declared.answers.End.{End}
 pub use Rattle.rules.specs.declared.answers.End.TheVariants.{Finished, ConditionFailed, Started, Failed}
 pub use Rattle.rules.specs.declared.answers.Failure.{Failure}
 pub use Rattle.rules.specs.declared.answers.Failure.TheVariants.{ParameterUnset, Aborted, NoAnswer, BadStatus, TooLarge, NothingToCopy, NothingToRun}
+pub use Rattle.rules.specs.declared.answers.Fault.{Fault}
 pub use Rattle.rules.specs.declared.answers.Group.{Group}
 pub use Rattle.rules.specs.declared.answers.Group.TheVariants.{Install, Boot}
 pub use Rattle.rules.specs.declared.answers.Refusal.{Refusal}
@@ -17,8 +18,6 @@ pub use Rattle.rules.specs.declared.controller.Limits.{Limits}
 pub use Rattle.rules.specs.declared.tables.Argument.{Argument}
 pub use Rattle.rules.specs.declared.tables.Argument.TheVariants.{Sixteen, Nil, Index, Alternatives, Parameters, Sequence}
 pub use Rattle.rules.specs.declared.tables.Command.{Command}
-pub use Rattle.rules.specs.declared.tables.Known.{Known}
-pub use Rattle.rules.specs.declared.tables.Listed.{Listed}
 pub use Rattle.rules.specs.declared.tables.Parameter.{Parameter}
 pub use Rattle.rules.specs.declared.tables.Parameter.TheVariants.{Coerce, Uri, Source, Digest, Size}
 pub use Rattle.rules.specs.declared.tables.ParameterRow.{ParameterRow}

@@ -2,10 +2,9 @@
 -- 01, The shape of some places: 'constant table of codes, argument kinds and allowed sections, consulted by check, translator and program
 -- test'.
 use Rattle.std.specs.Prelude.{◌+◌, ◌*◌, ◌∷◌, ◌++◌}
+use Rattle.std.specs.Prelude as Rust
 use Rattle.rules.specs.Base.{ℕ, zero, suc, List, [], Bool, true, false, cond, Option, some, none, eqb, Argument, Sixteen, Nil, Index}
-use Rattle.rules.specs.Base.{Alternatives, Parameters, Sequence, Command, Listed, Parameter, Coerce, Uri, Source, Digest, Size, ParameterRow, Known}
-use Rattle.rules.specs.declared.tables.Listed.TheVariants as L
-use Rattle.rules.specs.declared.tables.Known.TheVariants as K
+use Rattle.rules.specs.Base.{Alternatives, Parameters, Sequence, Command, Parameter, Coerce, Uri, Source, Digest, Size, ParameterRow}
 use Rattle.rules.specs.Commands.{Form, sixteen, nil, below, alternatives, parameters, sequence, Allowed, anywhere, only, PAYLOAD_FETCH}
 use Rattle.rules.specs.Commands.{INSTALL, VALIDATE, LOAD, RUN, swap_code, size_key, Row, commands, row_of, ParamRow, params, param_of}
 
@@ -39,14 +38,14 @@ as_command r = record { code = r.number; condition = r.condition; argument = kin
 abbrev pub as_parameter_row : ParamRow → ParameterRow
 as_parameter_row r = record { key = r.number; parameter = r.param }
 
--- what a look-up answers
-abbrev pub listed : Option Row → Listed
-listed none = L.Unlisted
-listed (some r) = L.Command (as_command r)
+-- what a look-up answers, as Rust's option
+abbrev pub listed : Option Row → Rust.Option Command
+listed none = Rust.None
+listed (some r) = Rust.Some (as_command r)
 
-abbrev pub known : Option Parameter → Known
-known none = K.Unknown
-known (some p) = K.Parameter p
+abbrev pub known : Option Parameter → Rust.Option Parameter
+known none = Rust.None
+known (some p) = Rust.Some p
 
 -- an argument and a parameter as numbers, and the way back
 abbrev pub argument_number : Argument → ℕ
@@ -69,25 +68,25 @@ parameter_number Source = 3
 parameter_number Digest = 4
 parameter_number Size = 5
 
-abbrev pub known_at : ℕ → Known
+abbrev pub known_at : ℕ → Rust.Option Parameter
 known_at n =
-    cond (eqb n 1) (K.Parameter Coerce)
-    (cond (eqb n 2) (K.Parameter Uri)
-    (cond (eqb n 3) (K.Parameter Source)
-    (cond (eqb n 4) (K.Parameter Digest) (cond (eqb n 5) (K.Parameter Size) K.Unknown))))
+    cond (eqb n 1) (Rust.Some Coerce)
+    (cond (eqb n 2) (Rust.Some Uri)
+    (cond (eqb n 3) (Rust.Some Source)
+    (cond (eqb n 4) (Rust.Some Digest) (cond (eqb n 5) (Rust.Some Size) Rust.None))))
 
 -- the entries of the table by number: 0 where nothing is listed
 abbrev pub bit_of : Bool → ℕ
 bit_of false = 0
 bit_of true = 1
 
-abbrev pub packed : Listed → ℕ
-packed L.Unlisted = 0
-packed (L.Command c) = bit_of c.condition * 512 + argument_number c.argument * 64 + c.sections
+abbrev pub packed : Rust.Option Command → ℕ
+packed Rust.None = 0
+packed (Rust.Some c) = bit_of c.condition * 512 + argument_number c.argument * 64 + c.sections
 
-abbrev pub packed_parameter : Known → ℕ
-packed_parameter K.Unknown = 0
-packed_parameter (K.Parameter p) = parameter_number p
+abbrev pub packed_parameter : Rust.Option Parameter → ℕ
+packed_parameter Rust.None = 0
+packed_parameter (Rust.Some p) = parameter_number p
 
 -- f of 0, 1, .., n - 1
 abbrev pub values : {A : Type 0} → (ℕ → A) → ℕ → List A

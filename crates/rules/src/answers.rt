@@ -142,6 +142,13 @@ impl Refusal {
     }
 }
 
+// Why an input is refused, and the place of the refusal.
+#[derive(Clone, Copy)]
+pub struct Fault {
+    pub refusal: Refusal,
+    pub at: usize,
+}
+
 // Why a command fails in a way that nothing catches.
 #[derive(Clone, Copy)]
 pub enum Failure {

@@ -21,12 +21,6 @@ pub struct Command {
 }
 
 #[derive(Clone, Copy)]
-pub enum Listed {
-    Command(Command),
-    Unlisted,
-}
-
-#[derive(Clone, Copy)]
 pub enum Parameter {
     Coerce,
     Uri,
@@ -39,10 +33,4 @@ pub enum Parameter {
 pub struct ParameterRow {
     pub key: u8,
     pub parameter: Parameter,
-}
-
-#[derive(Clone, Copy)]
-pub enum Known {
-    Parameter(Parameter),
-    Unknown,
 }

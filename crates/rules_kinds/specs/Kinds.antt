@@ -1,15 +1,14 @@
 -- What stands after the code of a command, by the table.
-use Rattle.std.specs.Prelude.{ℕ, Bool, true, false}
+use Rattle.std.specs.Prelude.{ℕ, Bool, true, false, Option, Some, None}
 use Rattle.rules.specs.declared.tables.Argument.{Argument}
 use Rattle.rules.specs.declared.tables.Argument.TheVariants.{Sixteen, Nil, Index, Alternatives, Parameters, Sequence}
-use Rattle.rules.specs.declared.tables.Listed.{Listed}
-use Rattle.rules.specs.declared.tables.Listed.TheVariants as L
+use Rattle.rules.specs.declared.tables.Command.{Command}
 use Rattle.rules.specs.Commands.{commands, row_of}
 use Rattle.rules.specs.Tables.{listed}
 
-abbrev pub kind_in : Listed → Argument
-kind_in (L.Command c) = c.argument
-kind_in L.Unlisted = Nil
+abbrev pub kind_in : Option Command → Argument
+kind_in (Some c) = c.argument
+kind_in None = Nil
 
 unfoldable pub kind_of : ℕ → Argument
 kind_of code = kind_in (listed (row_of code commands))

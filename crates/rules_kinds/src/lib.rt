@@ -9,7 +9,7 @@ ghost use Rattle.rules_kinds.specs.Kinds.{kind_of, is_sequence, is_alternatives}
 use rules::codes::{
     CLASS, OVERRIDE_PARAMETERS, RUN_SEQUENCE, SET_INDEX, SET_PARAMETERS, TRY_EACH, VENDOR,
 };
-use rules::tables::{Argument, Listed};
+use rules::tables::Argument;
 use rules_lookup::look_up;
 use rules_tables::{Table, tables};
 
@@ -20,8 +20,8 @@ pub fn kind_of(table: &Table, code: usize) -> Argument
 {
     let row = look_up(table, code);
     match row {
-        Listed::Command(command) => command.argument,
-        Listed::Unlisted => Argument::Nil,
+        Some(command) => command.argument,
+        None => Argument::Nil,
     }
 }
 
@@ -32,8 +32,8 @@ pub fn is_condition(table: &Table, code: usize) -> bool
 {
     let row = look_up(table, code);
     match row {
-        Listed::Command(command) => command.condition,
-        Listed::Unlisted => false,
+        Some(command) => command.condition,
+        None => false,
     }
 }
 

@@ -9,8 +9,8 @@ use native.Mathlib.Omega.{arith}
 use borrow.Author.Tests.{ltb-true, ne_eqb}
 use lib.Dec.{eqb, ltb}
 use lib.ListN.{get_or}
-use Rattle.rules.specs.declared.tables.Listed.{Listed}
-use Rattle.rules.specs.declared.tables.Listed.TheVariants as L
+use Rattle.std.specs.Prelude as Rust
+use Rattle.rules.specs.declared.tables.Command.{Command}
 use Rattle.rules.specs.Commands.{Row, commands, row_of, condition_in, ParamRow, params, param_of}
 use Rattle.rules.specs.Tables.{listed, known, argument_at, known_at, values, codes, keys, table_of, by_number}
 use Rattle.rules.proofs.TableLaws.{both}
@@ -30,11 +30,11 @@ unfolding table_of by_number
 entry_at t c e h = rw e (agree (λ k. unpacked (get_or by_number k 0)) (λ k. entry_of (row_of k commands)) codes c refl h)
 
 -- the command of code c, from its entry
-abbrev asked : ℕ → Entry → Listed
-asked c e = L.Command (record { code = c; condition = e.condition; argument = argument_at e.kind; sections = e.sections })
+abbrev asked : ℕ → Entry → Rust.Option Command
+asked c e = Rust.Some (record { code = c; condition = e.condition; argument = argument_at e.kind; sections = e.sections })
 
-abbrev pub told : ℕ → ℕ → Listed
-told c e = cond (eqb e 0) L.Unlisted (asked c (unpacked e))
+abbrev pub told : ℕ → ℕ → Rust.Option Command
+told c e = cond (eqb e 0) Rust.None (asked c (unpacked e))
 
 pub listed_at : (t : List ℕ) (c : ℕ) → t ≡ by_number → c < codes → told c (get_or t c 0) ≡ listed (row_of c commands)
 unfolding table_of by_number
@@ -58,9 +58,9 @@ no_param n (r ∷ rs) c t h =
     rw (ne_eqb c r.number (λ e. omega (arith, ltb-true r.number n b)), param_of) (no_param n rs c bs h)
 
 -- the column of conditions, as a look-up tells it
-abbrev pub condition_told : Listed → Bool
-condition_told (L.Command c) = c.condition
-condition_told L.Unlisted = false
+abbrev pub condition_told : Rust.Option Command → Bool
+condition_told (Rust.Some c) = c.condition
+condition_told Rust.None = false
 
 pub condition-told : (x : Option Row) → condition_told (listed x) ≡ condition_in x
 condition-told none = refl

@@ -6,7 +6,7 @@ ghost use Rattle.rules.specs.Commands.{commands, row_of, params, param_of};
 ghost use Rattle.rules.specs.Tables.{listed, known, argument_at, known_at, codes, by_number};
 ghost use Rattle.rules_lookup.specs.Entry.{unpacked, entry_of};
 
-use rules::tables::{Argument, Command, Known, Listed, Parameter};
+use rules::tables::{Argument, Command, Parameter};
 use rules_tables::{CODES, KEYS, Table, kinds};
 
 fn argument_at(number: u16) -> Argument
@@ -22,16 +22,16 @@ fn argument_at(number: u16) -> Argument
     }
 }
 
-fn known_at(number: u16) -> Known
+fn known_at(number: u16) -> Option<Parameter>
     ensures { result ≡ known_at number }
 {
     match number {
-        1 => Known::Parameter(Parameter::Coerce),
-        2 => Known::Parameter(Parameter::Uri),
-        3 => Known::Parameter(Parameter::Source),
-        4 => Known::Parameter(Parameter::Digest),
-        5 => Known::Parameter(Parameter::Size),
-        _ => Known::Unknown,
+        1 => Some(Parameter::Coerce),
+        2 => Some(Parameter::Uri),
+        3 => Some(Parameter::Source),
+        4 => Some(Parameter::Digest),
+        5 => Some(Parameter::Size),
+        _ => None,
     }
 }
 
@@ -74,18 +74,18 @@ pub fn entry_at(table: &Table, code: usize) -> Entry
     }
 }
 
-pub fn look_up(table: &Table, code: usize) -> Listed
+pub fn look_up(table: &Table, code: usize) -> Option<Command>
     requires { table.now ≡ by_number }
     ensures { result ≡ listed (row_of code commands) }
 {
     if CODES <= code {
-        return Listed::Unlisted;
+        return None;
     }
     let entry = table[code];
     if entry == 0 {
-        return Listed::Unlisted;
+        return None;
     }
-    Listed::Command(Command {
+    Some(Command {
         code: code as u8,
         condition: condition_in(entry),
         argument: argument_at(kind_in(entry)),
@@ -93,12 +93,12 @@ pub fn look_up(table: &Table, code: usize) -> Listed
     })
 }
 
-pub fn look_up_parameter(table: &Table, key: usize) -> Known
+pub fn look_up_parameter(table: &Table, key: usize) -> Option<Parameter>
     requires { table.now ≡ by_number }
     ensures { result ≡ known (param_of key params) }
 {
     if KEYS <= key {
-        return Known::Unknown;
+        return None;
     }
     known_at(table[CODES + key])
 }

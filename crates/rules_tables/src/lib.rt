@@ -1,8 +1,7 @@
 // The tables of commands and parameters, as data: check, the program test and translation take codes and keys from here.
 #![tactic(auto)]
 
-ghost use Rattle.std.specs.Prelude.{◌≡◌, [], map, ◌≤◌, ◌<◌};
-ghost use Rattle.rules.specs.declared.tables.Listed.TheVariants as L;
+ghost use Rattle.std.specs.Prelude.{◌≡◌, [], map, ◌≤◌, ◌<◌, Some};
 ghost use Rattle.rules.specs.Commands.{commands, params};
 ghost use Rattle.rules.specs.Tables.{as_command, as_parameter_row, argument_number, parameter_number, bit_of, packed, table_of, by_number};
 
@@ -164,7 +163,7 @@ fn bit(b: bool) -> u16
 
 // Its entry in the table by number.
 fn pack(row: Command) -> u16
-    ensures { result ≡ packed (L.Command row) }
+    ensures { result ≡ packed (Some row) }
 {
     let argument = row.argument;
     bit(row.condition) * 512 + argument_number(argument) * 64 + row.sections as u16

@@ -34,7 +34,7 @@ returns-then-refusal-ne0-2 c =
     entries-bad _ _ _ _ _ _ _ (pos _ c.loop-left-test.true) _ _
     (number_went _ _ _ _ c.number-key.ensures c.if-refusal-ne0.false)
     (omega (arith, c.if-name-low.false))
-    _ (known_some _ _ (sym c.look_up_parameter.ensures ∙ c.in-Parameter.is))
+    _ (known_some _ _ (sym c.look_up_parameter.ensures ∙ c.in-Some.is))
     _ (reading-stopped (λ g. 0) _ _ c.parameter-v.ensures c.if-refusal-ne0-2.true)
     ∙ sym c.loop-left.invariant
 
@@ -49,7 +49,7 @@ loop-left-preserved c =
     ∙ entries-more _ _ _ _ _ _ _ (pos _ c.loop-left-test.true) _ _
     (number_went _ _ _ _ c.number-key.ensures c.if-refusal-ne0.false)
     (omega (arith, c.if-name-low.false))
-    _ (known_some _ _ (sym c.look_up_parameter.ensures ∙ c.in-Parameter.is))
+    _ (known_some _ _ (sym c.look_up_parameter.ensures ∙ c.in-Some.is))
     v.0 _ v.1
 
 pub returns : goal.returns

@@ -18,7 +18,7 @@ returns-then-not-has_section c =
     c.refuse-then-not-has_section.ensures
     ∙ start_not_allowed _ _ _ _ _ _ _ _ _
     (number_went _ _ _ _ c.number-c.ensures c.if-refusal-ne0.false)
-    _ (sym c.look_up.ensures ∙ c.in-Command.is)
+    _ (sym c.look_up.ensures ∙ c.in-Some.is)
     c.requires.2
     (sym c.has_section.ensures ∙ c.if-not-has_section.true)
 
@@ -27,7 +27,7 @@ returns-then-most-commands c =
     c.refuse-then-most-commands.ensures
     ∙ start_many _ _ _ _ _ _ _ _ _
     (number_went _ _ _ _ c.number-c.ensures c.if-refusal-ne0.false)
-    _ (sym c.look_up.ensures ∙ c.in-Command.is)
+    _ (sym c.look_up.ensures ∙ c.in-Some.is)
     c.requires.2
     (sym c.has_section.ensures ∙ c.if-not-has_section.false) (omega (arith, c.if-most-commands.true))
 
@@ -35,6 +35,6 @@ pub returns : goal.returns
 returns c =
     start-argument _ _ _ _ _ _ _ _ _
     (number_went _ _ _ _ c.number-c.ensures c.if-refusal-ne0.false)
-    _ (sym c.look_up.ensures ∙ c.in-Command.is)
+    _ (sym c.look_up.ensures ∙ c.in-Some.is)
     c.requires.2
     (sym c.has_section.ensures ∙ c.if-not-has_section.false) (omega (arith, c.if-most-commands.false)) _ c.read_argument.ensures

@@ -3,8 +3,8 @@ use Rattle.rules.specs.Commands.{commands, row_of}
 use Rattle.rules_lookup.proofs.LookUpLaws.{condition_told, condition-told}
 use Rattle.rules_kinds.proofs.is_condition.Goals as goal
 
-pub returns-in-Command : goal.returns-in-Command
-returns-in-Command c = ap condition_told (sym c.in-Command.is ∙ c.look_up-row.ensures) ∙ condition-told (row_of c.args.code commands)
+pub returns-in-Some : goal.returns-in-Some
+returns-in-Some c = ap condition_told (sym c.in-Some.is ∙ c.look_up-row.ensures) ∙ condition-told (row_of c.args.code commands)
 
-pub returns-in-Unlisted : goal.returns-in-Unlisted
-returns-in-Unlisted c = ap condition_told (sym c.in-Unlisted.is ∙ c.look_up-row.ensures) ∙ condition-told (row_of c.args.code commands)
+pub returns-in-None : goal.returns-in-None
+returns-in-None c = ap condition_told (sym c.in-None.is ∙ c.look_up-row.ensures) ∙ condition-told (row_of c.args.code commands)

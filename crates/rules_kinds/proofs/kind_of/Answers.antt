@@ -2,10 +2,10 @@ use mathlib.Core.Path.{sym, ap, ◌∙◌}
 use Rattle.rules_kinds.specs.Kinds.{kind_in, kind_of}
 use Rattle.rules_kinds.proofs.kind_of.Goals as goal
 
-pub returns-in-Command : goal.returns-in-Command
+pub returns-in-Some : goal.returns-in-Some
 unfolding kind_of
-returns-in-Command c = ap kind_in (sym c.in-Command.is ∙ c.look_up-row.ensures)
+returns-in-Some c = ap kind_in (sym c.in-Some.is ∙ c.look_up-row.ensures)
 
-pub returns-in-Unlisted : goal.returns-in-Unlisted
+pub returns-in-None : goal.returns-in-None
 unfolding kind_of
-returns-in-Unlisted c = ap kind_in (sym c.in-Unlisted.is ∙ c.look_up-row.ensures)
+returns-in-None c = ap kind_in (sym c.in-None.is ∙ c.look_up-row.ensures)
