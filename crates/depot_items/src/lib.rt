@@ -9,7 +9,8 @@ pub mod line;
 
 use cbor_reader::head_at;
 
-// The kind of no item: no kind of cbor's.
+// The kind of no item: no kind of cbor's. An `Option<Item>` would be no plainer: a walk goes on after an item that is not there, at the end
+// of its container, so each reader would have to say that end in its `None` arm.
 pub const NO_ITEM: usize = 31;
 
 // The kind of an item, its number, the place after its head, and the one after it; of an array or a map, those are one.
@@ -53,17 +54,14 @@ fn whole(e: usize, kind: usize, num: usize, next: usize) -> Item
     requires { next ≤ e }
     ensures { result ≡ held e (record { kind = kind; num = num; next = next }) }
 {
-    if kind == cbor::BYTES {
-        return string(e, kind, num, next);
-    }
-    if kind == cbor::TEXT {
-        return string(e, kind, num, next);
-    }
-    Item {
-        kind,
-        num,
-        next,
-        after: next,
+    match kind {
+        cbor::BYTES | cbor::TEXT => string(e, kind, num, next),
+        _ => Item {
+            kind,
+            num,
+            next,
+            after: next,
+        },
     }
 }
 
@@ -86,9 +84,5 @@ pub fn want(s: &[u8], e: usize, at: usize, kind: usize) -> Item
     ensures { result ≡ item_of s.now e at kind }
 {
     let i = look(s, e, at);
-    let is = i.kind;
-    if is == kind {
-        return i;
-    }
-    nothing(e)
+    if i.kind == kind { i } else { nothing(e) }
 }

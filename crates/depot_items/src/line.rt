@@ -19,10 +19,7 @@ const LEVELS: usize = Controller::DEPTH - 1;
 fn indent(depth: usize) -> usize
     ensures { result ≡ 2 * (limits.depth - 1 - depth) }
 {
-    if LEVELS <= depth {
-        return 0;
-    }
-    2 * (LEVELS - depth)
+    2 * LEVELS.saturating_sub(depth)
 }
 
 pub fn put_margin(room: &mut [u8], at: usize, columns: usize, depth: usize) -> usize
@@ -53,10 +50,7 @@ pub fn put_string(
 ) -> usize
     ensures { Writes (string_text s.now kind from end) at room result }
 {
-    if s.len() < end {
-        return put(room, at, b"?");
-    }
-    if end < from {
+    if s.len() < end || end < from {
         return put(room, at, b"?");
     }
     if kind == cbor::TEXT {
@@ -68,41 +62,27 @@ pub fn put_string(
 fn put_item(room: &mut [u8], at: usize, s: &[u8], i: Item) -> usize
     ensures { Writes (item_text s.now i) at room result }
 {
-    let kind = i.kind;
-    if kind == cbor::NUMBER {
-        return put_decimal(room, at, i.num);
+    match i.kind {
+        cbor::NUMBER => put_decimal(room, at, i.num),
+        cbor::BYTES | cbor::TEXT => put_string(room, at, s, i.kind, i.next, i.after),
+        cbor::FALSE => put(room, at, b"false"),
+        cbor::TRUE => put(room, at, b"true"),
+        _ => put(room, at, b"?"),
     }
-    if kind == cbor::BYTES {
-        return put_string(room, at, s, cbor::BYTES, i.next, i.after);
-    }
-    if kind == cbor::TEXT {
-        return put_string(room, at, s, cbor::TEXT, i.next, i.after);
-    }
-    if kind == cbor::FALSE {
-        return put(room, at, b"false");
-    }
-    if kind == cbor::TRUE {
-        return put(room, at, b"true");
-    }
-    put(room, at, b"?")
 }
 
 // An argument on its command's line.
 pub fn put_argument(room: &mut [u8], at: usize, s: &[u8], i: Item) -> usize
     ensures { Writes (argument_text s.now i) at room result }
 {
-    let kind = i.kind;
-    if kind == cbor::NIL {
-        return at;
+    match i.kind {
+        cbor::NIL | cbor::MAP => at,
+        cbor::ARRAY => put_counted(room, at, b", ", i.num, b" alternative"),
+        _ => {
+            let a = put(room, at, b" ");
+            put_item(room, a, s, i)
+        }
     }
-    if kind == cbor::MAP {
-        return at;
-    }
-    if kind == cbor::ARRAY {
-        return put_counted(room, at, b", ", i.num, b" alternative");
-    }
-    let a = put(room, at, b" ");
-    put_item(room, a, s, i)
 }
 
 // The line above alternative `n`.

@@ -1,33 +1,48 @@
-use borrow.Author.Tests.{eq-eqb, ne_eqb}
-use Rattle.depot_items.specs.Line.{item_text}
+use Prim.Native.Nat.{◌<◌, ◌≤◌}
+use lib.Dec.{eqb}
+use mathlib.Core.Bool.{Bool, true, false}
+use mathlib.Core.Path.{◌≡◌, refl}
+use borrow.Author.Tests.{ne_eqb, eqb-true, eqb-false}
+use native.Mathlib.Omega.{arith}
+use Rattle.rules.specs.Bytes.{Bytes}
+use Rattle.rules.specs.Cbor.{BYTES}
+use Rattle.depot_items.specs.declared.Item.{Item}
+use Rattle.depot_items.specs.Line.{mark, string_text, item_text}
 use Rattle.depot_items.proofs.line.put_item.Goals as goal
+use Rattle.depot_items.proofs.line.put_item.Goals.{in_default-via-then-i-lt2, in_default-via-else-i-lt2+else-i-lt4}
 
-pub returns-then-kind-eq-NUMBER : goal.returns-then-kind-eq-NUMBER
+item-string : (s : Bytes) (i : Item) → 2 ≤ i.kind → i.kind < 4 → string_text s i.kind i.next i.after ≡ item_text s i
 unfolding item_text
-returns-then-kind-eq-NUMBER c =
-    rw (eq-eqb _ _ c.if-kind-eq-NUMBER.true) c.put_decimal.ensures
+item-string s i l m = go (eqb i.kind BYTES) refl
+  where
+    go : (t : Bool) → eqb i.kind BYTES ≡ t → string_text s i.kind i.next i.after ≡ item_text s i
+    go true q = rw (eqb-true i.kind BYTES q)
+    go false q = let n : i.kind ≡ 2 → ⊥ = eqb-false i.kind BYTES q in let e : i.kind ≡ 3 = omega arith in rw e
 
-pub returns-then-kind-eq-BYTES : goal.returns-then-kind-eq-BYTES
+item-other : (s : Bytes) (i : Item) → (i.kind ≡ 0 → ⊥) → (i.kind ≡ 2 → ⊥) → (i.kind ≡ 3 → ⊥) → (i.kind ≡ 20 → ⊥) → (i.kind ≡ 21 → ⊥) → mark ≡ item_text s i
 unfolding item_text
-returns-then-kind-eq-BYTES c =
-    rw (ne_eqb _ _ c.if-kind-eq-NUMBER.false, eq-eqb _ _ c.if-kind-eq-BYTES.true) c.put_string.ensures
+item-other s i n b t f g = rw (ne_eqb i.kind 0 n, ne_eqb i.kind 2 b, ne_eqb i.kind 3 t, ne_eqb i.kind 20 f, ne_eqb i.kind 21 g)
 
-pub returns-then-kind-eq-TEXT : goal.returns-then-kind-eq-TEXT
+pub returns-in-0 : goal.returns-in-0
 unfolding item_text
-returns-then-kind-eq-TEXT c =
-    rw (ne_eqb _ _ c.if-kind-eq-NUMBER.false, ne_eqb _ _ c.if-kind-eq-BYTES.false, eq-eqb _ _ c.if-kind-eq-TEXT.true) c.put_string-then-kind-eq-TEXT.ensures
+returns-in-0 c = rw c.in-0.is c.put_decimal.ensures
 
-pub returns-then-kind-eq-FALSE : goal.returns-then-kind-eq-FALSE
+pub returns-in-20 : goal.returns-in-20
 unfolding item_text
-returns-then-kind-eq-FALSE c =
-    rw (ne_eqb _ _ c.if-kind-eq-NUMBER.false, ne_eqb _ _ c.if-kind-eq-BYTES.false, ne_eqb _ _ c.if-kind-eq-TEXT.false, eq-eqb _ _ c.if-kind-eq-FALSE.true) c.put.ensures
+returns-in-20 c = rw c.in-20.is c.put.ensures
 
-pub returns-then-kind-eq-TRUE : goal.returns-then-kind-eq-TRUE
+pub returns-in-21 : goal.returns-in-21
 unfolding item_text
-returns-then-kind-eq-TRUE c =
-    rw (ne_eqb _ _ c.if-kind-eq-NUMBER.false, ne_eqb _ _ c.if-kind-eq-BYTES.false, ne_eqb _ _ c.if-kind-eq-TEXT.false, ne_eqb _ _ c.if-kind-eq-FALSE.false, eq-eqb _ _ c.if-kind-eq-TRUE.true) c.put-then-kind-eq-TRUE.ensures
+returns-in-21 c = rw c.in-21.is c.put-in-21.ensures
 
-pub returns : goal.returns
-unfolding item_text
-returns c =
-    rw (ne_eqb _ _ c.if-kind-eq-NUMBER.false, ne_eqb _ _ c.if-kind-eq-BYTES.false, ne_eqb _ _ c.if-kind-eq-TEXT.false, ne_eqb _ _ c.if-kind-eq-FALSE.false, ne_eqb _ _ c.if-kind-eq-TRUE.false) c.put-2.ensures
+pub returns-in-2 : goal.returns-in-2
+returns-in-2 c = rw (← item-string c.args.s.now c.args.i (omega arith) (omega arith)) c.put_string.ensures
+
+pub returns-in_default : goal.returns-in_default
+returns-in_default c =
+    elim c.in_default.branch [
+      | in_default-via-then-i-lt2 w ↦
+          rw (← item-other c.args.s.now c.args.i (λ q. omega arith) (λ q. omega arith) (λ q. omega arith) (λ q. omega arith) (λ q. omega arith)) c.put-in_default.ensures
+      | in_default-via-else-i-lt2+else-i-lt4 w ↦
+          rw (← item-other c.args.s.now c.args.i (λ q. omega arith) (λ q. omega arith) (λ q. omega arith) (λ q. omega arith) (λ q. omega arith)) c.put-in_default.ensures
+    ]

@@ -1,16 +1,15 @@
 use borrow.Author.Tests.{lt-ltb, le-ltb, eq-eqb, ne_eqb}
 use Rattle.depot_items.specs.Line.{string_text}
 use Rattle.depot_items.proofs.line.put_string.Goals as goal
+use Rattle.depot_items.proofs.line.put_string.Goals.{then-s-end-via-then-s-end, then-s-end-via-else-s-end+then-end-from}
 
 pub returns-then-s-end : goal.returns-then-s-end
 unfolding string_text
 returns-then-s-end c =
-    rw (lt-ltb _ _ c.if-s-end.true) c.put.ensures
-
-pub returns-then-end-from : goal.returns-then-end-from
-unfolding string_text
-returns-then-end-from c =
-    rw (le-ltb _ _ c.if-s-end.false, lt-ltb _ _ c.if-end-from.true) c.put-then-end-from.ensures
+    elim c.then-s-end.branch [
+      | then-s-end-via-then-s-end w ↦ rw (lt-ltb _ _ w.if-s-end.true) c.put.ensures
+      | then-s-end-via-else-s-end+then-end-from w ↦ rw (le-ltb _ _ w.if-s-end.false, lt-ltb _ _ w.if-end-from.true) c.put.ensures
+    ]
 
 pub returns-then-kind-eq-TEXT : goal.returns-then-kind-eq-TEXT
 unfolding string_text
