@@ -1,20 +1,21 @@
 -- A parameter that may stand at a place, by the tests that its reading makes.
 use Prim.Native.Nat.{ℕ, ◌+◌, ◌-◌, ◌≤◌, ◌<◌}
-use mathlib.Core.Path.{◌≡◌, refl, sym, ◌∙◌}
+use mathlib.Core.Path.{◌≡◌, refl}
 use mathlib.Core.List.{[], ◌∷◌}
 use mathlib.Core.Bool.{Bool, true, false}
 use mathlib.Core.Option.{Option, some, none}
+use Rattle.std.proofs.Common.{Some, None}
 use mathlib.Core.Logic.{◌⊎◌, inl, inr}
 use native.Mathlib.Omega.{arith}
 use lib.Dec.{eqb, leb}
 use lib.ListN.{length, get_or}
 use borrow.Author.Tests.{eq-eqb, ne_eqb, le-leb, lt-leb, eqb-true, eqb-false, leb-true, leb-false}
-use Rattle.rules.specs.Bytes.{Bytes, part, four_at}
+use Rattle.rules.specs.Bytes.{Bytes, part}
 use Rattle.rules.specs.Got.{Got, got, accepted}
-use Rattle.rules.specs.ProgramFormat.{entry_size, source_bytes, size_bytes}
+use Rattle.rules.specs.ProgramFormat.{entry_size}
 use Rattle.rules.specs.ProgramTest.{bad, optional}
-use Rattle.rules.proofs.BytesLaws.{part-cons, num_1, num_4}
-use Rattle.program_parameters.specs.Entries.{next_in, end_at, WellFormed, value_in, source_in, size_in}
+use Rattle.rules.proofs.BytesLaws.{part-cons}
+use Rattle.program_parameters.specs.Entries.{ended_at, end_at, WellFormed, value_in}
 use Rattle.program_parameters.proofs.PartLaws.{part_none, take_part, drop-part, length_to}
 
 -- what is refused is not accepted
@@ -27,7 +28,7 @@ module _ (p : Bytes) (at to key : ℕ) where
   Ahead = (at ≤ to) × (to ≤ length p) × ((lo : ℕ) × (hi : ℕ) × WellFormed p to key lo hi at)
 
   abbrev pub Past : ℕ → Type 0
-  Past r = (lo hi : ℕ) → WellFormed p to key lo hi at → r ≡ end_at p to key lo hi at
+  Past r = (lo hi : ℕ) → WellFormed p to key lo hi at → Some r ≡ end_at p to key lo hi at
 
 module _ (p : Bytes) (at to key lo hi : ℕ) where
   abbrev pub reading : Got (Option Bytes × Bytes)
@@ -93,8 +94,8 @@ module _ (p : Bytes) (at to key lo hi : ℕ) where
           let m : size ≤ to - (at + entry_size) = omega arith in
           rw (two h, eq-eqb _ _ k, optional, le-leb _ _ t, le-leb _ _ u, rest, le-leb _ _ m, take_part p (at + entry_size) size (to - (at + entry_size)) m, drop-part p (at + entry_size) to size)
 
-    step-next : (r : ℕ) → Step r → r ≡ next_in to reading
-    step-next r s = rw s.reads (omega (arith, s.fits, length_to p r to s.fits l))
+    step-next : (r : ℕ) → Step r → Some r ≡ ended_at to reading
+    step-next r s = let e : to - (to - r) ≡ r = omega (arith, s.fits) in rw (s.reads, length_to p r to s.fits l, e)
 
     step-none : reading ≡ got (none, part p at (to - at)) → Step at
     step-none q = record { up = omega arith; fits = o; reads = rw (eq-eqb at at refl) q; wide = λ n. absurd (n refl) }
@@ -110,25 +111,25 @@ module _ (p : Bytes) (at to key lo hi : ℕ) where
         }
 
     -- what the code answers, by its tests
-    pub next-end : at ≡ to → at ≡ next_in to reading
+    pub next-end : at ≡ to → Some at ≡ ended_at to reading
     next-end h = step-next at (step-none (reading-end h))
 
-    pub next-other : at < to → (get_or p at 0 ≡ key → ⊥) → at ≡ next_in to reading
+    pub next-other : at < to → (get_or p at 0 ≡ key → ⊥) → Some at ≡ ended_at to reading
     next-other h k = step-next at (step-none (reading-other h k))
 
-    pub next-some : (n : ℕ) → n ≡ size → at + 1 < to → get_or p at 0 ≡ key → lo ≤ n → n ≤ hi → at + entry_size + n ≤ to → at + entry_size + n ≡ next_in to reading
+    pub next-some : (n : ℕ) → n ≡ size → at + 1 < to → get_or p at 0 ≡ key → lo ≤ n → n ≤ hi → at + entry_size + n ≤ to → Some (at + entry_size + n) ≡ ended_at to reading
     next-some n e h k t u s = rw e (step-next (at + entry_size + size) (step-some h k (omega arith) (omega arith) (omega arith)))
 
-    next-bad : reading ≡ bad → 0 ≡ next_in to reading
+    next-bad : reading ≡ bad → None ≡ ended_at to reading
     next-bad q = rw q
 
-    pub next_low : at + 1 < to → get_or p at 0 ≡ key → size < lo → 0 ≡ next_in to reading
+    pub next_low : at + 1 < to → get_or p at 0 ≡ key → size < lo → None ≡ ended_at to reading
     next_low h k s = next-bad (reading-low h k s)
 
-    pub next-high : at + 1 < to → get_or p at 0 ≡ key → lo ≤ size → hi < size → 0 ≡ next_in to reading
+    pub next-high : at + 1 < to → get_or p at 0 ≡ key → lo ≤ size → hi < size → None ≡ ended_at to reading
     next-high h k t s = next-bad (reading-high h k t s)
 
-    pub next-long : at + 1 < to → get_or p at 0 ≡ key → lo ≤ size → size ≤ hi → to < at + entry_size + size → 0 ≡ next_in to reading
+    pub next-long : at + 1 < to → get_or p at 0 ≡ key → lo ≤ size → size ≤ hi → to < at + entry_size + size → None ≡ ended_at to reading
     next-long h k t u s = next-bad (reading-long h k t u s)
 
     -- a parameter that is whole: its length, and the bytes of its value
@@ -155,10 +156,10 @@ module _ (p : Bytes) (at to key lo hi : ℕ) where
         cut false e = inl (reading-cut h k (leb-false _ _ e))
 
     -- too few bytes are left for its key, its length and the least value
-    pub next-cut : at < to → get_or p at 0 ≡ key → to - at < entry_size + lo → 0 ≡ next_in to reading
+    pub next-cut : at < to → get_or p at 0 ≡ key → to - at < entry_size + lo → None ≡ ended_at to reading
     next-cut h k s = go (keyed h k)
       where
-        go : (reading ≡ bad) ⊎ Whole → 0 ≡ next_in to reading
+        go : (reading ≡ bad) ⊎ Whole → None ≡ ended_at to reading
         go (inl e) = next-bad e
         go (inr w) = absurd (omega (arith, w))
 
@@ -184,42 +185,35 @@ module _ (p : Bytes) (at to key lo hi : ℕ) where
         go (inl e) = absurd (refused-not e f)
         go (inr w) = w
 
+    -- what the answer of `optional` tells
+    pub was-bad : None ≡ ended_at to reading → reading ≡ bad
+    was-bad q = go cases
+      where
+        go : (reading ≡ bad) ⊎ ((r : ℕ) × Step r) → reading ≡ bad
+        go (inl e) = e
+        go (inr (k, s)) = let e = step-next k s in cc
+
+    pub to_end : (r : ℕ) → Some r ≡ ended_at to reading → Step r
+    to_end r q = go cases
+      where
+        go : (reading ≡ bad) ⊎ ((r : ℕ) × Step r) → Step r
+        go (inl e) = let n = next-bad e in cc
+        go (inr (k, s)) = let n = step-next k s in let e : r ≡ k = cc in rw e s
+
     -- a reading that is not refused went on to its end
     module _ (n : reading ≡ bad → ⊥) where
-      pub to_end : (r : ℕ) → r ≡ next_in to reading → Step r
-      to_end r q = go cases
-        where
-          go : (reading ≡ bad) ⊎ ((r : ℕ) × Step r) → Step r
-          go (inl e) = absurd (n e)
-          go (inr (k, s)) = rw (q ∙ sym (step-next k s)) s
-
       formed : WellFormed p to key lo hi at
-      formed = rw (to_end (next_in to reading) refl).reads
+      formed = go cases
+        where
+          go : (reading ≡ bad) ⊎ ((r : ℕ) × Step r) → WellFormed p to key lo hi at
+          go (inl e) = absurd (n e)
+          go (inr (k, s)) = rw s.reads
 
       pub ahead : Ahead p at to key
       ahead = (o, l, (lo, hi, formed))
 
       pub passed : (r : ℕ) → Past p at to key r → Step r
       passed r e = to_end r (e lo hi formed)
-
-    -- what the answer of `optional` tells
-    module _ (r : ℕ) (lead : 0 < at) (q : r ≡ next_in to reading) where
-      pub was-bad : r ≡ 0 → reading ≡ bad
-      was-bad z = go cases
-        where
-          go : (reading ≡ bad) ⊎ ((r : ℕ) × Step r) → reading ≡ bad
-          go (inl e) = e
-          go (inr (k, s)) = absurd (omega (arith, s.up, step-next k s))
-
-      pub was-step : (r ≡ 0 → ⊥) → Step r
-      was-step n = to_end (λ e. n (q ∙ sym (next-bad e))) r q
-
-module _ (p : Bytes) (at next : ℕ) (s : at ≡ next → ⊥) where
-  pub source-set : (x : ℕ) → at + entry_size + source_bytes ≤ length p → x ≡ get_or p (at + entry_size) 0 → x + 1 ≡ source_in p at next
-  source-set x l e = rw (ne_eqb at next s) (omega (arith, num_1 p (at + entry_size) (omega arith)))
-
-  pub size-set : (x : ℕ) → at + entry_size + size_bytes ≤ length p → x ≡ four_at p (at + entry_size) → x + 1 ≡ size_in p at next
-  size-set x l e = rw (ne_eqb at next s) (omega (arith, num_4 p (at + entry_size) (omega arith)))
 
 module _ (p : Bytes) (at to key lo hi r : ℕ) (s : Step p at to key lo hi r) where
   pub step-length : (at ≡ r → ⊥) → at + entry_size ≤ r

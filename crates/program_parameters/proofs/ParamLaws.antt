@@ -1,9 +1,11 @@
 -- The parameters of a command, by the places where the reading of each ended.
 use Prim.Native.Nat.{ℕ, ◌+◌, ◌-◌, ◌≤◌, ◌<◌}
-use mathlib.Core.Path.{◌≡◌, refl, sym, ◌∙◌}
+use mathlib.Core.Path.{◌≡◌, refl, sym, ap, subst, ◌∙◌}
 use mathlib.Core.List.{[], ◌∷◌}
 use mathlib.Core.Bool.{Bool, true, false, ◌&&◌, cond}
 use mathlib.Core.Option.{Option, some, none, map}
+use Rattle.std.proofs.Common as Code
+use Rattle.std.proofs.Common.{Some, None}
 use native.Mathlib.Omega.{arith}
 use lib.Dec.{eqb, leb}
 use lib.ListN.{length}
@@ -17,9 +19,9 @@ use Rattle.rules.specs.ProgramTest.{bad, need, optional, is_below, params_in}
 use Rattle.rules.proofs.SameLaws.{same_lengths}
 use Rattle.run_slots.specs.Params.{meaning}
 use Rattle.run_slots.specs.Params as Words
-use Rattle.program_parameters.specs.Entries.{end_at, value_in, place_in, length_in, source_in, size_in, ParametersAt, Taken}
+use Rattle.program_parameters.specs.Entries.{end_at, ends_at, value_in, place_in, length_in, source_in, size_in, ParametersAt, Taken}
 use Rattle.program_parameters.proofs.PartLaws.{part_none, length_to}
-use Rattle.program_parameters.proofs.EntryLaws.{refused-not, reading, Step, Past, Ahead, ahead, passed, to_end, was-bad, was-step}
+use Rattle.program_parameters.proofs.EntryLaws.{refused-not, reading, Step, Past, Ahead, ahead, passed, to_end, was-bad}
 
 -- what is made of a parameter's bytes does not change how they are read
 abbrev made : {A : Type 0} → (Bytes → A) → Got (Option Bytes × Bytes) → Got (Option A × Bytes)
@@ -146,83 +148,75 @@ pub refuses : {x : Got Rules.Params} → x ≡ bad → false ≡ accepted x
 refuses q = rw q
 
 -- what the tests of the parameters tell
-module _ (p : Bytes) (n from to : ℕ) (pre : (0 < from) × (from ≤ to) × (to ≤ length p)) (a : ℕ) (qa : a ≡ end_at p to Rules.uri_key 1 limits.uri from) where
-  pub no_uri : a ≡ 0 → answer p n from to ≡ bad
-  no_uri z = params_1 p n from to (was-bad p from to Rules.uri_key 1 limits.uri pre.1 pre.2 a pre.0 qa z)
+module _ (p : Bytes) (n from to : ℕ) (pre : (from ≤ to) × (to ≤ length p)) where
+  pub no_uri : None ≡ end_at p to Rules.uri_key 1 limits.uri from → answer p n from to ≡ bad
+  no_uri q = params_1 p n from to (was-bad p from to Rules.uri_key 1 limits.uri pre.0 pre.1 q)
 
-  module _ (ha : a ≡ 0 → ⊥) where
+  module _ (a : ℕ) (qa : Some a ≡ end_at p to Rules.uri_key 1 limits.uri from) where
     uri-step : Step p from to Rules.uri_key 1 limits.uri a
-    uri-step = was-step p from to Rules.uri_key 1 limits.uri pre.1 pre.2 a pre.0 qa ha
+    uri-step = to_end p from to Rules.uri_key 1 limits.uri pre.0 pre.1 a qa
 
-    pub source_pre : (0 < a) × (a ≤ to) × (to ≤ length p)
-    source_pre = (omega (arith, ha), uri-step.fits, pre.2)
+    pub source_pre : (a ≤ to) × (to ≤ length p)
+    source_pre = (uri-step.fits, pre.1)
 
-    module _ (b : ℕ) (qb : b ≡ end_at p to Rules.source_key source_bytes source_bytes a) where
-      pub no_source : b ≡ 0 → answer p n from to ≡ bad
-      no_source z = params_2 p n from to a uri-step (was-bad p a to Rules.source_key source_bytes source_bytes source_pre.1 source_pre.2 b source_pre.0 qb z)
+    pub no_source : None ≡ end_at p to Rules.source_key source_bytes source_bytes a → answer p n from to ≡ bad
+    no_source q = params_2 p n from to a uri-step (was-bad p a to Rules.source_key source_bytes source_bytes source_pre.0 source_pre.1 q)
 
-      module _ (hb : b ≡ 0 → ⊥) where
-        pub source-step : Step p a to Rules.source_key source_bytes source_bytes b
-        source-step = was-step p a to Rules.source_key source_bytes source_bytes source_pre.1 source_pre.2 b source_pre.0 qb hb
+    module _ (b : ℕ) (qb : Some b ≡ end_at p to Rules.source_key source_bytes source_bytes a) where
+      pub source-step : Step p a to Rules.source_key source_bytes source_bytes b
+      source-step = to_end p a to Rules.source_key source_bytes source_bytes source_pre.0 source_pre.1 b qb
 
-        pub digest_pre : (0 < b) × (b ≤ to) × (to ≤ length p)
-        digest_pre = (omega (arith, hb), source-step.fits, pre.2)
+      pub digest_pre : (b ≤ to) × (to ≤ length p)
+      digest_pre = (source-step.fits, pre.1)
 
-        module _ (c : ℕ) (qc : c ≡ end_at p to Rules.digest_key limits.digest limits.digest b) where
-          pub no_digest : c ≡ 0 → answer p n from to ≡ bad
-          no_digest z =
-              params_3 p n from to a uri-step b source-step (was-bad p b to Rules.digest_key limits.digest limits.digest digest_pre.1 digest_pre.2 c digest_pre.0 qc z)
+      pub no_digest : None ≡ end_at p to Rules.digest_key limits.digest limits.digest b → answer p n from to ≡ bad
+      no_digest q =
+          params_3 p n from to a uri-step b source-step (was-bad p b to Rules.digest_key limits.digest limits.digest digest_pre.0 digest_pre.1 q)
 
-          module _ (hc : c ≡ 0 → ⊥) where
-            digest-step : Step p b to Rules.digest_key limits.digest limits.digest c
-            digest-step = was-step p b to Rules.digest_key limits.digest limits.digest digest_pre.1 digest_pre.2 c digest_pre.0 qc hc
+      module _ (c : ℕ) (qc : Some c ≡ end_at p to Rules.digest_key limits.digest limits.digest b) where
+        digest-step : Step p b to Rules.digest_key limits.digest limits.digest c
+        digest-step = to_end p b to Rules.digest_key limits.digest limits.digest digest_pre.0 digest_pre.1 c qc
 
-            pub size_pre : (0 < c) × (c ≤ to) × (to ≤ length p)
-            size_pre = (omega (arith, hc), digest-step.fits, pre.2)
+        pub size_pre : (c ≤ to) × (to ≤ length p)
+        size_pre = (digest-step.fits, pre.1)
 
-            module _ (d : ℕ) (qd : d ≡ end_at p to Rules.size_key size_bytes size_bytes c) where
-              no_size : d ≡ 0 → answer p n from to ≡ bad
-              no_size z =
-                  params_4 p n from to a uri-step b source-step c digest-step (was-bad p c to Rules.size_key size_bytes size_bytes size_pre.1 size_pre.2 d size_pre.0 qd z)
+        abbrev size-end : Code.Option ℕ
+        size-end = end_at p to Rules.size_key size_bytes size_bytes c
 
-              some-step : (d ≡ 0 → ⊥) → Step p c to Rules.size_key size_bytes size_bytes d
-              some-step hd = was-step p c to Rules.size_key size_bytes size_bytes size_pre.1 size_pre.2 d size_pre.0 qd hd
+        no_size : None ≡ size-end → answer p n from to ≡ bad
+        no_size q = params_4 p n from to a uri-step b source-step c digest-step (was-bad p c to Rules.size_key size_bytes size_bytes size_pre.0 size_pre.1 q)
 
-              -- a fourth that is not well formed, or bytes after it
-              pub not-all : (d ≡ to → ⊥) → answer p n from to ≡ bad
-              not-all h = go (eqb d 0) refl
-                where
-                  go : (t : Bool) → eqb d 0 ≡ t → answer p n from to ≡ bad
-                  go true z = no_size (eqb-true d 0 z)
-                  go false z = more p n from to a uri-step b source-step c digest-step d (some-step (eqb-false d 0 z)) pre.2 h
+        some-step : (d : ℕ) → Some d ≡ size-end → Step p c to Rules.size_key size_bytes size_bytes d
+        some-step d q = to_end p c to Rules.size_key size_bytes size_bytes size_pre.0 size_pre.1 d q
 
-              size_step : d ≡ to → Step p c to Rules.size_key size_bytes size_bytes d
-              size_step h = some-step (λ z. omega arith)
+        -- a fourth that is not well formed, or bytes after it
+        not-all : (e : Code.Option ℕ) → e ≡ size-end → ends_at to e ≡ false → answer p n from to ≡ bad
+        not-all None q z = no_size q
+        not-all (Some d) q z = more p n from to a uri-step b source-step c digest-step d (some-step d q) pre.1 (eqb-false d to z)
 
-              pub ended : source_in p a b ≤ n → eqb d to ≡ accepted (answer p n from to)
-              ended l = go (eqb d to) refl
-                where
-                  go : (t : Bool) → eqb d to ≡ t → t ≡ accepted (answer p n from to)
-                  go true q = let h = eqb-true d to q in rw (all_read p n from to a uri-step b source-step c digest-step d (size_step h) h l)
-                  go false q = refuses (not-all (eqb-false d to q))
+        size_step : (e : Code.Option ℕ) → e ≡ size-end → ends_at to e ≡ true → Step p c to Rules.size_key size_bytes size_bytes to
+        size_step None q z = cc
+        size_step (Some d) q z = let h : Some to ≡ Some d = ap Some (sym (eqb-true d to z)) in some-step to (h ∙ q)
 
-        -- a source that is no component, whatever follows
-        pub far_source : n < source_in p a b → answer p n from to ≡ bad
-        far_source l = third (end_at p to Rules.digest_key limits.digest limits.digest b) refl
+        pub ended : source_in p a b ≤ n → (e : Code.Option ℕ) → e ≡ size-end → ends_at to e ≡ accepted (answer p n from to)
+        ended l e q = go (ends_at to e) refl
           where
-            fourth : (c : ℕ) (qc : c ≡ end_at p to Rules.digest_key limits.digest limits.digest b) (hc : c ≡ 0 → ⊥)
-                (d : ℕ) → d ≡ end_at p to Rules.size_key size_bytes size_bytes c → (t : Bool) → eqb d to ≡ t → answer p n from to ≡ bad
-            fourth c qc hc d qd true q =
-                let h = eqb-true d to q in
-                no_component p n from to a uri-step b source-step c (digest-step c qc hc) d (size_step c qc hc d qd h) h l
-            fourth c qc hc d qd false q = not-all c qc hc d qd (eqb-false d to q)
+            go : (t : Bool) → ends_at to e ≡ t → t ≡ accepted (answer p n from to)
+            go true z = rw (all_read p n from to a uri-step b source-step c digest-step to (size_step e q z) refl l)
+            go false z = refuses (not-all e q z)
 
-            third : (c : ℕ) → c ≡ end_at p to Rules.digest_key limits.digest limits.digest b → answer p n from to ≡ bad
-            third c qc = go (eqb c 0) refl
-              where
-                go : (t : Bool) → eqb c 0 ≡ t → answer p n from to ≡ bad
-                go true z = no_digest c qc (eqb-true c 0 z)
-                go false z = fourth c qc (eqb-false c 0 z) _ refl _ refl
+      -- a source that is no component, whatever follows
+      pub far_source : n < source_in p a b → answer p n from to ≡ bad
+      far_source l = third (end_at p to Rules.digest_key limits.digest limits.digest b) refl
+        where
+          fourth : (c : ℕ) (qc : Some c ≡ end_at p to Rules.digest_key limits.digest limits.digest b) (e : Code.Option ℕ) → e ≡ size-end c qc →
+              (t : Bool) → ends_at to e ≡ t → answer p n from to ≡ bad
+          fourth c qc e q true z = no_component p n from to a uri-step b source-step c (digest-step c qc) to (size_step c qc e q z) refl l
+          fourth c qc e q false z = not-all c qc e q z
+
+          third : (e : Code.Option ℕ) → e ≡ end_at p to Rules.digest_key limits.digest limits.digest b → answer p n from to ≡ bad
+          third None q = no_digest q
+          third (Some c) q = fourth c q _ refl _ refl
 
 -- parameters that the test has read, taken
 module _ (p : Bytes) (from to : ℕ) (x : ParametersAt p from to) where
@@ -259,21 +253,19 @@ module _ (p : Bytes) (from to : ℕ) (x : ParametersAt p from to) where
         pub digest-taken : Step p b to Rules.digest_key limits.digest limits.digest c
         digest-taken = passed p b to Rules.digest_key limits.digest limits.digest source-taken.fits x.fits digest-good c ec
 
-        size-end : (d : ℕ) → d ≡ end_at p to Rules.size_key size_bytes size_bytes c → Step p c to Rules.size_key size_bytes size_bytes d
-        size-end =
-            to_end p c to Rules.size_key size_bytes size_bytes digest-taken.fits x.fits
-            (λ e. good (params_4 p x.n from to a uri-taken b source-taken c digest-taken e))
-
-        last : end_at p to Rules.size_key size_bytes size_bytes c ≡ to
-        last = go (eqb (end_at p to Rules.size_key size_bytes size_bytes c) to) refl
-          where
-            go : (t : Bool) → eqb (end_at p to Rules.size_key size_bytes size_bytes c) to ≡ t → end_at p to Rules.size_key size_bytes size_bytes c ≡ to
-            go true e = eqb-true _ to e
-            go false e =
-                absurd (good (more p x.n from to a uri-taken b source-taken c digest-taken _ (size-end _ refl) x.fits (eqb-false _ to e)))
+        size-good : reading p c to Rules.size_key size_bytes size_bytes ≡ bad → ⊥
+        size-good e = good (params_4 p x.n from to a uri-taken b source-taken c digest-taken e)
 
         pub size-taken : Step p c to Rules.size_key size_bytes size_bytes to
-        size-taken = size-end to (sym last)
+        size-taken = go (end_at p to Rules.size_key size_bytes size_bytes c) refl
+          where
+            at : (d : ℕ) → Step p c to Rules.size_key size_bytes size_bytes d → (t : Bool) → eqb d to ≡ t → Step p c to Rules.size_key size_bytes size_bytes to
+            at d s true e = subst (Step p c to Rules.size_key size_bytes size_bytes) (eqb-true d to e) s
+            at d s false e = absurd (good (more p x.n from to a uri-taken b source-taken c digest-taken d s x.fits (eqb-false d to e)))
+
+            go : (e : Code.Option ℕ) → e ≡ end_at p to Rules.size_key size_bytes size_bytes c → Step p c to Rules.size_key size_bytes size_bytes to
+            go None q = absurd (size-good (was-bad p c to Rules.size_key size_bytes size_bytes digest-taken.fits x.fits q))
+            go (Some d) q = at d (to_end p c to Rules.size_key size_bytes size_bytes digest-taken.fits x.fits d q) (eqb d to) refl
 
         counts : source_in p a b ≤ x.n
         counts = go (leb (source_in p a b) x.n) refl

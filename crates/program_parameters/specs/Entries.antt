@@ -1,5 +1,7 @@
 -- The parameters of a command, by the places of a program's bytes.
-use Rattle.std.specs.Prelude.{ℕ, ◌+◌, ◌-◌, ◌≤◌, ◌<◌, ◌≡◌, true, cond, eqb, length}
+use Rattle.std.specs.Prelude.{ℕ, ◌+◌, ◌-◌, ◌≤◌, ◌<◌, ◌≡◌, Bool, true, false, cond, eqb, length}
+use Rattle.std.specs.Prelude as Code
+use Rattle.std.specs.Prelude.{Some, None}
 use Rattle.std.proofs.Math.Option.{Option, some, none}
 use Rattle.rules.specs.Bytes.{Bytes, part, num}
 use Rattle.rules.specs.Commands as Rules
@@ -13,6 +15,16 @@ use Rattle.run_slots.specs.Params.{meaning, Fit}
 abbrev pub next_in : {A : Type 0} → ℕ → Got (A × Bytes) → ℕ
 next_in to (refused r p) = 0
 next_in to (got a) = to - length a.1
+
+-- the place where a reading up to `to` ended; none where it was refused
+abbrev pub ended_at : {A : Type 0} → ℕ → Got (A × Bytes) → Code.Option ℕ
+ended_at to (refused r p) = None
+ended_at to (got a) = Some (to - length a.1)
+
+-- whether that place is `to`
+abbrev pub ends_at : ℕ → Code.Option ℕ → Bool
+ends_at to None = false
+ends_at to (Some d) = eqb d to
 
 -- a parameter that stands from `at` to `next`, and there is none if these are equal: its value, and its numbers in Params
 abbrev pub value_in : Bytes → ℕ → ℕ → Option Bytes
@@ -31,8 +43,8 @@ abbrev pub size_in : Bytes → ℕ → ℕ → ℕ
 size_in p at next = cond (eqb at next) 0 (num (part p (at + entry_size) size_bytes) + 1)
 
 -- where the parameter of a key ends, which may stand at `at`
-abbrev pub end_at : Bytes → ℕ → ℕ → ℕ → ℕ → ℕ → ℕ
-end_at p to key lo hi at = next_in to (optional key lo hi (λ b. b) (part p at (to - at)))
+abbrev pub end_at : Bytes → ℕ → ℕ → ℕ → ℕ → ℕ → Code.Option ℕ
+end_at p to key lo hi at = ended_at to (optional key lo hi (λ b. b) (part p at (to - at)))
 
 -- what stands there is that parameter, of lo to hi bytes, or is not of that key
 abbrev pub WellFormed : Bytes → ℕ → ℕ → ℕ → ℕ → ℕ → Type 0

@@ -2,12 +2,14 @@ use mathlib.Core.Path.{sym, ◌∙◌}
 use native.Mathlib.Omega.{arith}
 use Rattle.program_parameters.proofs.EntryLaws.{next-end, next-other, next-some, next-cut, next_low, next-high, next-long}
 use Rattle.program_parameters.proofs.optional.Goals as goal
+use Rattle.program_parameters.proofs.optional.Goals.{then-at-to-via-then-at-to, then-at-to-via-else-at-to+then-wide-key, then-n-lo-via-then-n-lo, then-n-lo-via-else-n-lo+then-hi-n, then-n-lo-via-else-n-lo+else-hi-n+then-room-n}
 
 pub returns-then-at-to : goal.returns-then-at-to
-returns-then-at-to c = next-end _ _ _ _ _ _ (omega arith) (omega arith) c.if-at-to.true
-
-pub returns-then-wide-key : goal.returns-then-wide-key
-returns-then-wide-key c = next-other _ _ _ _ _ _ (omega arith) (omega arith) (omega arith) (λ e. c.if-wide-key.true (c.wide.ensures.0 ∙ e))
+returns-then-at-to c =
+    elim c.then-at-to.branch [
+      | then-at-to-via-then-at-to w ↦ next-end _ _ _ _ _ _ (omega arith) (omega arith) w.if-at-to.true
+      | then-at-to-via-else-at-to+then-wide-key w ↦ next-other _ _ _ _ _ _ (omega arith) (omega arith) (omega arith) (λ e. w.if-wide-key.true (w.wide.ensures.0 ∙ e))
+    ]
 
 pub returns-then-left-lt-ENTRY_BYTES : goal.returns-then-left-lt-ENTRY_BYTES
 returns-then-left-lt-ENTRY_BYTES c =
@@ -21,19 +23,14 @@ returns-then-room-lo c =
 
 pub returns-then-n-lo : goal.returns-then-n-lo
 returns-then-n-lo c =
-    next_low c.args.p.now c.args.at c.args.to c.args.key c.args.lo c.args.hi (omega arith) (omega arith) (omega arith)
-    (sym c.wide.ensures.0 ∙ c.if-wide-key.false) (omega arith)
-
-pub returns-then-hi-n : goal.returns-then-hi-n
-returns-then-hi-n c =
-    next-high c.args.p.now c.args.at c.args.to c.args.key c.args.lo c.args.hi (omega arith) (omega arith) (omega arith)
-    (sym c.wide.ensures.0 ∙ c.if-wide-key.false) (omega arith) (omega arith)
-
-pub returns-then-room-n : goal.returns-then-room-n
-returns-then-room-n c =
-    next-long c.args.p.now c.args.at c.args.to c.args.key c.args.lo c.args.hi (omega arith) (omega arith) (omega arith)
-    (sym c.wide.ensures.0 ∙ c.if-wide-key.false)
-    (omega arith) (omega arith) (omega arith)
+    let k = sym c.wide.ensures.0 ∙ c.if-wide-key.false in
+    elim c.then-n-lo.branch [
+      | then-n-lo-via-then-n-lo w ↦ next_low c.args.p.now c.args.at c.args.to c.args.key c.args.lo c.args.hi (omega arith) (omega arith) (omega arith) k (omega arith)
+      | then-n-lo-via-else-n-lo+then-hi-n w ↦
+          next-high c.args.p.now c.args.at c.args.to c.args.key c.args.lo c.args.hi (omega arith) (omega arith) (omega arith) k (omega arith) (omega arith)
+      | then-n-lo-via-else-n-lo+else-hi-n+then-room-n w ↦
+          next-long c.args.p.now c.args.at c.args.to c.args.key c.args.lo c.args.hi (omega arith) (omega arith) (omega arith) k (omega arith) (omega arith) (omega arith)
+    ]
 
 pub returns : goal.returns
 returns c =

@@ -2,6 +2,7 @@ use mathlib.Core.Path.{sym, ◌∙◌}
 use native.Mathlib.Omega.{arith}
 use Rattle.program_parameters.proofs.EntryLaws.{next-end, next-other, next-some, formed-whole}
 use Rattle.program_parameters.proofs.past.Goals as goal
+use Rattle.program_parameters.proofs.past.Goals.{then-at-to-via-then-at-to, then-at-to-via-else-at-to+then-wide-key}
 
 pub bounds-p-at-2 : goal.bounds-p-at-2
 bounds-p-at-2 c =
@@ -10,10 +11,11 @@ bounds-p-at-2 c =
     omega (arith, w.0)
 
 pub returns-then-at-to : goal.returns-then-at-to
-returns-then-at-to c lo hi f = next-end _ _ _ _ _ _ (omega arith) (omega arith) c.if-at-to.true
-
-pub returns-then-wide-key : goal.returns-then-wide-key
-returns-then-wide-key c lo hi f = next-other _ _ _ _ _ _ (omega arith) (omega arith) (omega arith) (λ e. c.if-wide-key.true (c.wide.ensures.0 ∙ e))
+returns-then-at-to c lo hi f =
+    elim c.then-at-to.branch [
+      | then-at-to-via-then-at-to w ↦ next-end _ _ _ _ _ _ (omega arith) (omega arith) w.if-at-to.true
+      | then-at-to-via-else-at-to+then-wide-key w ↦ next-other _ _ _ _ _ _ (omega arith) (omega arith) (omega arith) (λ e. w.if-wide-key.true (w.wide.ensures.0 ∙ e))
+    ]
 
 pub returns : goal.returns
 returns c lo hi f =
