@@ -22,8 +22,7 @@ use Rattle.rules.proofs.GotLaws.{passed, split, both}
 use Rattle.rules.proofs.BytesLaws.{length_part}
 use Rattle.rules.proofs.SameLaws.{same_lengths}
 use Rattle.cbor_reading.specs.declared.Reading.{Reading}
-use Rattle.component_ids.specs.declared.Repeat.{Repeat}
-use Rattle.component_ids.specs.declared.Repeat.TheVariants.{At, Nothing}
+use Rattle.std.specs.Prelude.{Option, Some, None}
 use Rattle.component_ids.specs.Identifiers.{flat_spans, laid, plain, Listing, onward, listing, ids_read, listed_as, listed, equal, among, search_from, repeated}
 use Rattle.cbor_reading.specs.Reading.{fault, ends, head_reading, place_reading, reading}
 use Rattle.cbor_reading.proofs.ReadingLaws.{stopped, alike, bind_assoc, item-stopped, item_went, place-stopped, place_went}
@@ -105,9 +104,9 @@ module _ (s : Bytes) (a : List ℕ) where
       let f : Stand ys (suc i) = λ t l. let k : suc i + t ≡ i + suc t = omega arith in rw k (h (suc t) (omega arith)) in
       rw (← e, among_law j ys (suc i) f)
 
-  abbrev pub outcome : Repeat → List Span → Got ℕ → Got (List Span × ℕ)
-  outcome (At j) ids end = refused RepeatedIdentifier (get_or a (2 * j) 0)
-  outcome Nothing ids end = end >>= λ q. got (ids, q)
+  abbrev pub outcome : Option ℕ → List Span → Got ℕ → Got (List Span × ℕ)
+  outcome (Some j) ids end = refused RepeatedIdentifier (get_or a (2 * j) 0)
+  outcome None ids end = end >>= λ q. got (ids, q)
 
   search_law : (before xs : List Span) (end : Got ℕ) → Stand (before ++ xs) 0 →
       verdict s before xs end ≡ outcome (search_from s a (length before) (length xs)) (before ++ xs) end
@@ -124,10 +123,10 @@ module _ (s : Bytes) (a : List ℕ) where
       let longer : length (before ++ (x ∷ [])) ≡ suc j = length-append before (x ∷ []) ∙ omega arith in
       let rest = rw (joined, longer) at (search_law (before ++ (x ∷ [])) xs end (rw joined h)) in
       pick (member (bytes_at s x) (map (bytes_at s) before)) j (before ++ x ∷ xs) end (refused RepeatedIdentifier x.from) _ _ (ap (λ (p : Span). refused RepeatedIdentifier p.from) (sym here)) rest
-      ∙ ap (λ (b : Bool). outcome (elim b as (λ _. Repeat) [ true ↦ At j | false ↦ search_from s a (suc j) (length xs) ]) (before ++ x ∷ xs) end) (sym m)
+      ∙ ap (λ (b : Bool). outcome (elim b as (λ _. Option ℕ) [ true ↦ Some j | false ↦ search_from s a (suc j) (length xs) ]) (before ++ x ∷ xs) end) (sym m)
     where
-      pick : (b : Bool) (j : ℕ) (ids : List Span) (end : Got ℕ) (u v : Got (List Span × ℕ)) (w : Repeat) → u ≡ outcome (At j) ids end → v ≡ outcome w ids end →
-          (elim b as (λ _. Got (List Span × ℕ)) [ true ↦ u | false ↦ v ]) ≡ outcome (elim b as (λ _. Repeat) [ true ↦ At j | false ↦ w ]) ids end
+      pick : (b : Bool) (j : ℕ) (ids : List Span) (end : Got ℕ) (u v : Got (List Span × ℕ)) (w : Option ℕ) → u ≡ outcome (Some j) ids end → v ≡ outcome w ids end →
+          (elim b as (λ _. Got (List Span × ℕ)) [ true ↦ u | false ↦ v ]) ≡ outcome (elim b as (λ _. Option ℕ) [ true ↦ Some j | false ↦ w ]) ids end
       pick true j ids end u v w p q = p
       pick false j ids end u v w p q = q
 
@@ -325,31 +324,31 @@ module _ (s : Bytes) (a : List ℕ) where
     pub among_next : i < j → equal s a j i ≡ false → among s a j i (j - i) ≡ among s a j (i + 1) (j - (i + 1))
     among_next h e = among-turn h ∙ rw e
 
-  search_is : (j k : ℕ) (b : Bool) → among s a j 0 j ≡ b → search_from s a j (suc k) ≡ (elim b as (λ _. Repeat) [ true ↦ At j | false ↦ search_from s a (suc j) k ])
+  search_is : (j k : ℕ) (b : Bool) → among s a j 0 j ≡ b → search_from s a j (suc k) ≡ (elim b as (λ _. Option ℕ) [ true ↦ Some j | false ↦ search_from s a (suc j) k ])
   unfolding search_from
-  search_is j k b e = ap (λ (x : Bool). elim x as (λ _. Repeat) [ true ↦ At j | false ↦ search_from s a (suc j) k ]) e
+  search_is j k b e = ap (λ (x : Bool). elim x as (λ _. Option ℕ) [ true ↦ Some j | false ↦ search_from s a (suc j) k ]) e
 
   module _ (n j : ℕ) where
-    pub search_end : n ≤ j → search_from s a j (n - j) ≡ Nothing
+    pub search_end : n ≤ j → search_from s a j (n - j) ≡ None
     unfolding search_from
     search_end h = let z : n - j ≡ 0 = omega arith in rw z
 
-    pub search_found : j < n → among s a j 0 j ≡ true → search_from s a j (n - j) ≡ At j
+    pub search_found : j < n → among s a j 0 j ≡ true → search_from s a j (n - j) ≡ Some j
     search_found h e = rw (down n j h) (search_is j (n - (j + 1)) true e)
 
     pub search_next : j < n → among s a j 0 j ≡ false → search_from s a j (n - j) ≡ search_from s a (j + 1) (n - (j + 1))
     search_next h e = rw (down n j h, add-one j) (search_is j (n - suc j) false e)
 
-  search_in : (j k i : ℕ) → search_from s a j k ≡ At i → i < j + k
+  search_in : (j k i : ℕ) → search_from s a j k ≡ Some i → i < j + k
   unfolding search_from
   search_in j zero i q = let z : ◌≡◌ {A = ℕ} 0 1 = cc in absurd (omega arith)
   search_in j (suc k) i q = go (among s a j 0 j) (search_in (suc j) k i) q
     where
-      go : (b : Bool) → (search_from s a (suc j) k ≡ At i → i < suc j + k) → (elim b as (λ _. Repeat) [ true ↦ At j | false ↦ search_from s a (suc j) k ]) ≡ At i → i < j + suc k
+      go : (b : Bool) → (search_from s a (suc j) k ≡ Some i → i < suc j + k) → (elim b as (λ _. Option ℕ) [ true ↦ Some j | false ↦ search_from s a (suc j) k ]) ≡ Some i → i < j + suc k
       go true ih q = let e : j ≡ i = cc in omega arith
       go false ih q = omega (arith, ih q)
 
-  pub repeated_in : (n i : ℕ) → repeated s a n ≡ At i → i < n
+  pub repeated_in : (n i : ℕ) → repeated s a n ≡ Some i → i < n
   unfolding repeated
   repeated_in n i q = omega (arith, search_in 0 n i q)
 
@@ -377,9 +376,9 @@ module _ (ids : List Span) (r : Reading) where
   listed_went (refused k p) e z = absurd (not-zero k (ap (λ (y : Reading). y.refusal) (sym e) ∙ z))
   listed_went (got q) e z = e
 
-outcome-ids : (s : Bytes) (a : List ℕ) (w : Repeat) (ids : List Span) (end : Got ℕ) (ids' : List Span) (p : ℕ) → outcome s a w ids end ≡ got (ids', p) → ids' ≡ ids
-outcome-ids s a (At j) ids end ids' p g = let z : ◌≡◌ {A = ℕ} 0 1 = cc in absurd (omega arith)
-outcome-ids s a Nothing ids end ids' p g = split _ end _ (ids', p) g λ q qe g'. sym (both g').0
+outcome-ids : (s : Bytes) (a : List ℕ) (w : Option ℕ) (ids : List Span) (end : Got ℕ) (ids' : List Span) (p : ℕ) → outcome s a w ids end ≡ got (ids', p) → ids' ≡ ids
+outcome-ids s a (Some j) ids end ids' p g = let z : ◌≡◌ {A = ℕ} 0 1 = cc in absurd (omega arith)
+outcome-ids s a None ids end ids' p g = split _ end _ (ids', p) g λ q qe g'. sym (both g').0
 
 -- of an accepted component list, these are its identifiers
 pub read_all : (s : Bytes) (e at : ℕ) (ids : List Span) (p : ℕ) → components s e at ≡ got (ids, p) → ids_read s e at ≡ ids
@@ -441,19 +440,19 @@ module _ (s : Bytes) (e at : ℕ) (h : Reading) (q : h ≡ head_reading (item AR
             (in_bytes_lem s h.value e h.at a components-head.1 f)),
       )
 
-      module _ (w : Repeat) (f : w ≡ repeated s b r.value) where
+      module _ (w : Option ℕ) (f : w ≡ repeated s b r.value) where
         components-is : components s e at ≡ outcome s b w (listing s h.value e h.at).ids (listing s h.value e h.at).end
         components-is = components-rest.0 ∙ identifiers_law s h.value e h.at a ∙ rw (f, how_many, l.1)
 
-        pub repeated-below : (j : ℕ) → w ≡ At j → j < r.value
+        pub repeated-below : (j : ℕ) → w ≡ Some j → j < r.value
         repeated-below j g = repeated_in s b r.value j (sym f ∙ g)
 
-        pub components-repeated : (j : ℕ) → w ≡ At j → Outcome (fault RepeatedIdentifier (get_or b (2 * j) 0)) a b
+        pub components-repeated : (j : ℕ) → w ≡ Some j → Outcome (fault RepeatedIdentifier (get_or b (2 * j) 0)) a b
         components-repeated j g =
             let k : components s e at ≡ refused RepeatedIdentifier (get_or b (2 * j) 0) = components-is ∙ rw g in
             (ap (reading length) (sym k), kept)
 
-        module _ (g : w ≡ Nothing) where
+        module _ (g : w ≡ None) where
           components-new : components s e at ≡ ((listing s h.value e h.at).end >>= λ p. got ((listing s h.value e h.at).ids, p))
           components-new = components-is ∙ rw g
 

@@ -1,13 +1,11 @@
 -- Identifiers as check reads them: all of the list, or up to the first that is refused; then the search for a repeated one.
-use Rattle.std.specs.Prelude.{ℕ, zero, suc, ◌*◌, List, [], ◌∷◌, ◌++◌, Bool, true, false, ◌||◌, length, drop}
+use Rattle.std.specs.Prelude.{ℕ, zero, suc, ◌*◌, List, [], ◌∷◌, ◌++◌, Bool, true, false, ◌||◌, length, drop, Option, Some, None}
 use Rattle.rules.specs.Answers.{refusal_number}
 use Rattle.rules.specs.Limits.{limits}
 use Rattle.rules.specs.Bytes.{Bytes, Span, span, bytes_at, span_at, same}
 use Rattle.rules.specs.Got.{Got, refused, got, ◌>>=◌}
 use Rattle.rules.specs.Cbor.{ARRAY, Head, item}
 use Rattle.rules.specs.Check.{identifier}
-use Rattle.component_ids.specs.declared.Repeat.{Repeat}
-use Rattle.component_ids.specs.declared.Repeat.TheVariants.{At, Nothing}
 use Rattle.cbor_reading.specs.declared.Reading.{Reading}
 use Rattle.cbor_reading.specs.Reading.{ends}
 
@@ -59,12 +57,12 @@ module _ (s : Bytes) where
   among a j i (suc k) = equal a j i || among a j (suc i) k
 
   -- the first of the k identifiers from number j on that equals an earlier one
-  unfoldable pub search_from : List ℕ → ℕ → ℕ → Repeat
-  search_from a j zero = Nothing
-  search_from a j (suc k) = elim (among a j 0 j) [ true ↦ At j | false ↦ search_from a (suc j) k ]
+  unfoldable pub search_from : List ℕ → ℕ → ℕ → Option ℕ
+  search_from a j zero = None
+  search_from a j (suc k) = elim (among a j 0 j) [ true ↦ Some j | false ↦ search_from a (suc j) k ]
 
   -- the first equal pair of the first n, the later identifier outside
-  unfoldable pub repeated : List ℕ → ℕ → Repeat
+  unfoldable pub repeated : List ℕ → ℕ → Option ℕ
   repeated a n = search_from a 0 n
 
 -- how the reading ended, and how many were read, on a refusal too

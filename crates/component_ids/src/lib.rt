@@ -19,14 +19,12 @@ fn strings(s: &[u8], end: usize, at: usize, count: usize) -> Reading
     ensures { result ≡ place_reading (Check.strings s.now count end at) }
 {
     let mut p = at;
-    let mut left = count;
-    while 0 < left {
+    for _ in 0..count {
         let h = item(s, end, p, cbor::BYTES, 0, Controller::LARGEST_NUMBER);
         if h.refusal != 0 {
             return h;
         }
         p = h.at + h.value;
-        left -= 1;
     }
     Reading {
         refusal: 0,
@@ -62,8 +60,7 @@ fn identifiers(s: &[u8], end: usize, at: usize, count: usize, ids: &mut Places) 
 {
     let places: &mut [usize] = ids;
     let mut p = at;
-    let mut k = 0;
-    while k < count {
+    for k in 0..count {
         let r = identifier(s, end, p);
         let refusal = r.refusal;
         let next = r.at;
@@ -77,7 +74,6 @@ fn identifiers(s: &[u8], end: usize, at: usize, count: usize, ids: &mut Places) 
         places[2 * k] = p;
         places[2 * k + 1] = next;
         p = next;
-        k += 1;
     }
     Reading {
         refusal: 0,
@@ -97,36 +93,23 @@ fn same_bytes(s: &[u8], from: usize, size: usize, other: usize, width: usize) ->
     equal(s, from, s, other, size)
 }
 
-#[derive(Clone, Copy)]
-pub enum Repeat {
-    At(usize),
-    Nothing,
-}
-
 // The first equal pair of the first `count` identifiers, the later one outside: the number of the later one.
-pub fn repeated_one(s: &[u8], ids: &Places, count: usize) -> Repeat
+pub fn repeated_one(s: &[u8], ids: &Places, count: usize) -> Option<usize>
     requires { (count ≤ limits.components) × InBytes ids.now count (length s.now) }
     ensures { result ≡ repeated s.now ids.now count }
 {
-    let mut j = 0;
-    let found = 'pairs: loop {
-        if count <= j {
-            break 'pairs Repeat::Nothing;
-        }
+    for j in 0..count {
         let later = ids[2 * j];
         let size = ids[2 * j + 1] - later;
-        let mut i = 0;
-        while i < j {
+        for i in 0..j {
             let earlier = ids[2 * i];
             let width = ids[2 * i + 1] - earlier;
             if same_bytes(s, later, size, earlier, width) {
-                break 'pairs Repeat::At(j);
+                return Some(j);
             }
-            i += 1;
         }
-        j += 1;
-    };
-    found
+    }
+    None
 }
 
 // The component list: how many identifiers, and their places.
@@ -139,18 +122,16 @@ pub fn components(s: &[u8], end: usize, at: usize, ids: &mut Places) -> Reading
         return h;
     }
     let r = identifiers(s, end, h.at, h.value, ids);
-    match repeated_one(s, ids, r.value) {
-        Repeat::At(j) => refuse(Refusal::RepeatedIdentifier, ids[2 * j]),
-        Repeat::Nothing => {
-            let refusal = r.refusal;
-            if refusal != 0 {
-                return Reading {
-                    refusal,
-                    at: r.at,
-                    value: 0,
-                };
-            }
-            r
-        }
+    if let Some(j) = repeated_one(s, ids, r.value) {
+        return refuse(Refusal::RepeatedIdentifier, ids[2 * j]);
     }
+    let refusal = r.refusal;
+    if refusal != 0 {
+        return Reading {
+            refusal,
+            at: r.at,
+            value: 0,
+        };
+    }
+    r
 }

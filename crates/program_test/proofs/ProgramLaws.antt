@@ -21,8 +21,7 @@ use Rattle.rules.proofs.BytesLaws.{num_2, num_4}
 use Rattle.rules.proofs.GotLaws.{and-true}
 use Rattle.rules.proofs.SameLaws.{same_lengths}
 use Rattle.run_slot_search.specs.Search.{names_at}
-use Rattle.component_ids.specs.declared.Repeat.{Repeat}
-use Rattle.component_ids.specs.declared.Repeat.TheVariants.{At, Nothing}
+use Rattle.std.specs.Prelude.{Option, is_some}
 use Rattle.component_ids.specs.Identifiers.{repeated}
 use Rattle.program_records.specs.declared.Records.{Records}
 use Rattle.program_test.specs.declared.test.Tested.{Tested}
@@ -33,7 +32,7 @@ use Rattle.program_names.specs.Names.{NamesAre}
 use Rattle.program_test.specs.Test.{start_fits, no_program, TestedAs}
 use Rattle.program_names.proofs.NameLaws.{Named, none_named, all_named}
 use Rattle.program_parameters.proofs.PartLaws.{same_3}
-use Rattle.program_test.proofs.RepeatLaws.{again, repeated_law}
+use Rattle.program_test.proofs.RepeatLaws.{repeated_law}
 
 module _ (m : ℕ) where
   pub install : m ≡ 0 → group_in m ≡ some Install
@@ -207,16 +206,16 @@ module _ (p : Bytes) (g : Group) (n m : ℕ) (h : Front p g n m) where
       on-names : program_in p ≡ (need (not (repeats ids)) >>= λ _. records >>= finish p g ids)
       on-names = on ∙ rw read.reads
 
-      module _ (w : Repeat) (v : w ≡ repeated p a n) where
-        repeats-is : (b : Bool) → again w ≡ b → repeats ids ≡ b
-        repeats-is b o = sym (repeated_law p a n) ∙ ap again (sym v) ∙ o
+      module _ (w : Option ℕ) (v : w ≡ repeated p a n) where
+        repeats-is : (b : Bool) → is_some w ≡ b → repeats ids ≡ b
+        repeats-is b o = sym (repeated_law p a n) ∙ ap is_some (sym v) ∙ o
 
-        pub repeat_refused : (x : Tested) (j : ℕ) → w ≡ At j → x ≡ no_program → TestedAs p (program_in p) x
-        repeat_refused x j o b = rw (on-names, repeats-is true (ap again o)) b
+        pub repeat_refused : (x : Tested) → is_some w ≡ true → x ≡ no_program → TestedAs p (program_in p) x
+        repeat_refused x o b = rw (on-names, repeats-is true o) b
 
-        module _ (o : w ≡ Nothing) where
+        module _ (o : is_some w ≡ false) where
           on-records : program_in p ≡ (records >>= finish p g ids)
-          on-records = on-names ∙ rw (repeats-is false (ap again o))
+          on-records = on-names ∙ rw (repeats-is false o)
 
           module _ (r : Records) (u : r ≡ records_are (length p) records) where
             abbrev Answer : Tested → Type 0

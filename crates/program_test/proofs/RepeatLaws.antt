@@ -9,8 +9,7 @@ use Rattle.rules.specs.Bytes.{Bytes, span_at, bytes_at, same, member, repeats}
 use Rattle.rules.specs.Slots.{numbers}
 use Rattle.rules.proofs.SameLaws.{same_sym}
 use Rattle.run_slot_search.specs.Search.{names_at}
-use Rattle.component_ids.specs.declared.Repeat.{Repeat}
-use Rattle.component_ids.specs.declared.Repeat.TheVariants.{At, Nothing}
+use Rattle.std.specs.Prelude.{Option, Some, is_some}
 use Rattle.component_ids.specs.Identifiers.{among, search_from, repeated}
 use Rattle.program_names.proofs.NameLaws.{names_more}
 
@@ -34,10 +33,6 @@ repeats-more (y ∷ xs) x = rw (member-more y x xs, repeats-more xs x, same_sym 
     turn false true c d = refl
     turn false false c d = refl
 
-abbrev pub again : Repeat → Bool
-again (At j) = true
-again Nothing = false
-
 module _ (s : Bytes) (a : List ℕ) where
   among-is : (j i k : ℕ) → among s a j i k ≡ member (bytes_at s (span_at a j)) (map (λ x. bytes_at s (span_at a x)) (numbers k i))
   unfolding among
@@ -54,16 +49,16 @@ module _ (s : Bytes) (a : List ℕ) where
   kept zero j e = let z : j + 0 ≡ j = omega arith in rw z e
   kept (suc k) j e = let z : j + suc k ≡ suc j + k = omega arith in rw z (kept k (suc j) (names-turn j ∙ rw e))
 
-  found-again : (k j : ℕ) → repeats (names_at s a j) ≡ false → again (search_from s a j k) ≡ repeats (names_at s a (j + k))
+  found-again : (k j : ℕ) → repeats (names_at s a j) ≡ false → is_some (search_from s a j k) ≡ repeats (names_at s a (j + k))
   unfolding search_from
   found-again zero j e = let z : j + 0 ≡ j = omega arith in rw (z, e)
   found-again (suc k) j e = let z : j + suc k ≡ suc j + k = omega arith in rw z (go (among s a j 0 j) refl (found-again k (suc j)))
     where
-      go : (b : Bool) → among s a j 0 j ≡ b → (repeats (names_at s a (suc j)) ≡ false → again (search_from s a (suc j) k) ≡ repeats (names_at s a (suc j + k))) →
-          again (elim b as (λ _. Repeat) [ true ↦ At j | false ↦ search_from s a (suc j) k ]) ≡ repeats (names_at s a (suc j + k))
+      go : (b : Bool) → among s a j 0 j ≡ b → (repeats (names_at s a (suc j)) ≡ false → is_some (search_from s a (suc j) k) ≡ repeats (names_at s a (suc j + k))) →
+          is_some (elim b as (λ _. Option ℕ) [ true ↦ Some j | false ↦ search_from s a (suc j) k ]) ≡ repeats (names_at s a (suc j + k))
       go true f ih = sym (kept k (suc j) (names-turn j ∙ rw (e, f)))
       go false f ih = ih (names-turn j ∙ rw (e, f))
 
-  pub repeated_law : (n : ℕ) → again (repeated s a n) ≡ repeats (names_at s a n)
+  pub repeated_law : (n : ℕ) → is_some (repeated s a n) ≡ repeats (names_at s a n)
   unfolding repeated
   repeated_law n = let z : 0 + n ≡ n = omega arith in found-again n 0 refl ∙ rw z

@@ -5,7 +5,7 @@ ghost use Rattle.rules.specs.ProgramTest as Rule;
 ghost use Rattle.program_test.specs.Test.{start_fits, no_program, TestedAs};
 
 use byte_buffer::{four, two, wide};
-use component_ids::{Repeat, repeated_one};
+use component_ids::repeated_one;
 use program_names::test_names;
 use program_records::test_records;
 use rules::answers::Group;
@@ -101,9 +101,9 @@ pub fn test_program(p: &[u8]) -> Tested
     if from == 0 {
         return bad();
     }
-    let Repeat::Nothing = repeated_one(p, &ids, components) else {
+    if repeated_one(p, &ids, components).is_some() {
         return bad();
-    };
+    }
     let table = tables();
     let r = test_records(p, &table, from, group, components, records);
     let next = r.next;

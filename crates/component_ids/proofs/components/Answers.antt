@@ -2,12 +2,12 @@ use Prim.Native.Nat.{ℕ, ◌<◌}
 use mathlib.Core.Path.{◌≡◌, ◌∙◌}
 use native.Mathlib.Omega.{arith}
 use Rattle.rules.specs.Limits.{limits}
-use Rattle.component_ids.specs.declared.Repeat.TheVariants.{At}
+use Rattle.std.specs.Prelude.{Some}
 use Rattle.component_ids.proofs.IdentifierLaws.{components_stop, components-head, components-places, repeated-below, components-repeated, components-refused, components-good}
 use Rattle.component_ids.proofs.components.Goals as goal
 use Rattle.component_ids.proofs.components.Goals.{After-repeated_one}
 
-below : (c : After-repeated_one) (j : ℕ) → c.repeated_one.result ≡ At j → j < limits.components
+below : (c : After-repeated_one) (j : ℕ) → c.repeated_one.result ≡ Some j → j < limits.components
 below c j g =
     let (f, _) = components-places _ _ _ _ c.item-h.ensures c.if-h-ne0.false _ _ _ c.identifiers-r.ensures c.requires in
     let l = repeated-below _ _ _ _ c.item-h.ensures c.if-h-ne0.false _ _ _ c.identifiers-r.ensures _ c.repeated_one.ensures j g in
@@ -25,26 +25,26 @@ repeated_one-requires c =
     c.requires
 
 pub overflow_mul-j : goal.overflow_mul-j
-overflow_mul-j c = omega (arith, below (goal.at.overflow_mul-j c).After-repeated_one _ c.in-At.is)
+overflow_mul-j c = omega (arith, below (goal.at.overflow_mul-j c).After-repeated_one _ c.in-Some.is)
 
 pub offset_bounds-ids-j : goal.offset_bounds-ids-j
-offset_bounds-ids-j c = omega (arith, below (goal.at.offset_bounds-ids-j c).After-repeated_one _ c.in-At.is)
+offset_bounds-ids-j c = omega (arith, below (goal.at.offset_bounds-ids-j c).After-repeated_one _ c.in-Some.is)
 
 pub bounds-ids-j : goal.bounds-ids-j
-bounds-ids-j c = omega (arith, below (goal.at.bounds-ids-j c).After-repeated_one _ c.in-At.is)
+bounds-ids-j c = omega (arith, below (goal.at.bounds-ids-j c).After-repeated_one _ c.in-Some.is)
 
 pub returns-then-refusal-ne0 : goal.returns-then-refusal-ne0
 returns-then-refusal-ne0 c =
     components-refused _ _ _ _ c.item-h.ensures c.if-h-ne0.false _ _ _ c.identifiers-r.ensures _
-    c.repeated_one.ensures c.in-Nothing.is c.if-refusal-ne0.true
+    c.repeated_one.ensures c.in_default.is c.if-refusal-ne0.true
 
-pub returns-in-At : goal.returns-in-At
-returns-in-At c =
+pub returns-in-Some : goal.returns-in-Some
+returns-in-Some c =
     let (f, g) = components-repeated _ _ _ _ c.item-h.ensures c.if-h-ne0.false _ _ _
-    c.identifiers-r.ensures _ c.repeated_one.ensures _ c.in-At.is in
+    c.identifiers-r.ensures _ c.repeated_one.ensures _ c.in-Some.is in
     (c.refuse.ensures ∙ f, g)
 
-pub returns-else-refusal-ne0 : goal.returns-else-refusal-ne0
-returns-else-refusal-ne0 c =
+pub returns : goal.returns
+returns c =
     components-good _ _ _ _ c.item-h.ensures c.if-h-ne0.false _ _ _ c.identifiers-r.ensures _
-    c.repeated_one.ensures c.in-Nothing.is c.if-refusal-ne0.false
+    c.repeated_one.ensures c.in_default.is c.if-refusal-ne0.false

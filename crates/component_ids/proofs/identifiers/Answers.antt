@@ -5,22 +5,21 @@ use Rattle.component_ids.proofs.IdentifierLaws.{listing_start, listing_stop, lis
 use Rattle.component_ids.proofs.identifiers.Goals as goal
 
 pub loop-k-init : goal.loop-k-init
-loop-k-init c = (omega arith, search rules, search rules, listing_start _ _ _ _ _)
+loop-k-init c = (search rules, search rules, listing_start _ _ _ _ _)
 
 pub returns-then-refusal-ne0 : goal.returns-then-refusal-ne0
-returns-then-refusal-ne0 c = listing_stop _ _ _ _ _ _ _ _ c.loop-k.invariant.3 (omega arith) _ c.identifier-r.ensures c.if-refusal-ne0.true
+returns-then-refusal-ne0 c = listing_stop _ _ _ _ _ _ _ _ c.loop-k.invariant.2 (omega arith) _ c.identifier-r.ensures c.if-refusal-ne0.true
 
 pub bounds-places-k-in-loop-k : goal.bounds-places-k-in-loop-k
 bounds-places-k-in-loop-k c = lt-length-set c.loop-k.places _ _ (omega arith)
 
 pub loop-k-preserved : goal.loop-k-preserved
 loop-k-preserved c = (
-  omega arith,
   search rules,
   search rules,
-  listing-next _ _ _ _ _ _ _ _ c.loop-k.invariant.3 (omega arith) _ c.identifier-r.ensures c.loop-k.invariant.1
+  listing-next _ _ _ _ _ _ _ _ c.loop-k.invariant.2 (omega arith) _ c.identifier-r.ensures c.loop-k.invariant.0
       (omega arith) c.if-refusal-ne0.false,
 )
 
 pub returns : goal.returns
-returns c = listing-end _ _ _ _ _ _ _ _ c.loop-k.invariant.3 (omega arith)
+returns c = listing-end _ _ _ _ _ _ _ _ c.loop-k.invariant.2 (omega arith)

@@ -1,4 +1,3 @@
-use Prim.Native.Nat.{◌-◌, ◌≤◌}
 use mathlib.Core.Path.{◌≡◌}
 use lib.ListN.{length}
 use Rattle.rules.specs.Limits.{places}
@@ -6,7 +5,4 @@ use Rattle.component_ids.proofs.IdentifierLaws.{Sofar}
 use Rattle.component_ids.proofs.identifiers.Given as goal
 
 abbrev pub invariant-loop-k : goal.invariant-loop-k
-invariant-loop-k l = (l.k ≤ l.count) × (length l.initial.places ≡ places) × (length l.places ≡ places) × Sofar l.s l.count l.end l.at l.k l.p l.initial.places l.places
-
-abbrev pub decreases-loop-k : goal.decreases-loop-k
-decreases-loop-k l = l.count - l.k
+invariant-loop-k l = (length l.initial.places ≡ places) × (length l.places ≡ places) × Sofar l.s l.count l.end l.at l.k l.p l.initial.places l.places

@@ -45,10 +45,10 @@ repeated_one-requires c = (
   (read _ _ _ _ (front (goal.at.repeated_one-requires c).After-two-records) _ _ c.test_names-from.ensures c.if-from-eq0.false).within,
 )
 
-pub returns-in_default : goal.returns-in_default
-returns-in_default c =
-    repeat_refused _ _ _ _ (front (goal.at.returns-in_default c).After-two-records) _ _ c.test_names-from.ensures c.if-from-eq0.false
-    _ c.repeated_one.ensures _ _ c.in_default.is c.bad-in_default.ensures
+pub returns-then-is_some : goal.returns-then-is_some
+returns-then-is_some c =
+    repeat_refused _ _ _ _ (front (goal.at.returns-then-is_some c).After-two-records) _ _ c.test_names-from.ensures c.if-from-eq0.false
+    _ c.repeated_one.ensures _ (sym c.is_some.ensures ∙ c.if-is_some.true) c.bad-then-is_some.ensures
 
 pub test_records-r-requires : goal.test_records-r-requires
 test_records-r-requires c = (
@@ -60,12 +60,12 @@ test_records-r-requires c = (
 pub returns-then-next-p : goal.returns-then-next-p
 returns-then-next-p c =
     records-refused _ _ _ _ (front (goal.at.returns-then-next-p c).After-two-records) _ _ c.test_names-from.ensures c.if-from-eq0.false
-    _ c.repeated_one.ensures c.in-Nothing.is _ c.test_records-r.ensures _ c.if-next-p.true c.bad-then-next-p.ensures
+    _ c.repeated_one.ensures (sym c.is_some.ensures ∙ c.if-is_some.false) _ c.test_records-r.ensures _ c.if-next-p.true c.bad-then-next-p.ensures
 
 pub returns-then-commands-gt-COMMANDS : goal.returns-then-commands-gt-COMMANDS
 returns-then-commands-gt-COMMANDS c =
     commands-refused _ _ _ _ (front (goal.at.returns-then-commands-gt-COMMANDS c).After-two-records) _ _ c.test_names-from.ensures c.if-from-eq0.false
-    _ c.repeated_one.ensures c.in-Nothing.is _ c.test_records-r.ensures _ c.if-commands-gt-COMMANDS.true c.bad-then-commands-gt-COMMANDS.ensures
+    _ c.repeated_one.ensures (sym c.is_some.ensures ∙ c.if-is_some.false) _ c.test_records-r.ensures _ c.if-commands-gt-COMMANDS.true c.bad-then-commands-gt-COMMANDS.ensures
 
 pub four-requires : goal.four-requires
 four-requires c = omega (arith, (start (goal.at.four-requires c).Else-not-start_fits).room)
@@ -73,4 +73,4 @@ four-requires c = omega (arith, (start (goal.at.four-requires c).Else-not-start_
 pub returns : goal.returns
 returns c =
     program-good _ _ _ _ (front (goal.at.returns c).After-two-records) _ _ c.test_names-from.ensures c.if-from-eq0.false
-    _ c.repeated_one.ensures c.in-Nothing.is _ c.test_records-r.ensures _ c.four.ensures c.if-next-p.false c.if-commands-gt-COMMANDS.false
+    _ c.repeated_one.ensures (sym c.is_some.ensures ∙ c.if-is_some.false) _ c.test_records-r.ensures _ c.four.ensures c.if-next-p.false c.if-commands-gt-COMMANDS.false
