@@ -60,7 +60,8 @@ pub fn equal(a: &[u8], i: usize, b: &[u8], j: usize, n: usize) -> bool
     same
 }
 
-// The n bytes of s from `from` on, put over those of `room` from `to` on.
+// The n bytes of s from `from` on, put over those of `room` from `to` on. One after the other: copy_from_slice of a length that is not
+// constant calls memmove, and the library for C needs nothing from outside but memset.
 pub fn copy(s: &[u8], from: usize, n: usize, room: &mut [u8], to: usize)
     requires { (from + n ≤ length s.now) × (to + n ≤ length room.old) }
     ensures { room.new ≡ put room.old to (part s.now from n) }
