@@ -1,5 +1,5 @@
 -- The words of a command line, one after the other, each ended by a zero byte.
-use Rattle.std.specs.Prelude.{ℕ, zero, suc, ◌+◌, cond, [], ◌∷◌, ◌++◌, map, eqb, take, drop}
+use Rattle.std.specs.Prelude.{ℕ, zero, suc, cond, [], ◌∷◌, ◌++◌, map, eqb, take, drop, count_by}
 use Rattle.text.specs.Text.{Bytes, position}
 
 -- word k, the first of which is word 0; empty where there are fewer
@@ -8,12 +8,8 @@ word_at zero s = take (position 0 s) s
 word_at (suc k) s = word_at k (drop (suc (position 0 s)) s)
 
 -- how many there are: each ends once
-abbrev pub ends : ℕ → ℕ
-ends b = cond (eqb b 0) 1 0
-
-unfoldable pub word_count : Bytes → ℕ
-word_count [] = 0
-word_count (b ∷ s) = ends b + word_count s
+abbrev pub word_count : Bytes → ℕ
+word_count s = count_by (λ b. eqb b 0) s
 
 -- the words from word 1 on
 unfoldable pub later_words : Bytes → Bytes

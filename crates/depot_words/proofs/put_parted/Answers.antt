@@ -4,17 +4,17 @@ use Rattle.text.proofs.TextLaws.{wrote_none, wrote-length, each_next, each_all}
 use borrow.Author.Rules.{rules}
 use Rattle.depot_words.proofs.put_parted.Goals as goal
 
-pub loop-i-init : goal.loop-i-init
-loop-i-init c = (search rules, wrote_none _ _)
+pub loop-b-init : goal.loop-b-init
+loop-b-init c = wrote_none _ _
 
-pub loop-i-preserved : goal.loop-i-preserved
-loop-i-preserved c =
-    (search rules, each_next (map parted) (map-append parted) c.args.line.now c.loop-i.i (search rules) c.loop-i.invariant.1 (rw c.parted.ensures at c.put_byte-to.ensures))
+pub loop-b-preserved : goal.loop-b-preserved
+loop-b-preserved c =
+    each_next (map parted) (map-append parted) c.args.line.now c.loop-b.b-index (search rules) c.loop-b.invariant (rw c.parted.ensures at c.put_byte-to.ensures)
 
 pub shape_of-room : goal.shape_of-room
 shape_of-room c =
-    wrote-length c.loop-i.invariant.1
+    wrote-length c.loop-b.invariant
 
 pub returns : goal.returns
 returns c =
-    each_all (map parted) c.args.line.now c.loop-i.i (search rules) c.loop-i.invariant.1
+    each_all (map parted) c.args.line.now c.loop-b.b-index (search rules) c.loop-b.invariant

@@ -1,15 +1,17 @@
-use mathlib.Core.Path.{refl}
-use borrow.Author.Rules.{rules}
-use Rattle.depot_words.proofs.WordLaws.{later_part, word_later, word-here}
+use Prim.Native.Nat.{suc, ◌+◌}
+use mathlib.Core.Path.{◌≡◌, sym}
+use native.Mathlib.Omega.{arith}
+use Rattle.depot_words.specs.CommandLine.{word_at, later_words}
 use Rattle.depot_words.proofs.word_at.Goals as goal
 
-pub loop-left-init : goal.loop-left-init
-loop-left-init c = refl
-
-pub loop-left-preserved : goal.loop-left-preserved
-loop-left-preserved c =
-    word_later c.loop-left.rest.now _ _ c.loop-left.left (search rules) (later_part _ _ c.after_word-n.ensures.1) c.loop-left.invariant
+pub loop-preserved : goal.loop-preserved
+unfolding word_at later_words
+loop-preserved c = λ j.
+    let e : j + (c.loop.counter + 1) ≡ suc j + c.loop.counter = omega arith in
+    rw (e, c.later_words-rest.ensures) (c.loop.invariant (suc j))
 
 pub returns : goal.returns
+unfolding word_at
 returns c =
-    word-here c.loop-left.rest.now _ c.loop-left.left _ (search rules) c.position-n.ensures.0 c.loop-left.invariant
+    let e : c.args.k ≡ 0 + c.loop.counter = omega arith in
+    rw (e, c.position-n.ensures.0) (sym (c.loop.invariant 0))
