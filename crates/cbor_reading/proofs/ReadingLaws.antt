@@ -12,7 +12,7 @@ use Rattle.rules.specs.Check.{number}
 use Rattle.rules.proofs.CheckLaws.{item_law, bytes_after, text-after}
 use Rattle.rules.specs.Got.{Got, refused, got, ◌>>=◌}
 use Rattle.cbor_reading.specs.declared.Reading.{Reading}
-use Rattle.cbor_reading.specs.Reading.{view, head_reading, place_reading, reading}
+use Rattle.cbor_reading.specs.Reading.{view, head_reading, place_reading, place_of, reading}
 
 -- two that go on alike where the first gave a value
 pub alike : {A B : Type 0} (x : Got A) (f g : A → Got B) → ((a : A) → x ≡ got a → f a ≡ g a) → (x >>= f) ≡ (x >>= g)
@@ -74,6 +74,14 @@ module _ (x : Got ℕ) where
 
   pub place_went : (r : Reading) → Ok r ≡ place_reading x → x ≡ got r.at
   place_went r q = let (a, y, p, v) = went (λ p. p) (λ p. 0) x r q in y ∙ ap got (sym p)
+
+pub place_of-stopped : (x : Got ℕ) (f : Fault) → Err f ≡ place_of x → x ≡ refused f.refusal f.at
+place_of-stopped (refused k q) f e = let g : f ≡ record { refusal = k; at = q } = cc in rw g
+place_of-stopped (got p) f e = absurd cc
+
+pub place_of-went : (x : Got ℕ) (p : ℕ) → Ok p ≡ place_of x → x ≡ got p
+place_of-went (refused k q) p e = absurd cc
+place_of-went (got a) p e = let g : p ≡ a = cc in rw g
 
 -- of something and the place after it: one that stopped, and one that went on
 module _ {A : Type 0} (f : A → ℕ) (x : Got (A × ℕ)) where

@@ -30,6 +30,11 @@ item_reading = view Cbor.after (λ h. 0)
 abbrev pub place_reading : Got ℕ → Result Reading Fault
 place_reading = view (λ p. p) (λ p. 0)
 
+-- of a place alone, as it is
+abbrev pub place_of : Got ℕ → Result ℕ Fault
+place_of (refused r p) = fault r p
+place_of (got p) = Ok p
+
 -- of something and the place after it: f of it
 abbrev pub reading : {A : Type 0} → (A → ℕ) → Got (A × ℕ) → Result Reading Fault
 reading f = view (λ a. a.1) (λ a. f a.0)

@@ -10,7 +10,6 @@ use lib.Dec.{leb}
 use lib.ListN.{length, get_or, drop, set, length-append, get_or-append}
 use lib.Seq.{get_or-append_seam, drop-cons}
 use borrow.Author.Tests.{le-leb, lt-leb}
-use Rattle.rules.specs.declared.answers.Refusal.{Refusal}
 use Rattle.rules.specs.declared.answers.Refusal.TheVariants.{Malformed, RepeatedIdentifier}
 use Rattle.rules.specs.Limits.{limits, places}
 use Rattle.rules.specs.Bytes.{Bytes, span_at, InBytes, Span, span, part, bytes_at, same, member}
@@ -21,12 +20,13 @@ use Rattle.rules.proofs.CheckLaws.{Item, item_law, strings_law}
 use Rattle.rules.proofs.GotLaws.{passed, split, both}
 use Rattle.rules.proofs.BytesLaws.{length_part}
 use Rattle.rules.proofs.SameLaws.{same_lengths}
+use Rattle.rules.specs.declared.answers.Fault.{Fault}
 use Rattle.cbor_reading.specs.declared.Reading.{Reading}
-use Rattle.std.specs.Prelude.{Option, Some, None}
-use Rattle.component_ids.specs.Identifiers.{flat_spans, laid, plain, Listing, onward, listing, ids_read, listed_as, listed, equal, among, search_from, repeated}
-use Rattle.cbor_reading.specs.Reading.{fault, ends, head_reading, place_reading, reading}
-use Rattle.cbor_reading.proofs.ReadingLaws.{stopped, alike, bind_assoc, item-stopped, item_went, place-stopped, place_went}
-use Rattle.rules.proofs.AnswerLaws.{not-zero}
+use Rattle.component_ids.specs.declared.Listed.{Listed}
+use Rattle.std.specs.Prelude.{Option, Some, None, Result, Ok, Err}
+use Rattle.component_ids.specs.Identifiers.{flat_spans, laid, plain, Listing, onward, listing, ids_read, listed, equal, among, search_from, repeated}
+use Rattle.cbor_reading.specs.Reading.{fault, ends, head_reading, place_of, reading}
+use Rattle.cbor_reading.proofs.ReadingLaws.{alike, bind_assoc, item-stopped, item_went, place_of-stopped, place_of-went}
 
 module _ (s : Bytes) where
   -- the identifiers xs after those of `before`, read to that end
@@ -151,13 +151,12 @@ module _ (s : Bytes) (e p : ℕ) where
   strings-turn (suc n) l = let k : suc n - 1 ≡ n = omega arith in rw k
 
   -- the first of n strings, as the code read it
-  module _ (n : ℕ) (h : Reading) (q : h ≡ head_reading (item BYTES 0 limits.largest s e p)) where
-    pub strings_stop : 0 < n → (h.refusal ≡ 0 → ⊥) → h ≡ place_reading (strings s n e p)
-    strings_stop l t =
-        stopped (λ x. x.next) (λ x. x.num) (item BYTES 0 limits.largest s e p) h q (λ x. x) (λ x. 0) (λ x. strings s (n - 1) e (after x)) t ∙ ap place_reading (sym (strings-turn n l))
+  module _ (n : ℕ) (l : 0 < n) where
+    pub strings_stop : {f : Fault} → Err f ≡ head_reading (item BYTES 0 limits.largest s e p) → strings s n e p ≡ refused f.refusal f.at
+    strings_stop q = strings-turn n l ∙ rw (item-stopped s BYTES 0 limits.largest e p _ q)
 
-    pub strings-next : 0 < n → h.refusal ≡ 0 → strings s n e p ≡ strings s (n - 1) e (h.at + h.value)
-    strings-next l z = strings-turn n l ∙ rw (item_went s BYTES 0 limits.largest e p h q z)
+    pub strings-next : {h : Reading} → Ok h ≡ head_reading (item BYTES 0 limits.largest s e p) → strings s n e p ≡ strings s (n - 1) e (h.at + h.value)
+    strings-next q = strings-turn n l ∙ rw (item_went s BYTES 0 limits.largest e p _ q)
 
 pub same_unlike : (s : Bytes) (a n b m : ℕ) → (a + n ≤ length s) × (b + m ≤ length s) → (n ≡ m → ⊥) → same (part s a n) (part s b m) ≡ false
 same_unlike s a n b m (f, g) d = same_lengths (part s a n) (part s b m) (λ q. d (omega (arith, length_part s a n f, length_part s b m g)))
@@ -178,32 +177,28 @@ module _ (s : Bytes) (e at : ℕ) where
       rw (← k) (forward h next' q q')
 
   -- an identifier by its head and its strings, as the code read them
-  module _ (h : Reading) (q : h ≡ head_reading (item ARRAY 1 limits.parts s e at)) where
-    pub plain_stop : (h.refusal ≡ 0 → ⊥) → h ≡ place_reading (plain s e at)
-    plain_stop t =
-        stopped (λ x. x.next) (λ x. x.num) (item ARRAY 1 limits.parts s e at) h q (λ x. x) (λ x. 0) (λ x. strings s x.num e x.next >>= rest s at) t
-        ∙ ap place_reading (sym (plain-is s e at))
+  pub plain_stop : {f : Fault} → Err f ≡ head_reading (item ARRAY 1 limits.parts s e at) → plain s e at ≡ refused f.refusal f.at
+  plain_stop q = plain-is s e at ∙ rw (item-stopped s ARRAY 1 limits.parts e at _ q)
 
-    module _ (z : h.refusal ≡ 0) (r : Reading) (q' : r ≡ place_reading (strings s h.value e h.at)) where
-      plain-rest : plain s e at ≡ (strings s h.value e h.at >>= rest s at)
-      plain-rest = plain-is s e at ∙ ap (λ (x : Got Head). x >>= λ y. strings s y.num e y.next >>= rest s at) (item_went s ARRAY 1 limits.parts e at h q z)
+  module _ (h : Reading) (q : Ok h ≡ head_reading (item ARRAY 1 limits.parts s e at)) where
+    plain-rest : plain s e at ≡ (strings s h.value e h.at >>= rest s at)
+    plain-rest = plain-is s e at ∙ rw (item_went s ARRAY 1 limits.parts e at _ q)
 
-      pub strings-stopped : (r.refusal ≡ 0 → ⊥) → r ≡ place_reading (plain s e at)
-      strings-stopped t =
-          stopped (λ x. x) (λ x. 0) (strings s h.value e h.at) r q' (λ x. x) (λ x. 0) (rest s at) t ∙ ap place_reading (sym plain-rest)
+    pub strings-stopped : {f : Fault} → Err f ≡ place_of (strings s h.value e h.at) → plain s e at ≡ refused f.refusal f.at
+    strings-stopped q' = plain-rest ∙ rw (place_of-stopped (strings s h.value e h.at) _ q')
 
-      module _ (z' : r.refusal ≡ 0) where
-        ended : strings s h.value e h.at ≡ got r.at
-        ended = place_went (strings s h.value e h.at) r q' z'
+    module _ (next : ℕ) (q' : Ok next ≡ place_of (strings s h.value e h.at)) where
+      ended : strings s h.value e h.at ≡ got next
+      ended = place_of-went (strings s h.value e h.at) _ q'
 
-        pub forth : (at < r.at) × (r.at ≤ e)
-        forth = forward _ r.at (item_went s ARRAY 1 limits.parts e at h q z) ended
+      pub forth : (at < next) × (next ≤ e)
+      forth = forward _ next (item_went s ARRAY 1 limits.parts e at _ q) ended
 
-        pub plain-long : limits.identifier < r.at - at → fault Malformed at ≡ place_reading (plain s e at)
-        plain-long l = let g : plain s e at ≡ refused Malformed at = plain-rest ∙ rw (ended, lt-leb _ _ l) in ap place_reading (sym g)
+      pub plain-long : limits.identifier < next - at → plain s e at ≡ refused Malformed at
+      plain-long l = plain-rest ∙ rw (ended, lt-leb _ _ l)
 
-        pub plain-good : r.at - at ≤ limits.identifier → r ≡ place_reading (plain s e at)
-        plain-good l = q' ∙ ap place_reading (ended ∙ sym (plain-rest ∙ rw (ended, le-leb _ _ l)))
+      pub plain-good : next - at ≤ limits.identifier → plain s e at ≡ got next
+      plain-good l = plain-rest ∙ rw (ended, le-leb _ _ l)
 
 -- two numbers stored after the places ps
 stored : (ps : List Span) (u v : ℕ) (t : List ℕ) (x y : ℕ) →
@@ -244,36 +239,34 @@ module _ (s : Bytes) (n e at : ℕ) where
   listing_none p m z = rw z
 
   -- as the code answers
-  abbrev Answers : Reading → List ℕ → List ℕ → Type 0
+  abbrev Answers : Listed → List ℕ → List ℕ → Type 0
   Answers r a₀ a = (r ≡ listed (listing s n e at)) × (a ≡ laid (listing s n e at).ids a₀)
 
   module _ (k p : ℕ) (a₀ a : List ℕ) (f : Sofar s n e at k p a₀ a) where
-    pub listing-end : k ≡ n → Answers (ends p n) a₀ a
+    pub listing-end : k ≡ n → Answers (record { count = n; end = Ok p }) a₀ a
     listing-end q =
         let g : listing s n e at ≡ record { ids = f.ids; end = got p } =
         f.all ∙ ap (more f.ids) (listing_none p (n - k) (omega arith)) ∙ rw append-nil in
         rw g (rw (f.count, q), f.lie)
 
-    module _ (l : k < n) (r : Reading) (q : r ≡ place_reading (plain s e p)) where
-      stop_as : (x : Refusal) (y : ℕ) → plain s e p ≡ refused x y → r ≡ fault x y → Answers (record { refusal = r.refusal; at = r.at; value = k }) a₀ a
-      stop_as x y u v =
-          let d : listing s (n - k) e p ≡ record { ids = []; end = refused x y } = listing-turn p (n - k) (omega arith) ∙ rw u in
-          let g : listing s n e at ≡ record { ids = f.ids; end = refused x y } = f.all ∙ ap (more f.ids) d ∙ rw append-nil in
-          rw (g, v) (rw f.count, f.lie)
+    module _ (l : k < n) where
+      pub listing_stop : {d : Fault} → Err d ≡ place_of (plain s e p) → Answers (record { count = k; end = Err d }) a₀ a
+      listing_stop {d} q =
+          let u : plain s e p ≡ refused d.refusal d.at = place_of-stopped (plain s e p) _ q in
+          let w : listing s (n - k) e p ≡ record { ids = []; end = refused d.refusal d.at } = listing-turn p (n - k) (omega arith) ∙ rw u in
+          let g : listing s n e at ≡ record { ids = f.ids; end = refused d.refusal d.at } = f.all ∙ ap (more f.ids) w ∙ rw append-nil in
+          rw g (rw f.count, f.lie)
 
-      pub listing_stop : (r.refusal ≡ 0 → ⊥) → Answers (record { refusal = r.refusal; at = r.at; value = k }) a₀ a
-      listing_stop t = let x = place-stopped (plain s e p) r q t in stop_as x.refusal x.place x.was x.is
-
-      pub listing-next : length a₀ ≡ places → n ≤ limits.components → r.refusal ≡ 0 → Sofar s n e at (k + 1) r.at a₀ (set (set a (2 * k) p) (2 * k + 1) r.at)
-      listing-next w b z =
-          let g' : plain s e p ≡ got r.at = place_went (plain s e p) r q z in
+      pub listing-next : {next : ℕ} → Ok next ≡ place_of (plain s e p) → length a₀ ≡ places → n ≤ limits.components →
+          Sofar s n e at (k + 1) next a₀ (set (set a (2 * k) p) (2 * k + 1) next)
+      listing-next {next} q w b =
           let i : n - k - 1 ≡ n - (k + 1) = omega arith in
-          let d : listing s (n - k) e p ≡ onward p (got r.at) (λ x. listing s (n - (k + 1)) e x) = listing-turn p (n - k) (omega arith) ∙ rw (g', i) in
+          let d : listing s (n - k) e p ≡ onward p (got next) (λ x. listing s (n - (k + 1)) e x) = listing-turn p (n - k) (omega arith) ∙ rw (place_of-went (plain s e p) _ q, i) in
           record {
-            ids = f.ids ++ (span p r.at ∷ []);
-            count = length-append f.ids (span p r.at ∷ []) ∙ omega (arith, f.count);
+            ids = f.ids ++ (span p next ∷ []);
+            count = length-append f.ids (span p next ∷ []) ∙ omega (arith, f.count);
             all = f.all ∙ ap (more f.ids) d ∙ rw append_assoc;
-            lie = rw (f.lie, ← f.count) (laid_next f.ids a₀ p r.at (omega (arith, f.count)));
+            lie = rw (f.lie, ← f.count) (laid_next f.ids a₀ p next (omega (arith, f.count)));
           }
 
 -- every place of the listing lies before the end
@@ -362,20 +355,6 @@ listing-count s (suc n) e at = go (plain s e at) (λ next. listing-count s n e n
     go (refused r p) ih = omega arith
     go (got next) ih = omega (arith, ih next)
 
-value_as : (n : ℕ) (x : Got ℕ) → (listed_as n x).value ≡ n
-value_as n (refused k p) = refl
-value_as n (got q) = refl
-
-module _ (ids : List Span) (r : Reading) where
-  listed_stop : (x : Got ℕ) → r ≡ listed_as (length ids) x → (r.refusal ≡ 0 → ⊥) →
-      record { refusal = r.refusal; at = r.at; value = 0 } ≡ reading length (x >>= λ q. got (ids, q))
-  listed_stop (refused k p) e t = rw e
-  listed_stop (got q) e t = absurd (t (ap (λ (y : Reading). y.refusal) e))
-
-  listed_went : (x : Got ℕ) → r ≡ listed_as (length ids) x → r.refusal ≡ 0 → r ≡ reading length (x >>= λ q. got (ids, q))
-  listed_went (refused k p) e z = absurd (not-zero k (ap (λ (y : Reading). y.refusal) (sym e) ∙ z))
-  listed_went (got q) e z = e
-
 outcome-ids : (s : Bytes) (a : List ℕ) (w : Option ℕ) (ids : List Span) (end : Got ℕ) (ids' : List Span) (p : ℕ) → outcome s a w ids end ≡ got (ids', p) → ids' ≡ ids
 outcome-ids s a (Some j) ids end ids' p g = let z : ◌≡◌ {A = ℕ} 0 1 = cc in absurd (omega arith)
 outcome-ids s a None ids end ids' p g = split _ end _ (ids', p) g λ q qe g'. sym (both g').0
@@ -400,52 +379,37 @@ ids-inside s e at ids p a f g =
     subst (λ (x : List Span). InBytes (laid x a) (length x) (length s)) w (in_bytes_lem s h.num e h.next a (omega (arith, i.mid, i.fits)) f)
 
 -- the component list by its head, as the code read it
-module _ (s : Bytes) (e at : ℕ) (h : Reading) (q : h ≡ head_reading (item ARRAY 1 limits.components s e at)) where
-  abbrev Outcome : Reading → List ℕ → List ℕ → Type 0
+module _ (s : Bytes) (e at : ℕ) where
+  -- what is promised of it, and of the array b that was a
+  abbrev Outcome : Result Reading Fault → List ℕ → List ℕ → Type 0
   Outcome r a b = (r ≡ reading length (components s e at)) × (b ≡ laid (ids_read s e at) a)
 
-  none_read : (k : Refusal) (p : ℕ) → item ARRAY 1 limits.components s e at ≡ refused k p → ids_read s e at ≡ []
-  unfolding ids_read
-  none_read k p g = rw g
+  pub components_stop : {f : Fault} → Err f ≡ head_reading (item ARRAY 1 limits.components s e at) → (a : List ℕ) → Outcome (Err f) a a
+  unfolding components ids_read
+  components_stop q a = let g = item-stopped s ARRAY 1 limits.components e at _ q in (rw g, rw g)
 
-  pub components_stop : (a : List ℕ) → (h.refusal ≡ 0 → ⊥) → Outcome h a a
-  unfolding components
-  components_stop a t =
-      let x = item-stopped s ARRAY 1 limits.components e at h q t in (
-        stopped (λ x. x.next) (λ x. x.num) (item ARRAY 1 limits.components s e at) h q (λ x. x.1) (λ x. length x.0) (λ x. identifiers s x.num [] e x.next) t,
-        rw (none_read x.refusal x.place x.was),
-      )
-
-  module _ (z : h.refusal ≡ 0) where
+  module _ (h : Reading) (q : Ok h ≡ head_reading (item ARRAY 1 limits.components s e at)) where
     pub components-head : (h.value ≤ limits.components) × (h.at ≤ e)
-    components-head = let i = item_law s ARRAY 1 limits.components e at _ (item_went s ARRAY 1 limits.components e at h q z) in (i.high, omega (arith, i.mid, i.fits))
+    components-head = let i = item_law s ARRAY 1 limits.components e at _ (item_went s ARRAY 1 limits.components e at _ q) in (i.high, omega (arith, i.mid, i.fits))
 
     components-rest : (components s e at ≡ identifiers s h.value [] e h.at) × (ids_read s e at ≡ (listing s h.value e h.at).ids)
     unfolding components ids_read
-    components-rest = let g = item_went s ARRAY 1 limits.components e at h q z in (rw g, rw g)
+    components-rest = let g = item_went s ARRAY 1 limits.components e at _ q in (rw g, rw g)
 
     -- its identifiers, in the array b that was a
-    module _ (a b : List ℕ) (r : Reading) (l : (r ≡ listed (listing s h.value e h.at)) × (b ≡ laid (listing s h.value e h.at).ids a)) where
-      how_many : r.value ≡ length (listing s h.value e h.at).ids
-      how_many = ap (λ (y : Reading). y.value) l.0 ∙ value_as (length (listing s h.value e h.at).ids) (listing s h.value e h.at).end
-
+    module _ (a b : List ℕ) (r : Listed) (l : (r ≡ listed (listing s h.value e h.at)) × (b ≡ laid (listing s h.value e h.at).ids a)) where
       kept : b ≡ laid (ids_read s e at) a
       kept = rw components-rest.1 l.1
 
-      pub components-places : e ≤ length s → (r.value ≤ limits.components) × InBytes b r.value (length s)
-      components-places f = (
-        omega (arith, how_many, listing-count s h.value e h.at, components-head.0),
-        subst (λ (n : ℕ). InBytes b n (length s)) (sym how_many)
-            (subst (λ (y : List ℕ). InBytes y (length (listing s h.value e h.at).ids) (length s)) (sym l.1)
-            (in_bytes_lem s h.value e h.at a components-head.1 f)),
-      )
+      pub components-places : e ≤ length s → (r.count ≤ limits.components) × InBytes b r.count (length s)
+      components-places f = rw (l.0, l.1) (omega (arith, listing-count s h.value e h.at, components-head.0), in_bytes_lem s h.value e h.at a components-head.1 f)
 
-      module _ (w : Option ℕ) (f : w ≡ repeated s b r.value) where
+      module _ (w : Option ℕ) (f : w ≡ repeated s b r.count) where
         components-is : components s e at ≡ outcome s b w (listing s h.value e h.at).ids (listing s h.value e h.at).end
-        components-is = components-rest.0 ∙ identifiers_law s h.value e h.at a ∙ rw (f, how_many, l.1)
+        components-is = components-rest.0 ∙ identifiers_law s h.value e h.at a ∙ rw (f, l.0, l.1)
 
-        pub repeated-below : (j : ℕ) → w ≡ Some j → j < r.value
-        repeated-below j g = repeated_in s b r.value j (sym f ∙ g)
+        pub repeated-below : (j : ℕ) → w ≡ Some j → j < r.count
+        repeated-below j g = repeated_in s b r.count j (sym f ∙ g)
 
         pub components-repeated : (j : ℕ) → w ≡ Some j → Outcome (fault RepeatedIdentifier (get_or b (2 * j) 0)) a b
         components-repeated j g =
@@ -456,14 +420,12 @@ module _ (s : Bytes) (e at : ℕ) (h : Reading) (q : h ≡ head_reading (item AR
           components-new : components s e at ≡ ((listing s h.value e h.at).end >>= λ p. got ((listing s h.value e h.at).ids, p))
           components-new = components-is ∙ rw g
 
-          pub components-refused : (r.refusal ≡ 0 → ⊥) → Outcome (record { refusal = r.refusal; at = r.at; value = 0 }) a b
-          components-refused t = (
-            listed_stop (listing s h.value e h.at).ids r (listing s h.value e h.at).end l.0 t ∙ ap (reading length) (sym components-new),
-            kept,
-          )
+          pub components-refused : {d : Fault} → r.end ≡ Err d → Outcome (Err d) a b
+          components-refused z =
+              let x = place_of-stopped (listing s h.value e h.at).end _ (sym z ∙ ap (λ (y : Listed). y.end) l.0) in
+              (rw (components-new, x), kept)
 
-          pub components-good : r.refusal ≡ 0 → Outcome r a b
-          components-good z = (
-            listed_went (listing s h.value e h.at).ids r (listing s h.value e h.at).end l.0 z ∙ ap (reading length) (sym components-new),
-            kept,
-          )
+          pub components-good : {next : ℕ} → r.end ≡ Ok next → Outcome (ends next r.count) a b
+          components-good z =
+              let x = place_of-went (listing s h.value e h.at).end _ (sym z ∙ ap (λ (y : Listed). y.end) l.0) in
+              (rw (components-new, x, l.0), kept)

@@ -1,13 +1,12 @@
 -- Identifiers as check reads them: all of the list, or up to the first that is refused; then the search for a repeated one.
 use Rattle.std.specs.Prelude.{ℕ, zero, suc, ◌*◌, List, [], ◌∷◌, ◌++◌, Bool, true, false, ◌||◌, length, drop, Option, Some, None}
-use Rattle.rules.specs.Answers.{refusal_number}
 use Rattle.rules.specs.Limits.{limits}
 use Rattle.rules.specs.Bytes.{Bytes, Span, span, bytes_at, span_at, same}
 use Rattle.rules.specs.Got.{Got, refused, got, ◌>>=◌}
 use Rattle.rules.specs.Cbor.{ARRAY, Head, item}
 use Rattle.rules.specs.Check.{identifier}
-use Rattle.cbor_reading.specs.declared.Reading.{Reading}
-use Rattle.cbor_reading.specs.Reading.{ends}
+use Rattle.cbor_reading.specs.Reading.{place_of}
+use Rattle.component_ids.specs.declared.Listed.{Listed}
 
 -- what a head that was accepted leads to
 abbrev pub under : Got Head → (Head → List Span) → List Span
@@ -65,10 +64,6 @@ module _ (s : Bytes) where
   unfoldable pub repeated : List ℕ → ℕ → Option ℕ
   repeated a n = search_from a 0 n
 
--- how the reading ended, and how many were read, on a refusal too
-abbrev pub listed_as : ℕ → Got ℕ → Reading
-listed_as n (refused r p) = record { refusal = refusal_number r; at = p; value = n }
-listed_as n (got q) = ends q n
-
-abbrev pub listed : Listing → Reading
-listed l = listed_as (length l.ids) l.end
+-- how many were read, on a refusal too, and how the reading ended
+abbrev pub listed : Listing → Listed
+listed l = record { count = length l.ids; end = place_of l.end }

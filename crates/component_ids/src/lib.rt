@@ -5,81 +5,69 @@ ghost use Rattle.std.specs.Prelude.{◌≡◌, ◌+◌, ◌≤◌, length};
 ghost use Rattle.rules.specs.Bytes.{part, InBytes, same};
 ghost use Rattle.rules.specs.Check as Check;
 ghost use Rattle.rules.specs.Limits.{limits};
-ghost use Rattle.cbor_reading.specs.Reading.{place_reading, reading};
+ghost use Rattle.cbor_reading.specs.Reading.{place_of, reading};
 ghost use Rattle.component_ids.specs.Identifiers.{plain, listing, listed, laid, ids_read, repeated};
 
 use byte_buffer::equal;
 use cbor_reading::{Reading, item, refuse};
-use rules::answers::Refusal;
+use rules::answers::{Fault, Refusal};
 use rules::controller::{Controller, Places};
 
 // So many byte strings: the place after them.
-fn strings(s: &[u8], end: usize, at: usize, count: usize) -> Reading
+fn strings(s: &[u8], end: usize, at: usize, count: usize) -> Result<usize, Fault>
     requires { end ≤ length s.now }
-    ensures { result ≡ place_reading (Check.strings s.now count end at) }
+    ensures { result ≡ place_of (Check.strings s.now count end at) }
 {
     let mut p = at;
     for _ in 0..count {
-        let h = item(s, end, p, cbor::BYTES, 0, Controller::LARGEST_NUMBER);
-        if h.refusal != 0 {
-            return h;
-        }
+        let h = item(s, end, p, cbor::BYTES, 0, Controller::LARGEST_NUMBER)?;
         p = h.at + h.value;
     }
-    Reading {
-        refusal: 0,
-        at: p,
-        value: 0,
-    }
+    Ok(p)
 }
 
 // One identifier, whatever stands before it: the place after it.
-fn identifier(s: &[u8], end: usize, at: usize) -> Reading
+fn identifier(s: &[u8], end: usize, at: usize) -> Result<usize, Fault>
     requires { end ≤ length s.now }
-    ensures { result ≡ place_reading (plain s.now end at) }
+    ensures { result ≡ place_of (plain s.now end at) }
 {
-    let h = item(s, end, at, cbor::ARRAY, 1, Controller::IDENTIFIER_PARTS);
-    if h.refusal != 0 {
-        return h;
-    }
-    let r = strings(s, end, h.at, h.value);
-    if r.refusal != 0 {
-        return r;
-    }
-    let next = r.at;
+    let h = item(s, end, at, cbor::ARRAY, 1, Controller::IDENTIFIER_PARTS)?;
+    let next = strings(s, end, h.at, h.value)?;
     if Controller::IDENTIFIER_BYTES < next - at {
         return refuse(Refusal::Malformed, at);
     }
-    r
+    Ok(next)
 }
 
-// So many identifiers, until one is refused: how many were read, and their places.
-fn identifiers(s: &[u8], end: usize, at: usize, count: usize, ids: &mut Places) -> Reading
+// How many identifiers were read, and the place after them, or why the next was refused.
+#[derive(Clone, Copy)]
+struct Listed {
+    count: usize,
+    end: Result<usize, Fault>,
+}
+
+// So many identifiers, until one is refused, and their places.
+fn identifiers(s: &[u8], end: usize, at: usize, count: usize, ids: &mut Places) -> Listed
     requires { (end ≤ length s.now) × (count ≤ limits.components) }
     ensures { (result ≡ listed (listing s.now count end at)) × (ids.new ≡ laid (listing s.now count end at).ids ids.old) }
 {
     let places: &mut [usize] = ids;
     let mut p = at;
     for k in 0..count {
-        let r = identifier(s, end, p);
-        let refusal = r.refusal;
-        let next = r.at;
-        if refusal != 0 {
-            return Reading {
-                refusal,
-                at: next,
-                value: k,
-            };
-        }
+        let next = match identifier(s, end, p) {
+            Ok(next) => next,
+            Err(fault) => {
+                return Listed {
+                    count: k,
+                    end: Err(fault),
+                };
+            }
+        };
         places[2 * k] = p;
         places[2 * k + 1] = next;
         p = next;
     }
-    Reading {
-        refusal: 0,
-        at: p,
-        value: count,
-    }
+    Listed { count, end: Ok(p) }
 }
 
 // Whether two parts of the envelope have the same bytes.
@@ -113,25 +101,18 @@ pub fn repeated_one(s: &[u8], ids: &Places, count: usize) -> Option<usize>
 }
 
 // The component list: how many identifiers, and their places.
-pub fn components(s: &[u8], end: usize, at: usize, ids: &mut Places) -> Reading
+pub fn components(s: &[u8], end: usize, at: usize, ids: &mut Places) -> Result<Reading, Fault>
     requires { end ≤ length s.now }
     ensures { (result ≡ reading length (Check.components s.now end at)) × (ids.new ≡ laid (ids_read s.now end at) ids.old) }
 {
-    let h = item(s, end, at, cbor::ARRAY, 1, Controller::COMPONENTS);
-    if h.refusal != 0 {
-        return h;
-    }
-    let r = identifiers(s, end, h.at, h.value, ids);
-    if let Some(j) = repeated_one(s, ids, r.value) {
+    let h = item(s, end, at, cbor::ARRAY, 1, Controller::COMPONENTS)?;
+    let read = identifiers(s, end, h.at, h.value, ids);
+    if let Some(j) = repeated_one(s, ids, read.count) {
         return refuse(Refusal::RepeatedIdentifier, ids[2 * j]);
     }
-    let refusal = r.refusal;
-    if refusal != 0 {
-        return Reading {
-            refusal,
-            at: r.at,
-            value: 0,
-        };
-    }
-    r
+    let next = read.end?;
+    Ok(Reading {
+        at: next,
+        value: read.count,
+    })
 }
