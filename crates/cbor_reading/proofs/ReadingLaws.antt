@@ -102,6 +102,10 @@ string-fits s kind lo hi e at h (inr k) q = let i = item_law s kind lo hi e at h
 pub pos : (n : ℕ) → 0 < n → n ≡ suc (n - 1)
 pos n h = omega arith
 
+-- of n turns, after i of them
+pub rest : (n i : ℕ) → i < n → n - i ≡ suc (n - (i + 1))
+rest n i h = omega arith
+
 pub above : (n : ℕ) → (n ≡ 0 → ⊥) → n ≡ suc (n - 1)
 above zero h = absurd (h refl)
 above (suc n) h = omega arith

@@ -11,7 +11,7 @@ use Rattle.rules.specs.declared.tables.Argument.TheVariants.{Sixteen, Nil, Index
 use Rattle.rules.specs.declared.tables.Parameter.{Parameter}
 use Rattle.rules.specs.declared.tables.Parameter.TheVariants.{Coerce, Uri, Source, Digest, Size}
 use Rattle.rules.specs.declared.answers.Refusal.TheVariants.{Malformed, NoSuchComponent, UnknownParameter}
-use Rattle.std.specs.Prelude.{Some, None}
+use Rattle.std.specs.Prelude.{Some, None, Result, Err}
 use Rattle.rules.specs.Tables.{known}
 use Rattle.rules.specs.Limits.{limits}
 use Rattle.rules.specs.Bytes.{Bytes}
@@ -23,7 +23,7 @@ use Rattle.rules.specs.Check.{Given, give, nothing, number, parameter, entries}
 use Rattle.rules.proofs.GotLaws.{passed, split, split₂, both}
 use Rattle.rules.proofs.CheckLaws.{bytes_after, text-after, item_law, one_of_law, number_law}
 use Rattle.cbor_reading.specs.Reading.{fault, ends, view, head_reading, item_reading, reading, after, unnumbered}
-use Rattle.cbor_reading.proofs.ReadingLaws.{Stopped}
+use Rattle.rules.specs.declared.answers.Fault.{Fault}
 use Rattle.cbor_reading.specs.declared.Reading.{Reading}
 use Rattle.check_argument.specs.Argument.{argument_start}
 
@@ -47,7 +47,7 @@ string-end h (inl k) = ap (λ (p : ℕ). ends p 0) (sym (bytes_after h k))
 string-end h (inr k) = ap (λ (p : ℕ). ends p 0) (sym (text-after h k))
 
 -- a parameter, by its kind
-module _ (s : Bytes) (n e at : ℕ) (r : Reading) where
+module _ (s : Bytes) (n e at : ℕ) (r : Result Reading Fault) where
   pub parameter-coerce : r ≡ head_reading (one_of FALSE TRUE s e at) → unnumbered r ≡ after (parameter s n Coerce e at)
   unfolding parameter
   parameter-coerce q = ap unnumbered q ∙ placed _ _ (one_of FALSE TRUE s e at) ∙ given-on (λ g. 0) _ (λ h. h.next) (one_of FALSE TRUE s e at)
@@ -74,9 +74,9 @@ module _ (s : Bytes) (n e at k p : ℕ) (q : number s e at ≡ got (k, p)) where
   unfolding parameter
   index_below l = rw (q, lt-ltb k n l)
 
-pub index_stop : (s : Bytes) (n e at : ℕ) (r : Reading) → Stopped (number s e at) r → r ≡ after (parameter s n Source e at)
+pub index_stop : (s : Bytes) (n e at : ℕ) (f : Fault) → number s e at ≡ refused f.refusal f.at → Err f ≡ after (parameter s n Source e at)
 unfolding parameter
-index_stop s n e at r x = rw x.was x.is
+index_stop s n e at f x = rw x
 
 -- what a look-up of a parameter found
 pub known_some : (o : Option Parameter) (p : Parameter) → known o ≡ Some p → o ≡ some p
@@ -103,7 +103,7 @@ entries_any s n (suc k) low g g' e at =
 
 -- the entries of a set or override, one turn after the other
 module _ (s : Bytes) (n k low e at : ℕ) where
-  abbrev All : Reading
+  abbrev All : Result Reading Fault
   All = after (entries s n k low nothing e at)
 
   pub entries_none : k ≡ 0 → ends at 0 ≡ All
@@ -111,9 +111,9 @@ module _ (s : Bytes) (n k low e at : ℕ) where
   entries_none z = rw z
 
   module _ (j : ℕ) (h : k ≡ suc j) where
-    pub entries_stop : (r : Reading) → Stopped (number s e at) r → r ≡ All
+    pub entries_stop : (f : Fault) → number s e at ≡ refused f.refusal f.at → Err f ≡ All
     unfolding entries
-    entries_stop r x = rw (h, x.was) x.is
+    entries_stop f x = rw (h, x)
 
     module _ (name p : ℕ) (q : number s e at ≡ got (name, p)) where
       pub entries-low : name < low → fault Malformed at ≡ All
@@ -126,16 +126,16 @@ module _ (s : Bytes) (n k low e at : ℕ) where
         entries_unknown u = rw (h, q, le-leb _ _ l, u)
 
         module _ (what : Parameter) (u : param_of name params ≡ some what) where
-          pub entries-bad : (r : Reading) → Stopped (parameter s n what e p) r → r ≡ All
+          pub entries-bad : (f : Fault) → parameter s n what e p ≡ refused f.refusal f.at → Err f ≡ All
           unfolding entries
-          entries-bad r x = rw (h, q, le-leb _ _ l, u, x.was) x.is
+          entries-bad f x = rw (h, q, le-leb _ _ l, u, x)
 
           pub entries-more : (v : Given) (next : ℕ) → parameter s n what e p ≡ got (v, next) → All ≡ after (entries s n j (name + 1) nothing e next)
           unfolding entries
           entries-more v next w = rw (h, q, le-leb _ _ l, u, w) (entries_any s n j (name + 1) _ nothing e next)
 
 -- an argument, by its kind
-module _ (s : Bytes) (n e at : ℕ) (r : Reading) where
+module _ (s : Bytes) (n e at : ℕ) (r : Result Reading Fault) where
   pub argument-sixteen : r ≡ item_reading (item BYTES limits.class limits.class s e at) → r ≡ reading (λ k. k) (argument_start s n Sixteen e at)
   unfolding argument_start
   argument-sixteen q = q ∙ given-on (λ k. k) (λ h. 0) Cbor.after (item BYTES limits.class limits.class s e at)
@@ -160,14 +160,15 @@ module _ (s : Bytes) (n e at : ℕ) (r : Reading) where
   unfolding argument_start
   argument-alternatives q = q ∙ given-on (λ k. k) (λ h. h.num) (λ h. h.next) (item ARRAY 1 limits.alternatives s e at)
 
-  pub argument_no_map : Stopped (item MAP 1 limits.parameters s e at) r → r ≡ reading (λ k. k) (argument_start s n Parameters e at)
-  unfolding argument_start
-  argument_no_map x = rw x.was x.is
-
   pub argument-parameters : (h : Head) → item MAP 1 limits.parameters s e at ≡ got h → r ≡ after (entries s n h.num 0 nothing e h.next) →
       r ≡ reading (λ k. k) (argument_start s n Parameters e at)
   unfolding argument_start
   argument-parameters h q x = rw q (x ∙ given-on (λ k. k) (λ a. 0) (λ a. a.1) (entries s n h.num 0 nothing e h.next))
+
+pub argument_no_map : (s : Bytes) (n e at : ℕ) (f : Fault) → item MAP 1 limits.parameters s e at ≡ refused f.refusal f.at →
+    Err f ≡ reading (λ k. k) (argument_start s n Parameters e at)
+unfolding argument_start
+argument_no_map s n e at f x = rw x
 
 pub argument-sequence : (s : Bytes) (n e at : ℕ) → ends at 1 ≡ reading (λ k. k) (argument_start s n Sequence e at)
 unfolding argument_start

@@ -1,56 +1,49 @@
-use mathlib.Core.Path.{refl, sym, ◌∙◌}
+use mathlib.Core.Path.{sym, ◌∙◌}
 use native.Mathlib.Omega.{arith}
-use Rattle.rules.proofs.CheckLaws.{number_law}
-use Rattle.cbor_reading.proofs.ReadingLaws.{number-stopped, number_went, reading-stopped, reading_went, pos}
+use Rattle.cbor_reading.proofs.ReadingLaws.{handed, number-stopped, number_went, reading-stopped, reading_went, rest}
 use Rattle.check_argument.proofs.ArgumentLaws.{known_some, known-none, entries_none, entries_stop, entries-low, entries_unknown, entries-bad, entries-more}
 use Rattle.check_argument.proofs.entries.Goals as goal
 
-pub loop-left-init : goal.loop-left-init
-loop-left-init c = refl
+pub returns-in_err-key : goal.returns-in_err-key
+returns-in_err-key c =
+    handed _ _ c.from_residual.ensures.1
+    ∙ entries_stop _ _ _ _ _ _ _ (rest _ _ c.loop-test.true) _ (number-stopped _ _ _ _ c.in_err-key.ensures)
+    ∙ sym c.loop.invariant
 
-pub returns-then-refusal-ne0 : goal.returns-then-refusal-ne0
-returns-then-refusal-ne0 c =
-    entries_stop _ _ _ _ _ _ _ (pos _ c.loop-left-test.true) _ (number-stopped _ _ _ _ c.number-key.ensures c.if-refusal-ne0.true)
-    ∙ sym c.loop-left.invariant
-
-pub returns-then-name-low : goal.returns-then-name-low
-returns-then-name-low c =
+pub returns-then-key-low : goal.returns-then-key-low
+returns-then-key-low c =
     c.refuse.ensures
-    ∙ entries-low _ _ _ _ _ _ _ (pos _ c.loop-left-test.true) _ _
-    (number_went _ _ _ _ c.number-key.ensures c.if-refusal-ne0.false) (omega (arith, c.if-name-low.true))
-    ∙ sym c.loop-left.invariant
+    ∙ entries-low _ _ _ _ _ _ _ (rest _ _ c.loop-test.true) _ _ (number_went _ _ _ _ c.in_ok-key.ensures) (omega (arith, c.if-key-low.true))
+    ∙ sym c.loop.invariant
 
 pub returns-in_default : goal.returns-in_default
 returns-in_default c =
     c.refuse-in_default.ensures
-    ∙ entries_unknown _ _ _ _ _ _ _ (pos _ c.loop-left-test.true) _ _
-    (number_went _ _ _ _ c.number-key.ensures c.if-refusal-ne0.false)
-    (omega (arith, c.if-name-low.false))
+    ∙ entries_unknown _ _ _ _ _ _ _ (rest _ _ c.loop-test.true) _ _
+    (number_went _ _ _ _ c.in_ok-key.ensures)
+    (omega (arith, c.if-key-low.false))
     (known-none _ (sym c.look_up_parameter.ensures ∙ c.in_default.is))
-    ∙ sym c.loop-left.invariant
+    ∙ sym c.loop.invariant
 
-pub returns-then-refusal-ne0-2 : goal.returns-then-refusal-ne0-2
-returns-then-refusal-ne0-2 c =
-    entries-bad _ _ _ _ _ _ _ (pos _ c.loop-left-test.true) _ _
-    (number_went _ _ _ _ c.number-key.ensures c.if-refusal-ne0.false)
-    (omega (arith, c.if-name-low.false))
+pub returns-in_err-p : goal.returns-in_err-p
+returns-in_err-p c =
+    handed _ _ c.from_residual-in_err-p.ensures.1
+    ∙ entries-bad _ _ _ _ _ _ _ (rest _ _ c.loop-test.true) _ _
+    (number_went _ _ _ _ c.in_ok-key.ensures)
+    (omega (arith, c.if-key-low.false))
     _ (known_some _ _ (sym c.look_up_parameter.ensures ∙ c.in-Some.is))
-    _ (reading-stopped (λ g. 0) _ _ c.parameter-v.ensures c.if-refusal-ne0-2.true)
-    ∙ sym c.loop-left.invariant
+    _ (reading-stopped (λ g. 0) _ _ c.in_err-p.ensures)
+    ∙ sym c.loop.invariant
 
-pub overflow_add-low : goal.overflow_add-low
-overflow_add-low c =
-    omega (arith, (number_law _ _ _ _ _ (number_went _ _ _ _ c.number-key.ensures c.if-refusal-ne0.false)).2)
-
-pub loop-left-preserved : goal.loop-left-preserved
-loop-left-preserved c =
-    let v = reading_went (λ g. 0) _ _ c.parameter-v.ensures c.if-refusal-ne0-2.false in
-    c.loop-left.invariant
-    ∙ entries-more _ _ _ _ _ _ _ (pos _ c.loop-left-test.true) _ _
-    (number_went _ _ _ _ c.number-key.ensures c.if-refusal-ne0.false)
-    (omega (arith, c.if-name-low.false))
+pub loop-preserved : goal.loop-preserved
+loop-preserved c =
+    let v = reading_went (λ g. 0) _ _ c.in_ok-p.ensures in
+    c.loop.invariant
+    ∙ entries-more _ _ _ _ _ _ _ (rest _ _ c.loop-test.true) _ _
+    (number_went _ _ _ _ c.in_ok-key.ensures)
+    (omega (arith, c.if-key-low.false))
     _ (known_some _ _ (sym c.look_up_parameter.ensures ∙ c.in-Some.is))
     v.0 _ v.1
 
 pub returns : goal.returns
-returns c = entries_none _ _ _ _ _ _ (omega arith) ∙ sym c.loop-left.invariant
+returns c = c.ended.ensures ∙ entries_none _ _ _ _ _ _ (omega arith) ∙ sym c.loop.invariant
