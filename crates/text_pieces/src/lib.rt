@@ -22,10 +22,8 @@ pub fn within(s: &[u8], from: usize, to: usize) -> Range
     if to <= from || end <= from {
         return Range { from: 0, to: 0 };
     }
-    Range {
-        from,
-        to: to.min(end),
-    }
+    let to = to.min(end);
+    Range { from, to }
 }
 
 // The bytes from one place to before another.
