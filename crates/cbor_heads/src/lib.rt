@@ -8,6 +8,7 @@ ghost use Rattle.rules.specs.Cbor.{head};
 ghost use Rattle.cbor_heads.specs.Answer.{head_means};
 
 use byte_buffer::{four, two, wide};
+use rules::answers::{Fault, Refusal};
 
 // Kinds of items.
 pub const NUMBER: usize = 0;
@@ -34,99 +35,74 @@ pub struct Head {
     pub next: usize,
 }
 
-// A head, or the place of refusal 65.
-#[derive(Clone, Copy)]
-pub enum HeadRead {
-    Head(Head),
-    NotCbor(usize),
-}
-
 // The head, unless its number is too small for the bytes that it has.
-fn shortest(kind: usize, num: usize, next: usize, least: usize, at: usize) -> HeadRead
+fn shortest(kind: usize, num: usize, next: usize, least: usize, at: usize) -> Result<Head, Fault>
     ensures { (num < least → head_means result ≡ refused NotCbor at) × (least ≤ num → head_means result ≡ got (record { kind = kind; num = num; next = next })) }
 {
     if num < least {
-        return HeadRead::NotCbor(at);
+        return Err(Fault {
+            refusal: Refusal::NotCbor,
+            at,
+        });
     }
-    HeadRead::Head(Head { kind, num, next })
+    Ok(Head { kind, num, next })
 }
 
 // A head whose number is in the 1, 2 or 4 bytes after its first byte.
-fn long_head(s: &[u8], end: usize, at: usize, first: usize) -> HeadRead
+fn long_head(s: &[u8], end: usize, at: usize, first: usize) -> Result<Head, Fault>
     requires { (at < end) × (end ≤ length s.now) × (first ≡ get_or s.now at 0) × (24 ≤ first % 32) }
     ensures { head_means result ≡ head s.now end at }
 {
     let kind = first / 32;
-    if kind == 1 {
-        return HeadRead::NotCbor(at);
-    }
-    if MAP < kind {
-        return HeadRead::NotCbor(at);
-    }
-    let low = first % 32;
     let from = at + 1;
     let left = end - from;
-    if low == 24 {
-        if left < 1 {
-            return HeadRead::NotCbor(at);
-        }
-        return shortest(kind, wide(s[from]), from + 1, 24, at);
+    let refused = Err(Fault {
+        refusal: Refusal::NotCbor,
+        at,
+    });
+    if kind == 1 || MAP < kind {
+        return refused;
     }
-    if low == 25 {
-        if left < 2 {
-            return HeadRead::NotCbor(at);
-        }
-        return shortest(kind, two(s, from), from + 2, 256, at);
+    match first % 32 {
+        24 if 1 <= left => shortest(kind, wide(s[from]), from + 1, 24, at),
+        25 if 2 <= left => shortest(kind, two(s, from), from + 2, 256, at),
+        26 if 4 <= left => shortest(kind, four(s, from), from + 4, 65536, at),
+        _ => refused,
     }
-    if low == 26 {
-        if left < 4 {
-            return HeadRead::NotCbor(at);
-        }
-        return shortest(kind, four(s, from), from + 4, 65536, at);
-    }
-    HeadRead::NotCbor(at)
 }
 
 // The head at `at`, in a container that ends at `end`.
-pub fn read_head(s: &[u8], end: usize, at: usize) -> HeadRead
+pub fn read_head(s: &[u8], end: usize, at: usize) -> Result<Head, Fault>
     requires { end ≤ length s.now }
     ensures { head_means result ≡ head s.now end at }
 {
+    let refused = Err(Fault {
+        refusal: Refusal::NotCbor,
+        at,
+    });
     if end <= at {
-        return HeadRead::NotCbor(at);
+        return refused;
     }
     let first = wide(s[at]);
+    let low = first % 32;
     let next = at + 1;
-    if first < 24 {
-        return HeadRead::Head(Head {
+    match first {
+        0x00..=0x17 => Ok(Head {
             kind: NUMBER,
             num: first,
             next,
-        });
-    }
-    let low = first % 32;
-    if 24 <= low {
-        return long_head(s, end, at, first);
-    }
-    if first < 0x40 {
-        return HeadRead::NotCbor(at);
-    }
-    if first < 0xc0 {
-        return HeadRead::Head(Head {
+        }),
+        _ if 24 <= low => long_head(s, end, at, first),
+        0x40..=0xbf => Ok(Head {
             kind: first / 32,
             num: low,
             next,
-        });
-    }
-    if first < 0xf4 {
-        return HeadRead::NotCbor(at);
-    }
-    if first < 0xf7 {
-        return HeadRead::Head(Head {
+        }),
+        0xf4..=0xf6 => Ok(Head {
             kind: low,
             num: 0,
             next,
-        });
+        }),
+        _ => refused,
     }
-    HeadRead::NotCbor(at)
 }

@@ -1,4 +1,5 @@
 -- A head is refused with 65 at its own place, so a reader that is put there is as it was (01, the last paragraph: 'or 65 with nothing moved').
+use Rattle.std.specs.Prelude.{IsOk, Err}
 use Prim.Native.Nat.{ℕ, ◌+◌}
 use mathlib.Core.Path.{◌≡◌, refl}
 use mathlib.Core.Bool.{Bool, true, false}
@@ -6,7 +7,6 @@ use mathlib.Core.Logic.{◌⊎◌, inl, inr}
 use lib.Dec.{ltb, leb}
 use lib.ListN.{get_or}
 use Rattle.rules.specs.declared.answers.Refusal.TheVariants.{NotCbor}
-use Rattle.rules.specs.Answers.{refusal_number}
 use Rattle.rules.specs.Bytes.{Bytes}
 use Rattle.rules.specs.Got.{Got, refused, got, need, ◌>>=◌}
 use Rattle.rules.specs.Cbor.{Head, head, known, more, least, value}
@@ -15,7 +15,7 @@ use Rattle.cbor_reader.specs.Read.{read_of, head_here, moved}
 
 -- where it is refused, it is with 65 and at that place
 abbrev At : ℕ → Got Head → Type 0
-At at (refused r p) = (refusal_number r ≡ 65) × (p ≡ at)
+At at (refused r p) = (r ≡ NotCbor) × (p ≡ at)
 At at (got h) = Unit {0}
 
 test : (t : Bool) (at : ℕ) (k : Unit {0} → Got Head) → At at (k tt) → At at (need t NotCbor at >>= k)
@@ -28,19 +28,10 @@ head-place s e at =
     let b = get_or s at 0 in
     test (ltb at e) at _ (test (known b) at _ (test (leb (at + 1 + more b) e) at _ (test (leb (least (more b)) (value s at)) at _ tt)))
 
-module _ (d : Reader) where
-  -- the place that is answered is that of the moved reader
-  pub put_next : record { envelope = d.envelope; at = (read_of (head_here d)).next } ≡ moved d (head_here d)
-  put_next = go (head_here d) (head-place _ _ _)
-    where
-      go : (x : Got Head) → At d.at x → record { envelope = d.envelope; at = (read_of x).next } ≡ moved d x
-      go (refused r p) h = λ i. record { envelope = d.envelope; at = h.1 i }
-      go (got h) _ = refl
-
-  -- a head, or 65 with nothing moved
-  pub or_65 : ((read_of (head_here d)).refusal ≡ 0) ⊎ (((read_of (head_here d)).refusal ≡ 65) × ((read_of (head_here d)).next ≡ d.at) × (moved d (head_here d) ≡ d))
-  or_65 = go (head_here d) (head-place _ _ _)
-    where
-      go : (x : Got Head) → At d.at x → ((read_of x).refusal ≡ 0) ⊎ (((read_of x).refusal ≡ 65) × ((read_of x).next ≡ d.at) × (moved d x ≡ d))
-      go (refused r p) (n, h) = inr (n, h, refl)
-      go (got h) _ = inl refl
+-- a head, or 65 with nothing moved
+pub or_65 : (d : Reader) → IsOk (read_of (head_here d)) ⊎ ((read_of (head_here d) ≡ Err (record { refusal = NotCbor; at = d.at })) × (moved d (head_here d) ≡ d))
+or_65 d = go (head_here d) (head-place _ _ _)
+  where
+    go : (x : Got Head) → At d.at x → IsOk (read_of x) ⊎ ((read_of x ≡ Err (record { refusal = NotCbor; at = d.at })) × (moved d x ≡ d))
+    go (refused r p) (n, h) = inr ((λ i. Err (record { refusal = n i; at = h i })), refl)
+    go (got h) _ = inl refl

@@ -1,4 +1,7 @@
 -- A reading that stopped, and one that went on.
+use Rattle.std.specs.Prelude.{Result}
+use Rattle.rules.specs.declared.answers.Fault.{Fault}
+use Rattle.cbor_heads.specs.declared.Head as Heads
 use Prim.Native.Nat.{ℕ, zero, suc, ◌+◌, ◌-◌, ◌≤◌, ◌<◌}
 use mathlib.Core.Path.{◌≡◌, refl, sym, ap, ◌∙◌}
 use mathlib.Core.Logic.{◌⊎◌, inl, inr}
@@ -11,8 +14,7 @@ use Rattle.rules.specs.Check.{number}
 use Rattle.rules.proofs.CheckLaws.{item_law, bytes_after, text-after}
 use Rattle.rules.specs.Got.{Got, refused, got, ◌>>=◌}
 use Rattle.cbor_reading.specs.declared.Reading.{Reading}
-use Rattle.cbor.specs.Answer.{item_means}
-use Rattle.cbor.specs.declared.ItemRead.{ItemRead}
+use Rattle.cbor_heads.specs.Answer.{head_means}
 use Rattle.cbor_reading.specs.Reading.{fault, view, head_reading, place_reading, reading}
 
 -- two that go on alike where the first gave a value
@@ -88,8 +90,8 @@ module _ {A : Type 0} (f : A → ℕ) (x : Got (A × ℕ)) (r : Reading) (q : r 
       (a.0, y ∙ (λ j. got (a.0, sym p j)), v)
 
 -- an item's answer as a reading
-pub answered : (x : Got Head) (a b : ItemRead) → item_means a ≡ x → a ≡ b → head_reading (item_means b) ≡ head_reading x
-answered x a b q e = ap head_reading (sym (ap item_means e) ∙ q)
+pub answered : (x : Got Head) (a b : Result Heads.Head Fault) → head_means a ≡ x → a ≡ b → head_reading (head_means b) ≡ head_reading x
+answered x a b q e = ap head_reading (sym (ap head_means e) ∙ q)
 
 -- a string lies in its container
 pub string-fits : (s : Bytes) (kind lo hi e at : ℕ) (h : Head) → (kind ≡ BYTES) ⊎ (kind ≡ TEXT) → item kind lo hi s e at ≡ got h → h.next + h.num ≤ e

@@ -6,7 +6,7 @@ ghost use Rattle.rules.specs.Cbor as Cbor;
 ghost use Rattle.cbor_reading.specs.Reading.{fault, head_reading};
 
 use byte_buffer::wide;
-use cbor::{ItemRead, NIL, read_item, read_one_of};
+use cbor::{NIL, read_item, read_one_of};
 use cbor_short::{is_short, number_fits};
 use rules::answers::Refusal;
 
@@ -34,13 +34,12 @@ fn any_item(s: &[u8], end: usize, at: usize, kind: usize, lo: usize, hi: usize) 
     ensures { result ≡ head_reading (Cbor.item kind lo hi s.now end at) }
 {
     match read_item(s, end, at, kind, lo, hi) {
-        ItemRead::Item(h) => Reading {
+        Ok(h) => Reading {
             refusal: 0,
             at: h.next,
             value: h.num,
         },
-        ItemRead::NotCbor(p) => refuse(Refusal::NotCbor, p),
-        ItemRead::Malformed(p) => refuse(Refusal::Malformed, p),
+        Err(f) => refuse(f.refusal, f.at),
     }
 }
 
@@ -89,12 +88,11 @@ pub fn one_of(s: &[u8], end: usize, at: usize, kind: usize, other: usize) -> Rea
     ensures { result ≡ head_reading (Cbor.one_of kind other s.now end at) }
 {
     match read_one_of(s, end, at, kind, other) {
-        ItemRead::Item(h) => Reading {
+        Ok(h) => Reading {
             refusal: 0,
             at: h.next,
             value: h.num,
         },
-        ItemRead::NotCbor(p) => refuse(Refusal::NotCbor, p),
-        ItemRead::Malformed(p) => refuse(Refusal::Malformed, p),
+        Err(f) => refuse(f.refusal, f.at),
     }
 }

@@ -4,7 +4,6 @@ ghost use Rattle.rules.specs.Check as Check;
 ghost use Rattle.cbor_reading.specs.Reading.{head_reading, place_reading};
 ghost use Rattle.check_envelope.specs.Outer.{manifest_head};
 
-use cbor::ItemRead;
 use cbor_reading::{Reading, item, refuse};
 use rules::answers::Refusal;
 use rules::controller::Controller;
@@ -22,7 +21,7 @@ fn unread(s: &[u8], end: usize, at: usize) -> Reading
     ensures { result ≡ place_reading (Check.unread s.now end at) }
 {
     match cbor::read_one_of(s, end, at, cbor::NIL, cbor::BYTES) {
-        ItemRead::Item(h) => {
+        Ok(h) => {
             let kind = h.kind;
             if kind == cbor::BYTES {
                 return Reading {
@@ -37,8 +36,7 @@ fn unread(s: &[u8], end: usize, at: usize) -> Reading
                 value: 0,
             }
         }
-        ItemRead::NotCbor(p) => refuse(Refusal::NotCbor, p),
-        ItemRead::Malformed(p) => refuse(Refusal::Malformed, p),
+        Err(f) => refuse(f.refusal, f.at),
     }
 }
 

@@ -7,7 +7,7 @@
 --          5 run a program:  the same, and the program
 --          6 head:           place (2); the envelope
 -- A string is its length in 2 bytes and that many bytes. Fields has the layout of a run's head.
-use Rattle.std.specs.Prelude.{ℕ, ◌-◌, ◌++◌, Bool, true, false, cond, eqb, ltb, length, get_or, take, drop, replicate}
+use Rattle.std.specs.Prelude.{ℕ, ◌-◌, ◌++◌, Bool, true, false, cond, eqb, ltb, length, get_or, take, drop, replicate, Result, Ok, Err}
 use Rattle.text.specs.Text.{ascii, newline}
 use Rattle.rules.specs.Bytes.{Bytes, two_at}
 use Rattle.rules.specs.Got.{Got}
@@ -17,7 +17,8 @@ use Rattle.rules.specs.Newer as Newer
 use Rattle.rules.specs.Run.{Ran, run_envelope}
 use Rattle.rules.specs.Program as Program
 use Rattle.rules.specs.ProgramRun.{run_program}
-use Rattle.cbor_reader.specs.declared.Read.{Read}
+use Rattle.rules.specs.declared.answers.Fault.{Fault}
+use Rattle.cbor_heads.specs.declared.Head.{Head}
 use Rattle.cbor_reader.specs.Read.{read_of}
 use Rattle.run_ending.specs.Answer.{input_of, slots_after, trace_after}
 use Rattle.pitvorgas_answers.specs.Inputs.{controller_of, group_of}
@@ -59,9 +60,10 @@ run_filled program head slots answers s n =
 unfoldable pub run_line : Bool → Bytes → Bytes → Bytes → Bytes → Bytes
 run_line program head slots answers s = run_filled program head slots answers s (two_at head trace_from)
 
--- a head that was read, and what of s is left after it
-abbrev pub head_read : Bytes → Read → Bytes
-head_read s h = head_text h (length s - h.next)
+-- a head that was read, and what of s is left after it; of a refused head, from its place
+abbrev pub head_read : Bytes → Result Head Fault → Bytes
+head_read s (Ok h) = head_text (Ok h) (length s - h.next)
+head_read s (Err f) = head_text (Err f) (length s - f.at)
 
 unfoldable pub head_line : Bytes → ℕ → Bytes
 head_line s place = head_read s (read_of (Cbor.head s (length s) place))

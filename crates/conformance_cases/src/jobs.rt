@@ -120,6 +120,9 @@ pub(crate) fn head_line(envelope: &[u8], place: usize, room: &mut [u8]) -> usize
     ensures { Writes (head_line envelope.now place) 0 room result }
 {
     let head = head_at(envelope, place);
-    let left = left_at(envelope, head.next);
-    put_head(room, 0, head, left)
+    let end = match head {
+        Ok(h) => h.next,
+        Err(f) => f.at,
+    };
+    put_head(room, 0, head, left_at(envelope, end))
 }

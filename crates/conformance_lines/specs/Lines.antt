@@ -1,7 +1,9 @@
 -- The lines of newer, translate and a head.
-use Rattle.std.specs.Prelude.{ℕ, [], ◌∷◌, ◌++◌, cond, eqb, length, take}
+use Rattle.std.specs.Prelude.{ℕ, [], ◌∷◌, ◌++◌, cond, eqb, length, take, Result, Ok, Err}
 use Rattle.text.specs.Text.{Bytes, ascii, newline, least}
-use Rattle.cbor_reader.specs.declared.Read.{Read}
+use Rattle.rules.specs.declared.answers.Fault.{Fault}
+use Rattle.rules.specs.Answers.{refusal_number}
+use Rattle.cbor_heads.specs.declared.Head.{Head}
 use Rattle.pitvorgas_answers.specs.declared.NewerAnswer.{NewerAnswer}
 use Rattle.pitvorgas_answers.specs.declared.TranslateAnswer.{TranslateAnswer}
 use Rattle.conformance_format.specs.Format.{format, refused_text, bytes_text}
@@ -21,7 +23,6 @@ translated_text a room =
     cond (eqb a.refusal 0) (program_text (take (program_end a room) room)) (refused_text a.refusal a.place)
 
 -- a head, and how many bytes are left after it
-unfoldable pub head_text : Read → ℕ → Bytes
-head_text h left =
-    cond (eqb h.refusal 0) (format (ascii "head % % % %" ++ newline) (h.kind ∷ h.number ∷ h.next ∷ left ∷ []))
-    (refused_text h.refusal h.next)
+unfoldable pub head_text : Result Head Fault → ℕ → Bytes
+head_text (Ok h) left = format (ascii "head % % % %" ++ newline) (h.kind ∷ h.num ∷ h.next ∷ left ∷ [])
+head_text (Err f) left = refused_text (refusal_number f.refusal) f.at

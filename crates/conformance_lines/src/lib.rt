@@ -4,9 +4,10 @@
 ghost use Rattle.text.specs.Text.{Writes};
 ghost use Rattle.conformance_lines.specs.Lines.{newer_text, program_text, translated_text, head_text};
 
-use cbor_reader::Read;
+use cbor_heads::Head;
 use conformance_format::{NEWLINE, put_bytes, put_format, put_refused};
 use pitvorgas_answers::{NewerAnswer, TranslateAnswer};
+use rules::answers::Fault;
 use text::{least, put, put_byte};
 
 pub fn put_newer(room: &mut [u8], at: usize, answer: NewerAnswer) -> usize
@@ -39,16 +40,11 @@ pub fn put_translated(room: &mut [u8], at: usize, answer: TranslateAnswer, lent:
 }
 
 // A head, and how many bytes are left after it; of a refused head, the refusal alone.
-pub fn put_head(room: &mut [u8], at: usize, head: Read, left: usize) -> usize
+pub fn put_head(room: &mut [u8], at: usize, head: Result<Head, Fault>, left: usize) -> usize
     ensures { Writes (head_text head left) at room result }
 {
-    if head.refusal == 0 {
-        return put_format(
-            room,
-            at,
-            b"head % % % %\n",
-            &[head.kind, head.number, head.next, left],
-        );
+    match head {
+        Ok(h) => put_format(room, at, b"head % % % %\n", &[h.kind, h.num, h.next, left]),
+        Err(f) => put_refused(room, at, f.refusal.number(), f.at),
     }
-    put_refused(room, at, head.refusal, head.next)
 }

@@ -1,4 +1,5 @@
 -- Items by their heads.
+use Rattle.std.specs.Prelude.{Result, Ok, Err}
 use Prim.Native.Nat.{ℕ, ◌+◌, ◌≤◌, ◌<◌}
 use mathlib.Core.Path.{◌≡◌, refl, sym, ap, ◌∙◌}
 use mathlib.Core.Logic.{◌⊎◌}
@@ -8,13 +9,14 @@ use lib.ListN.{length, take}
 use lib.Seq.{length-take-le}
 use borrow.Author.Tests.{lt-ltb, le-ltb, le-leb, lt-leb, leb-true, eq-eqb, ne_eqb}
 use native.Mathlib.Omega.{arith}
+use Rattle.rules.specs.declared.answers.Fault.{Fault}
 use Rattle.rules.specs.Bytes.{Bytes}
 use Rattle.rules.specs.Got.{Got, refused, got}
 use Rattle.rules.specs.Cbor.{Head, head, BYTES, TEXT, after}
-use Rattle.rules.proofs.AnswerLaws.{not-zero}
 use Rattle.rules.proofs.CheckLaws.{head_bounds}
 use Rattle.rules.proofs.CborLaws.{after-string, after-other}
-use Rattle.cbor_reader.specs.declared.Read.{Read}
+use Rattle.cbor_heads.specs.declared.Head as Heads
+use Rattle.cbor_heads.specs.Answer.{head_of, head_means}
 use Rattle.cbor_reader.specs.Read.{read_of}
 use Rattle.depot_items.specs.declared.Item.{Item}
 use Rattle.depot_items.specs.Items.{nothing, held, seen, item_at, item_of}
@@ -38,38 +40,35 @@ pub other_in : (e : ℕ) (h : Head) → (h.kind ≡ BYTES → ⊥) → (h.kind �
     held e h ≡ record { kind = h.kind; num = h.num; next = h.next; after = h.next }
 other_in e h b t l = held_in e h h.next (after-other h b t) l
 
+-- by a head that was read
+abbrev pub item_from : ℕ → Result Heads.Head Fault → Item
+item_from e (Ok h) = held e (head_of h)
+item_from e (Err f) = nothing e
+
 module _ (s : Bytes) (e at : ℕ) where
   pub item_outside : length s < e → item_at s e at ≡ nothing e
   unfolding item_at
   item_outside l = rw (lt-ltb (length s) e l)
 
   -- what a reader of the bytes before e reads
-  module _ (l : e ≤ length s) (r : Read) (q : r ≡ read_of (head (take e s) (length (take e s)) at)) where
+  module _ (l : e ≤ length s) (r : Result Heads.Head Fault) (q : r ≡ read_of (head (take e s) (length (take e s)) at)) where
     by : r ≡ read_of (head (take e s) e at)
     by = rw (length-take-le e s l) at q
 
-    pub item-read : r.refusal ≡ 0 → item_at s e at ≡ held e (record { kind = r.kind; num = r.number; next = r.next })
+    pub item-read : item_at s e at ≡ item_from e r
     unfolding item_at seen
-    item-read z = rw (le-ltb (length s) e l, by) (go (head (take e s) e at) (ap (λ (x : Read). x.refusal) (sym by) ∙ z))
+    item-read = rw (le-ltb (length s) e l, by) (go (head (take e s) e at))
       where
-        go : (g : Got Head) → (read_of g).refusal ≡ 0 → seen e g ≡ held e (record { kind = (read_of g).kind; num = (read_of g).number; next = (read_of g).next })
-        go (refused k p) h = absurd (not-zero k h)
-        go (got h) _ = refl
+        go : (g : Got Head) → seen e g ≡ item_from e (read_of g)
+        go (refused k p) = refl
+        go (got h) = refl
 
-    pub item-unread : (r.refusal ≡ 0 → ⊥) → item_at s e at ≡ nothing e
-    unfolding item_at seen
-    item-unread z = rw (le-ltb (length s) e l) (go (head (take e s) e at) (λ y. z (ap (λ (x : Read). x.refusal) by ∙ y)))
+    pub item-next : (h : Heads.Head) → r ≡ Ok h → h.next ≤ e
+    item-next h y = (head_bounds (take e s) e at (head_of h) (sym (means (head (take e s) e at)) ∙ ap head_means (sym by ∙ y))).1
       where
-        go : (g : Got Head) → ((read_of g).refusal ≡ 0 → ⊥) → seen e g ≡ nothing e
-        go (refused k p) _ = refl
-        go (got h) n = absurd (n refl)
-
-    pub item-next : r.refusal ≡ 0 → r.next ≤ e
-    item-next z = rw by (go (head (take e s) e at) refl (ap (λ (x : Read). x.refusal) (sym by) ∙ z))
-      where
-        go : (g : Got Head) → head (take e s) e at ≡ g → (read_of g).refusal ≡ 0 → (read_of g).next ≤ e
-        go (refused k p) _ h = absurd (not-zero k h)
-        go (got h) y _ = (head_bounds (take e s) e at h y).1
+        means : (g : Got Head) → head_means (read_of g) ≡ g
+        means (refused k p) = refl
+        means (got g) = refl
 
   pub item-wanted : (kind : ℕ) → (item_at s e at).kind ≡ kind → item_of s e at kind ≡ item_at s e at
   unfolding item_of

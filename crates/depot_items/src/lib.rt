@@ -72,11 +72,10 @@ pub fn look(s: &[u8], e: usize, at: usize) -> Item
     if s.len() < e {
         return nothing(e);
     }
-    let h = head_at(&s[..e], at);
-    if h.refusal == 0 {
-        return whole(e, h.kind, h.number, h.next);
+    match head_at(&s[..e], at) {
+        Ok(h) => whole(e, h.kind, h.num, h.next),
+        Err(_) => nothing(e),
     }
-    nothing(e)
 }
 
 // The same, of a wanted kind.

@@ -1,19 +1,21 @@
 use mathlib.Core.Path.{sym}
 use native.Mathlib.Omega.{arith}
+use Rattle.std.proofs.lemmas.Result.{err_from_is_err_and}
 use Rattle.rules.proofs.CborLaws.{item_refused, item-other, item-low, item-high, item-got}
 use Rattle.cbor.proofs.read_item.Goals as goal
+use Rattle.cbor.proofs.read_item.Goals.{then-h-kind-via-then-h-kind, then-h-kind-via-else-h-kind+then-h-lo, then-h-kind-via-else-h-kind+else-h-lo+then-hi-h}
 
-pub returns-then-is-kind : goal.returns-then-is-kind
-returns-then-is-kind c = sym (item-other _ _ _ _ _ _ _ (sym c.in-Head.ensures) c.if-is-kind.true)
+pub returns-in_err-h : goal.returns-in_err-h
+returns-in_err-h c = let e = err_from_is_err_and c.from_residual.result c.from_residual.ensures.1 in rw (e.1, e.2) (sym (item_refused _ _ _ _ _ _ _ _ (sym c.in_err-h.ensures)))
 
-pub returns-then-num-lo : goal.returns-then-num-lo
-returns-then-num-lo c = sym (item-low _ _ _ _ _ _ _ (sym c.in-Head.ensures) (omega arith) (omega arith))
+pub returns-then-h-kind : goal.returns-then-h-kind
+returns-then-h-kind c =
+    let whole = sym c.in_ok-h.ensures in
+    elim c.then-h-kind.branch [
+      | then-h-kind-via-then-h-kind w ↦ sym (item-other _ _ _ _ _ _ _ whole w.if-h-kind.true)
+      | then-h-kind-via-else-h-kind+then-h-lo w ↦ sym (item-low _ _ _ _ _ _ _ whole (omega arith) (omega arith))
+      | then-h-kind-via-else-h-kind+else-h-lo+then-hi-h w ↦ sym (item-high _ _ _ _ _ _ _ whole (omega arith) (omega arith) (omega arith))
+    ]
 
-pub returns-then-hi-num : goal.returns-then-hi-num
-returns-then-hi-num c = sym (item-high _ _ _ _ _ _ _ (sym c.in-Head.ensures) (omega arith) (omega arith) (omega arith))
-
-pub returns-in-NotCbor : goal.returns-in-NotCbor
-returns-in-NotCbor c = sym (item_refused _ _ _ _ _ _ _ _ (sym c.in-NotCbor.ensures))
-
-pub returns-else-hi-num : goal.returns-else-hi-num
-returns-else-hi-num c = sym (item-got _ _ _ _ _ _ _ (sym c.in-Head.ensures) (omega arith) (omega arith) (omega arith))
+pub returns : goal.returns
+returns c = sym (item-got _ _ _ _ _ _ _ (sym c.in_ok-h.ensures) (omega arith) (omega arith) (omega arith))

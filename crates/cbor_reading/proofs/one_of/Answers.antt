@@ -2,11 +2,8 @@ use mathlib.Core.Path.{◌∙◌}
 use Rattle.cbor_reading.proofs.ReadingLaws.{answered}
 use Rattle.cbor_reading.proofs.one_of.Goals as goal
 
-pub returns-in-Item : goal.returns-in-Item
-returns-in-Item c = answered _ _ _ c.read_one_of.ensures c.in-Item.is
+pub returns-in-Ok : goal.returns-in-Ok
+returns-in-Ok c = answered _ _ _ c.read_one_of.ensures c.in-Ok.is
 
-pub returns-in-NotCbor : goal.returns-in-NotCbor
-returns-in-NotCbor c = c.refuse.ensures ∙ answered _ _ _ c.read_one_of.ensures c.in-NotCbor.is
-
-pub returns-in-Malformed : goal.returns-in-Malformed
-returns-in-Malformed c = c.refuse-in-Malformed.ensures ∙ answered _ _ _ c.read_one_of.ensures c.in-Malformed.is
+pub returns-in-Err : goal.returns-in-Err
+returns-in-Err c = c.refuse.ensures ∙ answered _ _ _ c.read_one_of.ensures c.in-Err.is

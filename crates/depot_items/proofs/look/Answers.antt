@@ -1,6 +1,6 @@
-use mathlib.Core.Path.{sym, ◌∙◌}
+use mathlib.Core.Path.{refl, sym, ◌∙◌}
 use lib.Seq.{length-take-le}
-use Rattle.depot_items.proofs.ItemLaws.{item_outside, item-read, item-unread, item-next}
+use Rattle.depot_items.proofs.ItemLaws.{item_outside, item-read, item-next}
 use Rattle.depot_items.proofs.look.Goals as goal
 
 pub returns-then-s-e : goal.returns-then-s-e
@@ -11,13 +11,10 @@ slice_bounds-head_at-end c =
     sym (length-take-le c.args.e c.args.s.now c.if-s-e.false)
 
 pub whole-requires : goal.whole-requires
-whole-requires c =
-    item-next _ _ _ c.if-s-e.false _ c.head_at-h.ensures c.if-h-eq0.true
+whole-requires c = item-next _ _ _ c.if-s-e.false _ c.in-Ok.ensures _ refl
 
-pub returns-then-h-eq0 : goal.returns-then-h-eq0
-returns-then-h-eq0 c =
-    c.whole.ensures ∙ sym (item-read _ _ _ c.if-s-e.false _ c.head_at-h.ensures c.if-h-eq0.true)
+pub returns-in-Ok : goal.returns-in-Ok
+returns-in-Ok c = c.whole.ensures ∙ sym (item-read _ _ _ c.if-s-e.false _ c.in-Ok.ensures)
 
-pub returns : goal.returns
-returns c =
-    c.nothing-2.ensures ∙ sym (item-unread _ _ _ c.if-s-e.false _ c.head_at-h.ensures c.if-h-eq0.false)
+pub returns-in-Err : goal.returns-in-Err
+returns-in-Err c = c.nothing-in-Err.ensures ∙ sym (item-read _ _ _ c.if-s-e.false _ c.in-Err.ensures)

@@ -4,16 +4,13 @@ use Rattle.check_envelope.proofs.OuterLaws.{unread-refused, unread-fits, unread-
 use Rattle.check_envelope.proofs.outer.unread.Goals as goal
 
 pub overflow_add-result : goal.overflow_add-result
-overflow_add-result c = omega (arith, unread-fits _ _ _ _ (sym c.in-Item.ensures) c.if-kind-eq-BYTES.true)
+overflow_add-result c = omega (arith, unread-fits _ _ _ _ (sym c.in-Ok.ensures) c.if-kind-eq-BYTES.true)
 
 pub returns-then-kind-eq-BYTES : goal.returns-then-kind-eq-BYTES
-returns-then-kind-eq-BYTES c = unread-bytes _ _ _ _ (sym c.in-Item.ensures) c.if-kind-eq-BYTES.true
+returns-then-kind-eq-BYTES c = unread-bytes _ _ _ _ (sym c.in-Ok.ensures) c.if-kind-eq-BYTES.true
 
 pub returns-else-kind-eq-BYTES : goal.returns-else-kind-eq-BYTES
-returns-else-kind-eq-BYTES c = unread-nil _ _ _ _ (sym c.in-Item.ensures) c.if-kind-eq-BYTES.false
+returns-else-kind-eq-BYTES c = unread-nil _ _ _ _ (sym c.in-Ok.ensures) c.if-kind-eq-BYTES.false
 
-pub returns-in-NotCbor : goal.returns-in-NotCbor
-returns-in-NotCbor c = c.refuse.ensures ∙ unread-refused _ _ _ _ _ (sym c.in-NotCbor.ensures)
-
-pub returns-in-Malformed : goal.returns-in-Malformed
-returns-in-Malformed c = c.refuse-in-Malformed.ensures ∙ unread-refused _ _ _ _ _ (sym c.in-Malformed.ensures)
+pub returns-in-Err : goal.returns-in-Err
+returns-in-Err c = c.refuse.ensures ∙ unread-refused _ _ _ _ _ (sym c.in-Err.ensures)
