@@ -8,7 +8,7 @@ ghost use Rattle.rules.specs.Bytes.{part, put, two_at, four_at, be2, be4, same};
 pub fn wide(x: u8) -> usize
     ensures { (result ≡ x) × (result < 256) }
 {
-    x as usize
+    usize::from(x)
 }
 
 // Two bytes, and four.
@@ -50,12 +50,10 @@ pub fn equal(a: &[u8], i: usize, b: &[u8], j: usize, n: usize) -> bool
     ensures { result ≡ same (part a.now i n) (part b.now j n) }
 {
     let mut same = true;
-    let mut k = 0;
-    while k < n {
+    for k in 0..n {
         if a[i + k] != b[j + k] {
             same = false;
         }
-        k += 1;
     }
     same
 }
@@ -66,19 +64,15 @@ pub fn copy(s: &[u8], from: usize, n: usize, room: &mut [u8], to: usize)
     requires { (from + n ≤ length s.now) × (to + n ≤ length room.old) }
     ensures { room.new ≡ put room.old to (part s.now from n) }
 {
-    let mut i = 0;
-    while i < n {
+    for i in 0..n {
         room[to + i] = s[from + i];
-        i += 1;
     }
 }
 
 // Whether a is b.
+#[tactic(auto, using(rules::proofs::SameLaws::same_lengths))]
 pub fn is(a: &[u8], b: &[u8]) -> bool
     ensures { result ≡ same a.now b.now }
 {
-    if a.len() != b.len() {
-        return false;
-    }
-    equal(a, 0, b, 0, a.len())
+    a.len() == b.len() && equal(a, 0, b, 0, a.len())
 }

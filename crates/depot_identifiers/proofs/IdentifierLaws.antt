@@ -1,36 +1,32 @@
 -- Parts one after the other.
-use Prim.Native.Nat.{ℕ, zero, suc, ◌+◌, ◌-◌, ◌≤◌, ◌<◌}
+use Prim.Native.Nat.{ℕ, zero, suc, ◌-◌, ◌≤◌, ◌<◌}
 use mathlib.Core.Path.{◌≡◌, refl, sym, ap, ◌∙◌}
-use mathlib.Core.List.{[], ◌++◌, append_assoc, append-nil}
-use mathlib.Core.Bool.{true, false}
-use lib.Dec.{eqb}
-use lib.ListN.{length, get_or, drop, drop_of_length-le}
-use lib.Seq.{drop-cons}
-use borrow.Author.Tests.{lt-ltb, le-ltb, eq-eqb, ne_eqb}
+use mathlib.Core.List.{[], ◌∷◌, ◌++◌, append_assoc, append-nil}
+use mathlib.Core.Bool.{Bool, true, false, cond, ◌&&◌}
+use Rattle.std.specs.List.{list_all}
+use lib.Dec.{eqb, ltb, leb}
+use lib.ListN.{length}
+use borrow.Author.Tests.{lt-leb, le-leb, ltb-true, ltb-false, eq-eqb, ne_eqb}
 use native.Mathlib.Omega.{arith}
-use native.Mathlib.Numerals.{add-one}
 use Rattle.rules.specs.Bytes.{Bytes}
 use Rattle.rules.specs.Cbor.{BYTES}
 use Rattle.text.specs.Text.{Wrote}
 use Rattle.text.proofs.TextLaws.{wrote_none, wrote_then, wrote-length}
 use Rattle.depot_identifiers.specs.Identifier.{all_print, prints, part_text, parts_text, strings, one_prints, string_at, bytes_of}
 
-module _ (s : Bytes) (i : ℕ) where
-  pub print_low : i < length s → get_or s i 0 < 32 → all_print (drop i s) ≡ false
-  unfolding all_print
-  print_low h l = rw (drop-cons s i 0 h, lt-ltb (get_or s i 0) 32 l)
+-- a byte that prints as it is
+abbrev pub printable : ℕ → Bool
+printable b = leb 32 b && leb b 126
 
-  pub print_high : i < length s → 32 ≤ get_or s i 0 → 126 < get_or s i 0 → all_print (drop i s) ≡ false
-  unfolding all_print
-  print_high h l m = rw (drop-cons s i 0 h, le-ltb (get_or s i 0) 32 l, lt-ltb 126 (get_or s i 0) m)
-
-  pub print_next : i < length s → 32 ≤ get_or s i 0 → get_or s i 0 ≤ 126 → all_print (drop i s) ≡ all_print (drop (i + 1) s)
-  unfolding all_print
-  print_next h l m = rw (drop-cons s i 0 h, le-ltb (get_or s i 0) 32 l, le-ltb 126 (get_or s i 0) m, add-one i)
-
-  pub print_end : length s ≤ i → all_print (drop i s) ≡ true
-  unfolding all_print
-  print_end h = rw (drop_of_length-le s h)
+pub all_print-is : (s : Bytes) → list_all printable s ≡ all_print s
+unfolding all_print
+all_print-is [] = refl
+all_print-is (b ∷ s) = go (all_print-is s) (ltb b 32) refl (ltb 126 b) refl
+  where
+    go : list_all printable s ≡ all_print s → (l : Bool) → ltb b 32 ≡ l → (m : Bool) → ltb 126 b ≡ m → list_all printable (b ∷ s) ≡ cond l false (cond m false (all_print s))
+    go _ true p m q = let h : b < 32 = ltb-true b 32 p in rw (lt-leb 32 b h)
+    go _ false p true q = let h : 32 ≤ b = ltb-false b 32 p in let k : 126 < b = ltb-true 126 b q in rw (le-leb 32 b h, lt-leb b 126 k)
+    go e false p false q = let h : 32 ≤ b = ltb-false b 32 p in let k : b ≤ 126 = ltb-false 126 b q in rw (le-leb 32 b h, le-leb b 126 k) e
 
 not_some : 0 < 0 → ⊥
 not_some h = omega arith
@@ -47,10 +43,9 @@ module _ (s : Bytes) where
   strings-none zero at h = refl
   strings-none (suc k) at h = absurd (not_none k h)
 
-  pub strings-next : (k at : ℕ) → 0 < k → (string_at s at).kind ≡ BYTES → strings s k at ≡ strings s (k - 1) (string_at s at).after
+  pub strings-next : (k j at : ℕ) → k ≡ suc j → (string_at s at).kind ≡ BYTES → strings s k at ≡ strings s j (string_at s at).after
   unfolding strings
-  strings-next zero at h e = absurd (not_some h)
-  strings-next (suc k) at h e = rw (eq-eqb (string_at s at).kind BYTES e, below k)
+  strings-next k j at h e = rw (h, eq-eqb (string_at s at).kind BYTES e)
 
   pub strings-other : (k at : ℕ) → 0 < k → ((string_at s at).kind ≡ BYTES → ⊥) → strings s k at ≡ false
   unfolding strings
@@ -67,10 +62,9 @@ module _ (s : Bytes) where
   prints-here zero at h e = absurd (not_some h)
   prints-here (suc k) at h e = rw e
 
-  pub prints-next : (k at : ℕ) → 0 < k → prints (bytes_of s at) ≡ false → one_prints s k at ≡ one_prints s (k - 1) (string_at s at).after
+  pub prints-next : (k j at : ℕ) → k ≡ suc j → prints (bytes_of s at) ≡ false → one_prints s k at ≡ one_prints s j (string_at s at).after
   unfolding one_prints
-  prints-next zero at h e = absurd (not_some h)
-  prints-next (suc k) at h e = rw (e, below k)
+  prints-next k j at h e = rw (h, e)
 
   pub parts_none : (k at : ℕ) → k ≤ 0 → parts_text s k at ≡ []
   unfolding parts_text

@@ -15,27 +15,13 @@ use text_pieces::within;
 fn all_print(s: &[u8]) -> bool
     ensures { result ≡ all_print s.now }
 {
-    let mut i = 0;
-    while i < s.len() {
-        let b = s[i];
-        if b < 32 {
-            return false;
-        }
-        if 126 < b {
-            return false;
-        }
-        i += 1;
-    }
-    true
+    s.iter().all(|b| (b' '..=b'~').contains(b))
 }
 
 fn prints_whole(s: &[u8]) -> bool
     ensures { result ≡ prints s.now }
 {
-    if s.len() == 0 {
-        return false;
-    }
-    all_print(s)
+    !s.is_empty() && all_print(s)
 }
 
 // Whether n byte strings stand from `from` on, and nothing behind them.
@@ -43,15 +29,12 @@ fn are_strings(s: &[u8], n: usize, from: usize) -> bool
     ensures { result ≡ strings s.now n from }
 {
     let mut next = from;
-    let mut left = n;
-    while 0 < left {
+    for _ in 0..n {
         let i = want(s, s.len(), next, cbor::BYTES);
-        let kind = i.kind;
-        if kind != cbor::BYTES {
+        if i.kind != cbor::BYTES {
             return false;
         }
         next = i.after;
-        left -= 1;
     }
     next == s.len()
 }
@@ -61,16 +44,12 @@ fn one_prints(s: &[u8], n: usize, from: usize) -> bool
     ensures { result ≡ one_prints s.now n from }
 {
     let mut next = from;
-    let mut left = n;
-    while 0 < left {
+    for _ in 0..n {
         let i = want(s, s.len(), next, cbor::BYTES);
-        let a = i.next;
-        let b = i.after;
-        if prints_whole(&s[a..b]) {
+        if prints_whole(&s[i.next..i.after]) {
             return true;
         }
-        next = b;
-        left -= 1;
+        next = i.after;
     }
     false
 }
@@ -100,14 +79,10 @@ fn put_parts(room: &mut [u8], at: usize, s: &[u8], n: usize, from: usize) -> usi
 {
     let mut to = at;
     let mut next = from;
-    let mut left = n;
-    while 0 < left {
+    for left in (0..n).rev() {
         let i = want(s, s.len(), next, cbor::BYTES);
-        let a = i.next;
-        let b = i.after;
-        left -= 1;
-        to = put_one(room, to, &s[a..b], left);
-        next = b;
+        to = put_one(room, to, &s[i.next..i.after], left);
+        next = i.after;
     }
     to
 }
@@ -117,14 +92,7 @@ pub fn put_identifier(room: &mut [u8], at: usize, s: &[u8]) -> usize
 {
     let to = put_hex(room, at, s);
     let h = want(s, s.len(), 0, cbor::ARRAY);
-    let kind = h.kind;
-    if kind != cbor::ARRAY {
-        return to;
-    }
-    if !are_strings(s, h.num, h.next) {
-        return to;
-    }
-    if !one_prints(s, h.num, h.next) {
+    if h.kind != cbor::ARRAY || !are_strings(s, h.num, h.next) || !one_prints(s, h.num, h.next) {
         return to;
     }
     let a = put(room, to, b" (");
@@ -137,7 +105,5 @@ pub fn put_identifier_at(room: &mut [u8], at: usize, s: &[u8], from: usize, to: 
     ensures { Writes (identifier_text (between s.now from to)) at room result }
 {
     let p = within(s, from, to);
-    let a = p.from;
-    let b = p.to;
-    put_identifier(room, at, &s[a..b])
+    put_identifier(room, at, &s[p.from..p.to])
 }

@@ -125,7 +125,10 @@ pub(crate) fn lent_image<'a>(p: &[u8], slots: &'a [u8], c: usize) -> &'a [u8]
         return &slots[0..0];
     }
     let name = name_of(p, c);
-    present_image(slots, slot_of(name, 0, name.len(), slots))
+    match slot_of(name, 0, name.len(), slots) {
+        Some(k) => present_image(slots, k),
+        None => &slots[0..0],
+    }
 }
 
 // The answer of number k, nothing if there is none.

@@ -44,32 +44,31 @@ fn shaped(kind: usize, boxed: bool, keyed: bool) -> Shape
     Shape { kind, boxed, keyed }
 }
 
+#[tactic(auto, unfolding(crate::specs::Parts::shape_of))]
 pub fn shape_of(part: Part) -> Shape
     ensures { result ≡ shape_of part }
 {
     match part {
-        Part::Envelope => shaped(cbor::MAP, false, true),
-        Part::Manifest => shaped(cbor::MAP, true, true),
-        Part::Common => shaped(cbor::MAP, true, true),
+        Part::Envelope | Part::Parameters => shaped(cbor::MAP, false, true),
+        Part::Manifest | Part::Common => shaped(cbor::MAP, true, true),
         Part::Components => shaped(cbor::ARRAY, true, false),
-        Part::Identifier => shaped(cbor::ARRAY, false, false),
         Part::Sequence => shaped(cbor::ARRAY, true, true),
-        Part::Alternatives => shaped(cbor::ARRAY, false, false),
-        Part::Parameters => shaped(cbor::MAP, false, true),
-        Part::Argument => shaped(LEAF, false, false),
-        Part::Value => shaped(LEAF, false, false),
+        Part::Identifier | Part::Alternatives => shaped(cbor::ARRAY, false, false),
+        Part::Argument | Part::Value => shaped(LEAF, false, false),
     }
 }
 
+#[tactic(auto, unfolding(crate::specs::Parts::in_envelope))]
 fn in_envelope(key: usize) -> Part
     ensures { result ≡ in_envelope key }
 {
-    if key == MANIFEST_KEY {
-        return Part::Manifest;
+    match key {
+        MANIFEST_KEY => Part::Manifest,
+        _ => Part::Value,
     }
-    Part::Value
 }
 
+#[tactic(auto, unfolding(crate::specs::Parts::in_manifest))]
 fn in_manifest(key: usize) -> Part
     ensures { result ≡ in_manifest key }
 {
@@ -82,22 +81,21 @@ fn in_manifest(key: usize) -> Part
     Part::Value
 }
 
+#[tactic(auto, unfolding(crate::specs::Parts::in_common))]
 fn in_common(key: usize) -> Part
     ensures { result ≡ in_common key }
 {
-    if key == LIST_KEY {
-        return Part::Components;
+    match key {
+        LIST_KEY => Part::Components,
+        _ => Part::Sequence,
     }
-    Part::Sequence
 }
 
 fn as_part(argument: Argument) -> Part
     ensures { result ≡ as_part argument }
 {
     match argument {
-        Argument::Sixteen => Part::Argument,
-        Argument::Nil => Part::Argument,
-        Argument::Index => Part::Argument,
+        Argument::Sixteen | Argument::Nil | Argument::Index => Part::Argument,
         Argument::Alternatives => Part::Alternatives,
         Argument::Parameters => Part::Parameters,
         Argument::Sequence => Part::Sequence,
@@ -112,6 +110,7 @@ fn in_sequence(code: usize) -> Part
 }
 
 // What stands under a key, or in an array.
+#[tactic(auto, unfolding(crate::specs::Parts::child_of))]
 pub fn child(part: Part, key: usize) -> Part
     ensures { result ≡ child_of part key }
 {
@@ -120,11 +119,8 @@ pub fn child(part: Part, key: usize) -> Part
         Part::Manifest => in_manifest(key),
         Part::Common => in_common(key),
         Part::Components => Part::Identifier,
-        Part::Identifier => Part::Value,
         Part::Sequence => in_sequence(key),
         Part::Alternatives => Part::Sequence,
-        Part::Parameters => Part::Value,
-        Part::Argument => Part::Value,
-        Part::Value => Part::Value,
+        Part::Identifier | Part::Parameters | Part::Argument | Part::Value => Part::Value,
     }
 }

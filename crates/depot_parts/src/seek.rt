@@ -23,18 +23,15 @@ pub struct Found {
     pub spot: Spot,
 }
 
+#[tactic(auto, unfolding(crate::specs::Seek::entries))]
 fn entries(shape: Shape, num: usize) -> usize
     ensures { result ≡ Seek·entries shape num }
 {
-    let kind = shape.kind;
-    let keyed = shape.keyed;
-    if kind == cbor::ARRAY {
-        if keyed {
-            return num / 2;
-        }
-        return num;
+    if shape.kind == cbor::ARRAY && shape.keyed {
+        num / 2
+    } else {
+        num
     }
-    num
 }
 
 // The place after `count` items.
@@ -42,35 +39,33 @@ fn items_end(s: &[u8], count: usize, e: usize, at: usize) -> usize
     ensures { result ≡ items_end s.now count e at }
 {
     let mut next = at;
-    let mut left = count;
-    while 0 < left {
+    for _ in 0..count {
         if e <= next {
             return next;
         }
-        let i = look(s, e, next);
-        next = i.after;
-        left -= 1;
+        next = look(s, e, next).after;
     }
     next
 }
 
 // And after one with what it holds.
+#[tactic(auto, unfolding(crate::specs::Seek::item_end))]
 fn item_end(s: &[u8], e: usize, at: usize) -> usize
     ensures { result ≡ item_end s.now e at }
 {
     let i = look(s, e, at);
-    let kind = i.kind;
-    if kind == cbor::ARRAY {
-        return items_end(s, i.num, e, i.next);
+    match i.kind {
+        cbor::ARRAY => items_end(s, i.num, e, i.next),
+        cbor::MAP => {
+            let keys = items_end(s, i.num, e, i.next);
+            items_end(s, i.num, e, keys)
+        }
+        _ => i.after,
     }
-    if kind == cbor::MAP {
-        let keys = items_end(s, i.num, e, i.next);
-        return items_end(s, i.num, e, keys);
-    }
-    i.after
 }
 
 // The key of the entry at `at`; no bytes where entries have none.
+#[tactic(auto, unfolding(crate::specs::Seek::key_at))]
 pub fn key_at(s: &[u8], keyed: bool, e: usize, at: usize) -> Item
     ensures { result ≡ key_at s.now keyed e at }
 {
@@ -85,6 +80,7 @@ pub fn key_at(s: &[u8], keyed: bool, e: usize, at: usize) -> Item
     }
 }
 
+#[tactic(auto, unfolding(crate::specs::Seek::entry_end))]
 fn entry_end(s: &[u8], keyed: bool, e: usize, at: usize) -> usize
     ensures { result ≡ entry_end s.now keyed e at }
 {
@@ -93,6 +89,7 @@ fn entry_end(s: &[u8], keyed: bool, e: usize, at: usize) -> usize
 }
 
 // The byte string around a part; all that is left where it stands in none.
+#[tactic(auto, unfolding(crate::specs::Seek::box_at))]
 fn box_at(s: &[u8], boxed: bool, e: usize, at: usize) -> Item
     ensures { result ≡ box_at s.now boxed e at }
 {
@@ -108,14 +105,11 @@ fn box_at(s: &[u8], boxed: bool, e: usize, at: usize) -> Item
 }
 
 // Whether the place is in a head that should be of this kind, or there is none.
+#[tactic(auto, unfolding(crate::specs::Seek::at_head))]
 pub fn at_head(place: usize, kind: usize, i: Item) -> bool
     ensures { result ≡ at_head place kind i }
 {
-    let is = i.kind;
-    if is == kind {
-        return place < i.next;
-    }
-    true
+    i.kind != kind || place < i.next
 }
 
 // The first of `count` entries that does not end before the place.
@@ -123,19 +117,19 @@ fn seek(s: &[u8], place: usize, keyed: bool, e: usize, count: usize, at: usize) 
     ensures { result ≡ Seek·seek s.now place keyed e count at }
 {
     let mut next = at;
-    let mut left = count;
-    while 0 < left {
+    for after in (0..count).rev() {
         let end = entry_end(s, keyed, e, next);
         if place <= end {
+            let left = after + 1;
             return Spot { left, at: next };
         }
         next = end;
-        left -= 1;
     }
-    Spot { left, at: next }
+    Spot { left: 0, at: next }
 }
 
 // That entry in the part at `at`.
+#[tactic(auto, unfolding(crate::specs::Seek::find))]
 pub fn find(s: &[u8], place: usize, part: Part, e: usize, at: usize) -> Found
     ensures { result ≡ Seek·find s.now place part e at }
 {
@@ -156,9 +150,7 @@ pub fn find(s: &[u8], place: usize, part: Part, e: usize, at: usize) -> Found
 fn missing(s: &[u8], e: usize, at: usize) -> bool
     ensures { result ≡ eqb (item_at s.now e at).kind NO_ITEM }
 {
-    let i = look(s, e, at);
-    let kind = i.kind;
-    kind == depot_items::NO_ITEM
+    look(s, e, at).kind == depot_items::NO_ITEM
 }
 
 // Whether the part at `at`, which ends at the place, lacks an item there.
@@ -169,61 +161,45 @@ fn short(s: &[u8], place: usize, depth: usize, part: Part, e: usize, at: usize) 
         return false;
     }
     let h = shape_of(part);
-    let kind = h.kind;
-    if kind == LEAF {
+    if h.kind == LEAF {
         return missing(s, e, at);
     }
     let f = find(s, place, part, e, at);
-    let stop = f.stop;
-    let x = f.spot;
-    let left = x.left;
-    if stop {
+    if f.stop {
         return true;
     }
-    if left == 0 {
-        return false;
+    match f.spot.left {
+        0 => return false,
+        1 => {}
+        _ => return true,
     }
-    if 1 < left {
-        return true;
-    }
-    let k = key_at(s, h.keyed, f.end, x.at);
-    if at_head(place, cbor::NUMBER, k) {
-        return true;
-    }
-    short(s, place, depth - 1, child(part, k.num), f.end, k.next)
+    let k = key_at(s, h.keyed, f.end, f.spot.at);
+    at_head(place, cbor::NUMBER, k) || short(s, place, depth - 1, child(part, k.num), f.end, k.next)
 }
 
 // Whether the entry at `at` holds the place; the parts in it may be `depth` deep.
+#[tactic(auto, unfolding(crate::specs::Seek::holds))]
 fn holds(s: &[u8], place: usize, depth: usize, part: Part, e: usize, at: usize) -> bool
     ensures { result ≡ Seek·holds s.now place depth part e at }
 {
     let h = shape_of(part);
     let k = key_at(s, h.keyed, e, at);
-    if place < entry_end(s, h.keyed, e, at) {
-        return true;
-    }
-    if at_head(place, cbor::NUMBER, k) {
-        return true;
-    }
-    short(s, place, depth, child(part, k.num), e, k.next)
+    place < entry_end(s, h.keyed, e, at)
+        || at_head(place, cbor::NUMBER, k)
+        || short(s, place, depth, child(part, k.num), e, k.next)
 }
 
 // It, or the one after it.
+#[tactic(auto, unfolding(crate::specs::Seek::settle))]
 pub fn settle(s: &[u8], place: usize, depth: usize, part: Part, e: usize, x: Spot) -> Spot
     ensures { result ≡ Seek·settle s.now place depth part e x }
 {
-    let left = x.left;
-    let at = x.at;
-    if holds(s, place, depth, part, e, at) {
+    if holds(s, place, depth, part, e, x.at) {
         return x;
     }
     let h = shape_of(part);
-    let end = entry_end(s, h.keyed, e, at);
-    if left == 0 {
-        return Spot { left: 0, at: end };
-    }
     Spot {
-        left: left - 1,
-        at: end,
+        left: x.left.saturating_sub(1),
+        at: entry_end(s, h.keyed, e, x.at),
     }
 }

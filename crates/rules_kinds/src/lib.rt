@@ -14,15 +14,12 @@ use rules_lookup::look_up;
 use rules_tables::{Table, tables};
 
 // The kind of the argument; nil where the code is not listed.
+#[tactic(auto, unfolding(crate::specs::Kinds::kind_of))]
 pub fn kind_of(table: &Table, code: usize) -> Argument
     requires { table.now ≡ by_number }
     ensures { result ≡ kind_of code }
 {
-    let row = look_up(table, code);
-    match row {
-        Some(command) => command.argument,
-        None => Argument::Nil,
-    }
+    look_up(table, code).map_or(Argument::Nil, |command| command.argument)
 }
 
 // Whether the command is a condition; false where the code is not listed.
@@ -30,50 +27,31 @@ pub fn is_condition(table: &Table, code: usize) -> bool
     requires { table.now ≡ by_number }
     ensures { result ≡ condition_in (row_of code commands) }
 {
-    let row = look_up(table, code);
-    match row {
-        Some(command) => command.condition,
-        None => false,
-    }
+    look_up(table, code).is_some_and(|command| command.condition)
 }
 
 pub fn holds_sequence(kind: Argument) -> bool
     ensures { result ≡ is_sequence kind }
 {
-    match kind {
-        Argument::Sequence => true,
-        Argument::Sixteen => false,
-        Argument::Parameters => false,
-        Argument::Nil => false,
-        Argument::Index => false,
-        Argument::Alternatives => false,
-    }
+    matches!(kind, Argument::Sequence)
 }
 
 pub fn holds_alternatives(kind: Argument) -> bool
     ensures { result ≡ is_alternatives kind }
 {
-    match kind {
-        Argument::Alternatives => true,
-        Argument::Sixteen => false,
-        Argument::Parameters => false,
-        Argument::Nil => false,
-        Argument::Index => false,
-        Argument::Sequence => false,
-    }
+    matches!(kind, Argument::Alternatives)
 }
 
 // The same without a table at hand: the run of an envelope and the tools read an argument by it.
+#[tactic(auto, using(crate::proofs::KindTests::no_argument), unfolding(crate::specs::Kinds::kind_of))]
 pub fn argument_of(code: usize) -> Argument
     ensures { result ≡ kind_of code }
 {
     match code {
-        VENDOR => Argument::Sixteen,
-        CLASS => Argument::Sixteen,
+        VENDOR | CLASS => Argument::Sixteen,
         SET_INDEX => Argument::Index,
         TRY_EACH => Argument::Alternatives,
-        SET_PARAMETERS => Argument::Parameters,
-        OVERRIDE_PARAMETERS => Argument::Parameters,
+        SET_PARAMETERS | OVERRIDE_PARAMETERS => Argument::Parameters,
         RUN_SEQUENCE => Argument::Sequence,
         _ => Argument::Nil,
     }

@@ -2,8 +2,8 @@
 use Prim.Native.Nat.{ℕ, zero, suc, ◌+◌, ◌≤◌, ◌<◌}
 use mathlib.Core.Path.{◌≡◌, refl}
 use mathlib.Core.List.{List, [], ◌∷◌, head-eq_of_cons-eq, tail-eq_of_cons-eq}
-use mathlib.Core.Bool.{Bool, true, false, cond}
-use mathlib.Core.Option.{Option, some, none}
+use mathlib.Core.Bool.{true, cond}
+use mathlib.Core.Option.{none}
 use native.Mathlib.Nat.{le_of_suc-le-suc, not-suc-le-zero}
 use native.Mathlib.Omega.{arith}
 use borrow.Author.Tests.{ltb-true, ne_eqb}
@@ -11,7 +11,7 @@ use lib.Dec.{eqb, ltb}
 use lib.ListN.{get_or}
 use Rattle.std.specs.Prelude as Rust
 use Rattle.rules.specs.declared.tables.Command.{Command}
-use Rattle.rules.specs.Commands.{Row, commands, row_of, condition_in, ParamRow, params, param_of}
+use Rattle.rules.specs.Commands.{Row, commands, row_of, ParamRow, params, param_of}
 use Rattle.rules.specs.Tables.{listed, known, argument_at, known_at, values, codes, keys, table_of, by_number}
 use Rattle.rules.proofs.TableLaws.{both}
 use Rattle.rules_tables.proofs.StoreLaws.{within}
@@ -56,12 +56,3 @@ no_param n [] c t h = refl
 no_param n (r ∷ rs) c t h =
     let (b, bs) = both (λ x. ltb x.number n) r rs t in
     rw (ne_eqb c r.number (λ e. omega (arith, ltb-true r.number n b)), param_of) (no_param n rs c bs h)
-
--- the column of conditions, as a look-up tells it
-abbrev pub condition_told : Rust.Option Command → Bool
-condition_told (Rust.Some c) = c.condition
-condition_told Rust.None = false
-
-pub condition-told : (x : Option Row) → condition_told (listed x) ≡ condition_in x
-condition-told none = refl
-condition-told (some r) = refl

@@ -54,7 +54,8 @@ fn condition_in(entry: u16) -> bool
     entry / 512 == 1
 }
 
-// An entry, taken apart; sections 0 where nothing is listed.
+// An entry, taken apart; sections 0 where nothing is listed, and the kind by its number: the program test asks so of each record,
+// and its clauses are about these numbers (program_arguments::argument_fits).
 #[derive(Clone, Copy)]
 pub struct Entry {
     pub sections: u8,

@@ -1,9 +1,9 @@
 // The tables of commands and parameters, as data: check, the program test and translation take codes and keys from here.
 #![tactic(auto)]
 
-ghost use Rattle.std.specs.Prelude.{◌≡◌, [], map, ◌≤◌, ◌<◌, Some};
+ghost use Rattle.std.specs.Prelude.{◌≡◌, [], map, ◌<◌, Some};
 ghost use Rattle.rules.specs.Commands.{commands, params};
-ghost use Rattle.rules.specs.Tables.{as_command, as_parameter_row, argument_number, parameter_number, bit_of, packed, table_of, by_number};
+ghost use Rattle.rules.specs.Tables.{as_command, as_parameter_row, argument_number, parameter_number, packed, table_of, by_number};
 
 use rules::codes;
 use rules::controller::Controller;
@@ -155,18 +155,11 @@ fn argument_number(argument: Argument) -> u16
     }
 }
 
-fn bit(b: bool) -> u16
-    ensures { (result ≡ bit_of b) × (result ≤ 1) }
-{
-    if b { 1 } else { 0 }
-}
-
 // Its entry in the table by number.
 fn pack(row: Command) -> u16
     ensures { result ≡ packed (Some row) }
 {
-    let argument = row.argument;
-    bit(row.condition) * 512 + argument_number(argument) * 64 + row.sections as u16
+    u16::from(row.condition) * 512 + argument_number(row.argument) * 64 + u16::from(row.sections)
 }
 
 fn parameter_number(parameter: Parameter) -> u16
@@ -199,11 +192,8 @@ fn with_commands(rows: [Command; ROWS]) -> Table
     ensures { result ≡ table_of commands [] }
 {
     let mut table = [0u16; ENTRIES];
-    let mut i = 0;
-    while i < ROWS {
-        let row = rows[i];
-        table[row.code as usize] = pack(row);
-        i += 1;
+    for row in &rows {
+        table[row.code as usize] = pack(*row);
     }
     table
 }
@@ -212,12 +202,8 @@ fn with_parameters(mut table: Table, rows: [ParameterRow; Controller::PARAMETERS
     requires { (table ≡ table_of commands []) × (rows ≡ map as_parameter_row params) }
     ensures { result ≡ by_number }
 {
-    let mut i = 0;
-    while i < Controller::PARAMETERS {
-        let row = rows[i];
-        let parameter = row.parameter;
-        table[CODES + row.key as usize] = parameter_number(parameter);
-        i += 1;
+    for row in &rows {
+        table[CODES + row.key as usize] = parameter_number(row.parameter);
     }
     table
 }

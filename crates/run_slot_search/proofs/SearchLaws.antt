@@ -10,7 +10,10 @@ use lib.Dec.{eqb, leb}
 use lib.ListN.{length, get_or, drop, set, length-map}
 use lib.Seq.{sets, take-take, get_or-set_same, get_or-set_other}
 use borrow.Author.Count.{below_more}
-use borrow.Author.Tests.{eq-eqb, ne_eqb, le-leb, lt-leb, leb-true}
+use borrow.Author.Tests.{leb-true}
+use Rattle.std.proofs.lemmas.Bool.{false≢true}
+use Rattle.std.specs.Prelude.{Some, None}
+use Rattle.std.specs.List.{find, list_all, list_any, range_with_len}
 use Rattle.rules.specs.Bytes.{Bytes, Span, span, span_at, bytes_at, part, same, member, index_of, repeats, all_in}
 use Rattle.rules.specs.Limits.{limits}
 use Rattle.rules.specs.Slots.{slot_bytes, id_from, slot_at, numbers, slots_in, slot_names, slot_of, good_slot, all_good, good_slots}
@@ -19,7 +22,7 @@ use Rattle.rules.proofs.GotLaws.{and-true}
 use Rattle.rules.proofs.SameLaws.{same_lengths}
 use Rattle.run_slots.proofs.NumbersLaws.{numbers-turn, numbers-end, numbers-length, numbers-at, get_or-numbers}
 use Rattle.run_slots.specs.Slot.{Holds, Short}
-use Rattle.run_slot_search.specs.Search.{slots_from, names_from, names_at, slot_numbers, Found}
+use Rattle.run_slot_search.specs.Search.{slots_from, names_from, names_at, slot_numbers, slot_found, Found}
 
 -- identifiers of different lengths are not the same
 module _ (b : Bytes) (k : ℕ) (short : get_or b (slot_bytes * k) 0 ≤ limits.identifier) where
@@ -71,23 +74,22 @@ index_hit x y ys e = rw (index_of, e)
 pub index_miss : (x y : Bytes) (ys : List Bytes) → same x y ≡ false → index_of x (y ∷ ys) ≡ suc (index_of x ys)
 index_miss x y ys e = rw (index_of, e)
 
--- a list has x if x stands before its end
-index_in : (x : Bytes) (ys : List Bytes) → (index_of x ys ≡ length ys → ⊥) → (member x ys ≡ true) × (index_of x ys < length ys)
-index_in x [] d = absurd (d refl)
-index_in x (y ∷ ys) d = go (same x y) refl (index_in x ys)
+-- what a list has stands before its end
+index_in : (x : Bytes) (ys : List Bytes) → member x ys ≡ true → index_of x ys < length ys
+index_in x [] m = cc
+index_in x (y ∷ ys) m = go (same x y) refl (index_in x ys)
   where
-    go : (b : Bool) → same x y ≡ b → ((index_of x ys ≡ length ys → ⊥) → (member x ys ≡ true) × (index_of x ys < length ys)) →
-        (member x (y ∷ ys) ≡ true) × (index_of x (y ∷ ys) < length (y ∷ ys))
-    go true e ih = (rw e, omega (arith, index_hit x y ys e))
-    go false e ih = let (m, l) = ih (λ q. d (index_miss x y ys e ∙ ap suc q)) in (rw (e, m), omega (arith, index_miss x y ys e))
+    go : (b : Bool) → same x y ≡ b → (member x ys ≡ true → index_of x ys < length ys) → index_of x (y ∷ ys) < length (y ∷ ys)
+    go true e ih = omega (arith, index_hit x y ys e)
+    go false e ih = omega (arith, index_miss x y ys e, ih (rw e at m))
 
-index-out : (x : Bytes) (ys : List Bytes) → index_of x ys ≡ length ys → member x ys ≡ false
-index-out x [] q = refl
-index-out x (y ∷ ys) q = go (same x y) refl (index-out x ys)
+index-out : (x : Bytes) (ys : List Bytes) → member x ys ≡ false → index_of x ys ≡ length ys
+index-out x [] m = refl
+index-out x (y ∷ ys) m = go (same x y) refl (index-out x ys)
   where
-    go : (b : Bool) → same x y ≡ b → (index_of x ys ≡ length ys → member x ys ≡ false) → member x (y ∷ ys) ≡ false
-    go true e ih = absurd (omega (arith, index_hit x y ys e))
-    go false e ih = rw (e, ih (omega (arith, index_miss x y ys e)))
+    go : (b : Bool) → same x y ≡ b → (member x ys ≡ false → index_of x ys ≡ length ys) → index_of x (y ∷ ys) ≡ length (y ∷ ys)
+    go true e ih = absurd (let z : true ≡ false = rw e at m in false≢true (sym z))
+    go false e ih = index_miss x y ys e ∙ ap suc (ih (rw e at m))
 
 -- the search of the slots from k on, for an identifier
 module _ (x : Bytes) (b : Bytes) where
@@ -105,34 +107,56 @@ module _ (x : Bytes) (b : Bytes) where
     pub find-end : r ≡ k + index_of x (names_from b k n) → n ≤ k → r ≡ k
     find-end q l = omega (arith, ap (index_of x) (names-end b k n l))
 
-  module _ (k n : ℕ) where
-    pub member_hit : k < n → same x (slot_at b k).id ≡ true → member x (names_from b k n) ≡ true
-    member_hit l e = rw (names-turn b k n l, e)
+-- the searches of the code over a range of numbers, as those of lists
+module _ (b : Bytes) where
+  good-numbers : (n k : ℕ) → list_all (λ i. good_slot (slot_at b i)) (range_with_len k n) ≡ all_good (map (slot_at b) (numbers n k))
+  good-numbers zero k = refl
+  good-numbers (suc n) k = rw (add-one k, good-numbers n (suc k)) refl
 
-    pub member-next : k < n → same x (slot_at b k).id ≡ false → member x (names_from b k n) ≡ member x (names_from b (k + 1) n)
-    member-next l e = rw (names-turn b k n l, e)
+  pub good-range : (n : ℕ) → list_all (λ i. good_slot (slot_at b i)) (range_with_len 0 (n - 0)) ≡ all_good (slots_from b 0 n)
+  unfolding slots_from
+  good-range n = good-numbers (n - 0) 0
 
-    pub member-end : n ≤ k → member x (names_from b k n) ≡ false
-    member-end l = rw (names-end b k n l)
+  member-numbers : (x : Bytes) (n k : ℕ) → list_any (λ i. same x (slot_at b i).id) (range_with_len k n) ≡ member x (map (λ y. y.id) (map (slot_at b) (numbers n k)))
+  member-numbers x zero k = refl
+  member-numbers x (suc n) k = rw (add-one k, member-numbers x n (suc k)) refl
 
-module _ (b : Bytes) (k n : ℕ) where
-  pub twice_hit : k < n → member (slot_at b k).id (names_from b (k + 1) n) ≡ true → repeats (names_from b k n) ≡ true
-  twice_hit l e = rw (names-turn b k n l, e)
+  pub member-range : (x : Bytes) (k n : ℕ) → list_any (λ i. same x (slot_at b i).id) (range_with_len k (n - k)) ≡ member x (names_from b k n)
+  unfolding slots_from names_from
+  member-range x k n = member-numbers x (n - k) k
 
-  pub twice_next : k < n → member (slot_at b k).id (names_from b (k + 1) n) ≡ false → repeats (names_from b k n) ≡ repeats (names_from b (k + 1) n)
-  twice_next l e = rw (names-turn b k n l, e)
+  twice-numbers : (n m k : ℕ) → m ≡ n - k → list_any (λ i. member (slot_at b i).id (names_from b (i + 1) n)) (range_with_len k m) ≡ repeats (names_from b k n)
+  twice-numbers n zero k e = rw (names-end b k n (omega arith)) refl
+  twice-numbers n (suc m) k e =
+      rw (names-turn b k n (omega arith), twice-numbers n m (k + 1) (omega arith)) refl
 
-  pub twice_end : n ≤ k → repeats (names_from b k n) ≡ false
-  twice_end l = rw (names-end b k n l)
+  pub twice-range : (n : ℕ) → list_any (λ i. member (slot_at b i).id (names_from b (i + 1) n)) (range_with_len 0 (n - 0)) ≡ repeats (names_from b 0 n)
+  twice-range n = twice-numbers n (n - 0) 0 refl
 
-  pub good_miss : k < n → good_slot (slot_at b k) ≡ false → all_good (slots_from b k n) ≡ false
-  good_miss l e = ap all_good (slots-turn b k n l) ∙ ap (λ (t : Bool). t && all_good (slots_from b (k + 1) n)) e
+module _ (x b : Bytes) where
+  abbrev has : ℕ → Bool
+  has k = same x (slot_at b k).id
 
-  pub good-next : k < n → good_slot (slot_at b k) ≡ true → all_good (slots_from b k n) ≡ all_good (slots_from b (k + 1) n)
-  good-next l e = ap all_good (slots-turn b k n l) ∙ ap (λ (t : Bool). t && all_good (slots_from b (k + 1) n)) e
+  abbrev names : ℕ → ℕ → List Bytes
+  names n k = map (λ y. y.id) (map (slot_at b) (numbers n k))
 
-  pub good-end : n ≤ k → all_good (slots_from b k n) ≡ true
-  good-end l = rw (slots_end b k n l)
+  find-numbers : (n k : ℕ) → find has (range_with_len k n) ≡ cond (member x (names n k)) (Some (k + index_of x (names n k))) None
+  find-numbers zero k = refl
+  find-numbers (suc n) k = go (has k) refl (find-numbers n (suc k))
+    where
+      go : (t : Bool) → has k ≡ t → find has (range_with_len (suc k) n) ≡ cond (member x (names n (suc k))) (Some (suc k + index_of x (names n (suc k)))) None →
+          find has (range_with_len k (suc n)) ≡ cond (member x (names (suc n) k)) (Some (k + index_of x (names (suc n) k))) None
+      go true e h = rw (e, index_hit x (slot_at b k).id (names n (suc k)) e, add-zero k) refl
+      go false e h =
+          let q : k + suc (index_of x (names n (suc k))) ≡ suc k + index_of x (names n (suc k)) = omega arith in
+          rw (e, index_miss x (slot_at b k).id (names n (suc k)) e, q, add-one k) h
+
+  pub find-range : find has (range_with_len 0 (length b / slot_bytes - 0)) ≡ slot_found x b
+  unfolding slots_in slot_of
+  find-range =
+      let n : ℕ = length b / slot_bytes in
+      let e : n - 0 ≡ n = omega arith in
+      rw (e, find-numbers n 0, zero-add) refl
 
 names-length : (b : Bytes) → length (slot_names b) ≡ length b / slot_bytes
 unfolding slots_in
@@ -140,16 +164,29 @@ names-length b =
     length-map (map (slot_at b) (numbers (length b / slot_bytes) 0)) (λ x. x.id) ∙ length-map (numbers (length b / slot_bytes) 0) (slot_at b)
     ∙ numbers-length (length b / slot_bytes) 0
 
--- a slot that is not assigned, and one that is
-pub none_named : (x b : Bytes) → slot_of x b ≡ length b / slot_bytes → member x (slot_names b) ≡ false
-unfolding slot_of
-none_named x b q = index-out x (slot_names b) (q ∙ sym (names-length b))
+-- a slot that was not found, and one that was
+found-none : (x b : Bytes) → None ≡ slot_found x b → member x (slot_names b) ≡ false
+found-none x b q = go (member x (slot_names b)) q
+  where
+    go : (t : Bool) → None ≡ cond t (Some (slot_of x b)) None → t ≡ false
+    go true e = cc
+    go false e = refl
 
-pub one-named : (x b : Bytes) → (slot_of x b ≡ length b / slot_bytes → ⊥) → (member x (slot_names b) ≡ true) × (slot_of x b < length b / slot_bytes)
+found-some : (x b : Bytes) (r : ℕ) → Some r ≡ slot_found x b → (member x (slot_names b) ≡ true) × (r ≡ slot_of x b) × (r < length b / slot_bytes)
 unfolding slot_of
-one-named x b d =
-    let (m, l) = index_in x (slot_names b) (λ q. d (q ∙ names-length b)) in
-    (m, omega (arith, names-length b))
+found-some x b r q = go (member x (slot_names b)) refl q
+  where
+    go : (t : Bool) → member x (slot_names b) ≡ t → Some r ≡ cond t (Some (slot_of x b)) None → (member x (slot_names b) ≡ true) × (r ≡ slot_of x b) × (r < length b / slot_bytes)
+    go true m e = let is : r ≡ slot_of x b = cc in (m, is, omega (arith, index_in x (slot_names b) m, names-length b))
+    go false m e = cc
+
+-- where a slot was not found, its number is how many slots there are
+pub none-found : (x b : Bytes) → None ≡ slot_found x b → slot_of x b ≡ length b / slot_bytes
+unfolding slot_of
+none-found x b q = index-out x (slot_names b) (found-none x b q) ∙ names-length b
+
+pub some-found : (x b : Bytes) (r : ℕ) → Some r ≡ slot_found x b → r ≡ slot_of x b
+some-found x b r q = (found-some x b r q).1
 
 module _ (s : Bytes) (a : List ℕ) where
   -- the identifiers from number i on, before number n
@@ -194,32 +231,35 @@ module _ (s : Bytes) (a : List ℕ) (n : ℕ) (slots : Bytes) (before : List ℕ
       }
 
   module _ (after : List ℕ) (i : ℕ) (h : Sofar s a n slots before after i) where
-    module _ (l : i < n) (r : ℕ) (q : r ≡ slot_of (bytes_at s (span_at a i)) slots) where
-      turn : all_in (names_at s a n) (slot_names slots) ≡ (member (bytes_at s (span_at a i)) (slot_names slots) && all_in (left_at s a (i + 1) n) (slot_names slots))
+    module _ (l : i < n) where
+      abbrev x : Bytes
+      x = bytes_at s (span_at a i)
+
+      turn : all_in (names_at s a n) (slot_names slots) ≡ (member x (slot_names slots) && all_in (left_at s a (i + 1) n) (slot_names slots))
       turn = h.rest ∙ ap (λ (l : List Bytes). all_in l (slot_names slots)) (left-turn s a i n l)
 
-      pub sofar_stop : r ≡ length slots / slot_bytes → all_in (names_at s a n) (slot_names slots) ≡ false
-      sofar_stop e = turn ∙ rw (none_named (bytes_at s (span_at a i)) slots (sym q ∙ e))
-
       -- the numbers that are still to be written, from that of identifier i on
-      write : (t : Bool) → member (bytes_at s (span_at a i)) (slot_names slots) ≡ t →
-          sets before 0 (slot_numbers (names_at s a n) slots) ≡ sets after i (cond t (slot_of (bytes_at s (span_at a i)) slots ∷ slot_numbers (left_at s a (i + 1) n) slots) [])
+      write : (t : Bool) → member x (slot_names slots) ≡ t →
+          sets before 0 (slot_numbers (names_at s a n) slots) ≡ sets after i (cond t (slot_of x slots ∷ slot_numbers (left_at s a (i + 1) n) slots) [])
       write t e = h.written ∙ ap (λ (l : List Bytes). sets after i (slot_numbers l slots)) (left-turn s a i n l) ∙ rw e
 
-      pub sofar_kept : r ≡ length slots / slot_bytes → after ≡ sets before 0 (slot_numbers (names_at s a n) slots)
-      sofar_kept e = sym (write false (none_named (bytes_at s (span_at a i)) slots (sym q ∙ e)))
+      pub sofar_stop : None ≡ slot_found x slots → all_in (names_at s a n) (slot_names slots) ≡ false
+      sofar_stop q = turn ∙ rw (found-none x slots q)
 
-      pub sofar_next : (r ≡ length slots / slot_bytes → ⊥) → i < length after → Sofar s a n slots before (set after i r) (i + 1)
-      sofar_next d f =
-          let (m, inside) = one-named (bytes_at s (span_at a i)) slots (λ e. d (q ∙ e)) in
+      pub sofar_kept : None ≡ slot_found x slots → after ≡ sets before 0 (slot_numbers (names_at s a n) slots)
+      sofar_kept q = sym (write false (found-none x slots q))
+
+      pub sofar_next : (r : ℕ) → Some r ≡ slot_found x slots → i < length after → Sofar s a n slots before (set after i r) (i + 1)
+      sofar_next r q f =
+          let (m, is, inside) = found-some x slots r q in
           let here : get_or (set after i r) i 0 ≡ r = get_or-set_same after i r 0 f in
           let other : (j : ℕ) → (j ≡ i → ⊥) → get_or (set after i r) j 0 ≡ get_or after j 0 = λ j e. get_or-set_other after i j r 0 e in
           record {
             rest = turn ∙ rw m;
-            number = below_more (λ j. get_or (set after i r) j 0 ≡ slot_of (bytes_at s (span_at a j)) slots) i (λ j g. other j (λ e. omega arith) ∙ h.number j g) (here ∙ q);
+            number = below_more (λ j. get_or (set after i r) j 0 ≡ slot_of (bytes_at s (span_at a j)) slots) i (λ j g. other j (λ e. omega arith) ∙ h.number j g) (here ∙ is);
             there = below_more (λ j. Holds slots (get_or (set after i r) j 0)) i (λ j g. omega (arith, other j (λ e. omega arith), h.there j g)) (omega arith);
             beyond = λ j g. other j (λ e. omega arith) ∙ h.beyond j (omega arith);
-            written = write true m ∙ rw (← q, add-one i);
+            written = write true m ∙ rw (← is, add-one i);
           }
 
     pub sofar_all : n ≤ i → all_in (names_at s a n) (slot_names slots) ≡ true
@@ -242,31 +282,9 @@ module _ (b : Bytes) where
   abbrev count : ℕ
   count = length b / slot_bytes
 
-  good-tests : good_slots b ≡ (eqb (length b % slot_bytes) 0 && leb 1 count && leb count limits.slots && all_good (slots_from b 0 count) && not (repeats (names_from b 0 count)))
+  pub good_tests : good_slots b ≡ (eqb (length b % slot_bytes) 0 && leb 1 count && leb count limits.slots && all_good (slots_from b 0 count) && not (repeats (names_from b 0 count)))
   unfolding good_slots
-  good-tests = rw (names-all b, slots-all b)
-
-  pub torn : (length b % slot_bytes ≡ 0 → ⊥) → good_slots b ≡ false
-  torn d = good-tests ∙ rw (ne_eqb _ _ d)
-
-  pub none-there : length b % slot_bytes ≡ 0 → count < 1 → good_slots b ≡ false
-  none-there e l = good-tests ∙ rw (eq-eqb _ _ e, lt-leb _ _ l)
-
-  pub too_many_lem : length b % slot_bytes ≡ 0 → 1 ≤ count → limits.slots < count → good_slots b ≡ false
-  too_many_lem e l m = good-tests ∙ rw (eq-eqb _ _ e, le-leb _ _ l, lt-leb _ _ m)
-
-  module _ (e : length b % slot_bytes ≡ 0) (l : 1 ≤ count) (m : count ≤ limits.slots) where
-    good-rest : good_slots b ≡ (all_good (slots_from b 0 count) && not (repeats (names_from b 0 count)))
-    good-rest = good-tests ∙ rw (eq-eqb _ _ e, le-leb _ _ l, le-leb _ _ m)
-
-    pub one-bad : all_good (slots_from b 0 count) ≡ false → good_slots b ≡ false
-    one-bad q = good-rest ∙ rw q
-
-    pub one_again : all_good (slots_from b 0 count) ≡ true → repeats (names_from b 0 count) ≡ true → good_slots b ≡ false
-    one_again q q' = good-rest ∙ rw (q, q')
-
-    pub all_well : all_good (slots_from b 0 count) ≡ true → repeats (names_from b 0 count) ≡ false → good_slots b ≡ true
-    all_well q q' = good-rest ∙ rw (q, q')
+  good_tests = rw (names-all b, slots-all b)
 
 -- good slots have short identifiers
 slot-short : (b : Bytes) (k : ℕ) → good_slot (slot_at b k) ≡ true → get_or b (slot_bytes * k) 0 ≤ limits.identifier
@@ -291,7 +309,7 @@ all_short b g k l =
 
 pub good_parts : (b : Bytes) → good_slots b ≡ true → (1 ≤ length b / slot_bytes) × (all_good (slots_from b 0 (length b / slot_bytes)) ≡ true)
 good_parts b g =
-    let (q, _) = and-true _ (not (repeats (names_from b 0 (count b)))) (sym (good-tests b) ∙ g) in
+    let (q, _) = and-true _ (not (repeats (names_from b 0 (count b)))) (sym (good_tests b) ∙ g) in
     let (q', good) = and-true _ (all_good (slots_from b 0 (count b))) q in
     let (q'', _) = and-true _ (leb (count b) limits.slots) q' in
     let (_, some) = and-true (eqb (length b % slot_bytes) 0) (leb 1 (count b)) q'' in

@@ -1,5 +1,5 @@
 -- The slots of components, and all slots of a run.
-use Rattle.std.specs.Prelude.{ℕ, ◌-◌, ◌≤◌, ◌<◌, ◌≡◌, List, [], ◌∷◌, map, Bool, true, cond, length, get_or}
+use Rattle.std.specs.Prelude.{ℕ, ◌-◌, ◌≤◌, ◌<◌, ◌≡◌, List, [], ◌∷◌, map, Bool, true, cond, Option, Some, None, length, get_or}
 use Rattle.std.proofs.lemmas.List.Edits.{sets}
 use Rattle.rules.specs.Lent.{Lent, was, left}
 use Rattle.rules.specs.Bytes.{Bytes, bytes_at, span_at, member, all_in}
@@ -16,6 +16,10 @@ names_from b k n = map (λ x. x.id) (slots_from b k n)
 -- the n identifiers at places of s
 abbrev pub names_at : Bytes → List ℕ → ℕ → List Bytes
 names_at s ids n = map (λ k. bytes_at s (span_at ids k)) (numbers n 0)
+
+-- the number of the slot with that identifier, if there is one
+abbrev pub slot_found : Bytes → Bytes → Option ℕ
+slot_found x slots = cond (member x (slot_names slots)) (Some (slot_of x slots)) None
 
 -- the numbers of the identifiers' slots, up to the first identifier that has none
 abbrev pub slot_numbers : List Bytes → Bytes → List ℕ

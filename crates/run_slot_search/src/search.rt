@@ -2,9 +2,9 @@
 ghost use Rattle.std.specs.Prelude.{◌≡◌, ◌+◌, ◌*◌, ◌≤◌, length, get_or};
 ghost use Rattle.rules.specs.Bytes.{part, same, InBytes};
 ghost use Rattle.rules.specs.Limits.{limits};
-ghost use Rattle.rules.specs.Slots.{slot_bytes, slot_at, slot_of};
+ghost use Rattle.rules.specs.Slots.{slot_bytes, slot_at};
 ghost use Rattle.run_slots.specs.Slot.{Holds, Short};
-ghost use Rattle.run_slot_search.specs.Search.{names_at, SlotsFound};
+ghost use Rattle.run_slot_search.specs.Search.{slot_found, names_at, SlotsFound};
 
 use byte_buffer::equal;
 use rules::controller::{Memory, Places};
@@ -15,27 +15,15 @@ pub(crate) fn named(s: &[u8], at: usize, n: usize, slots: &[u8], k: usize) -> bo
     requires { (at + n ≤ length s.now) × Holds slots.now k × (get_or slots.now (slot_bytes * k) 0 ≤ limits.identifier) }
     ensures { result ≡ same (part s.now at n) (slot_at slots.now k).id }
 {
-    let length = slots[SLOT_BYTES * k] as usize;
-    if n != length {
-        return false;
-    }
-    equal(s, at, slots, SLOT_BYTES * k + IDENTIFIER, n)
+    n == slots[SLOT_BYTES * k] as usize && equal(s, at, slots, SLOT_BYTES * k + IDENTIFIER, n)
 }
 
-// The number of the slot with that identifier, or how many slots there are.
-pub fn slot_of(s: &[u8], at: usize, n: usize, slots: &[u8]) -> usize
+// The number of the slot with that identifier, if there is one.
+pub fn slot_of(s: &[u8], at: usize, n: usize, slots: &[u8]) -> Option<usize>
     requires { (at + n ≤ length s.now) × Short slots.now }
-    ensures { result ≡ slot_of (part s.now at n) slots.now }
+    ensures { result ≡ slot_found (part s.now at n) slots.now }
 {
-    let count = slots.len() / SLOT_BYTES;
-    let mut k = 0;
-    while k < count {
-        if named(s, at, n, slots, k) {
-            return k;
-        }
-        k += 1;
-    }
-    k
+    (0..slots.len() / SLOT_BYTES).find(|k| named(s, at, n, slots, *k))
 }
 
 // The slots of n components, whose identifiers stand at the places `ids` of s; false if one of them has none. Then those of the components
@@ -44,17 +32,12 @@ pub fn find_slots(s: &[u8], ids: &Places, n: usize, slots: &[u8], memory: &mut M
     requires { (n ≤ limits.components) × InBytes ids.now n (length s.now) × Short slots.now }
     ensures { SlotsFound (names_at s.now ids.now n) slots.now memory result }
 {
-    let numbers: &mut [usize] = memory;
-    let count = slots.len() / SLOT_BYTES;
-    let mut i = 0;
-    while i < n {
+    for i in 0..n {
         let from = ids[2 * i];
-        let k = slot_of(s, from, ids[2 * i + 1] - from, slots);
-        if k == count {
+        let Some(k) = slot_of(s, from, ids[2 * i + 1] - from, slots) else {
             return false;
-        }
-        numbers[i] = k;
-        i += 1;
+        };
+        memory[i] = k;
     }
     true
 }

@@ -15,14 +15,7 @@ pub(crate) fn all_good(slots: &[u8], n: usize) -> bool
     requires { slot_bytes * n ≤ length slots.now }
     ensures { result ≡ all_good (slots_from slots.now 0 n) }
 {
-    let mut k = 0;
-    while k < n {
-        if !good_slot(slots, k) {
-            return false;
-        }
-        k += 1;
-    }
-    true
+    (0..n).all(|k| good_slot(slots, k))
 }
 
 // Whether one of the slots after number i has its identifier.
@@ -32,49 +25,24 @@ pub(crate) fn named_again(slots: &[u8], i: usize, n: usize) -> bool
 {
     let at = SLOT_BYTES * i;
     let length = slots[at] as usize;
-    let mut k = i + 1;
-    while k < n {
-        if named(slots, at + IDENTIFIER, length, slots, k) {
-            return true;
-        }
-        k += 1;
-    }
-    false
+    (i + 1..n).any(|k| named(slots, at + IDENTIFIER, length, slots, k))
 }
 
 pub(crate) fn one_twice(slots: &[u8], n: usize) -> bool
     requires { (slot_bytes * n ≤ length slots.now) × Short slots.now }
     ensures { result ≡ repeats (names_from slots.now 0 n) }
 {
-    let mut i = 0;
-    while i < n {
-        if named_again(slots, i, n) {
-            return true;
-        }
-        i += 1;
-    }
-    false
+    (0..n).any(|i| named_again(slots, i, n))
 }
 
+#[tactic(auto, using(crate::proofs::SearchLaws::good_tests, crate::proofs::SearchLaws::all_short))]
 pub fn good_slots(slots: &[u8]) -> bool
     ensures { result ≡ good_slots slots.now }
 {
-    let bytes = slots.len();
-    if bytes % SLOT_BYTES != 0 {
-        return false;
-    }
-    let n = bytes / SLOT_BYTES;
-    if n < 1 {
-        return false;
-    }
-    if Controller::SLOTS < n {
-        return false;
-    }
-    if !all_good(slots, n) {
-        return false;
-    }
-    if one_twice(slots, n) {
-        return false;
-    }
-    true
+    let n = slots.len() / SLOT_BYTES;
+    slots.len() % SLOT_BYTES == 0
+        && 1 <= n
+        && n <= Controller::SLOTS
+        && all_good(slots, n)
+        && !one_twice(slots, n)
 }

@@ -23,26 +23,21 @@ fn put_escape(room: &mut [u8], at: usize, b: u8) -> usize
 fn put_escaped_byte(room: &mut [u8], at: usize, b: u8) -> usize
     ensures { Writes (escaped_byte b) at room result }
 {
-    if b < SPACE {
-        return put_escape(room, at, b);
+    if b < SPACE || b == DELETE {
+        put_escape(room, at, b)
+    } else if b == BACKSLASH {
+        put(room, at, &[BACKSLASH, BACKSLASH])
+    } else {
+        put_byte(room, at, b)
     }
-    if b == BACKSLASH {
-        return put(room, at, &[BACKSLASH, BACKSLASH]);
-    }
-    if b == DELETE {
-        return put_escape(room, at, b);
-    }
-    put_byte(room, at, b)
 }
 
 pub fn put_escaped(room: &mut [u8], at: usize, s: &[u8]) -> usize
     ensures { Writes (escaped s.now) at room result }
 {
     let mut to = at;
-    let mut i = 0;
-    while i < s.len() {
-        to = put_escaped_byte(room, to, s[i]);
-        i += 1;
+    for b in s {
+        to = put_escaped_byte(room, to, *b);
     }
     to
 }

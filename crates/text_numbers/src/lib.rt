@@ -14,10 +14,8 @@ fn digit(d: usize) -> u8
     requires { d < 16 }
     ensures { result ≡ Text·digit d }
 {
-    if d < 10 {
-        return (48 + d) as u8;
-    }
-    (87 + d) as u8
+    let digit = if d < 10 { 48 + d } else { 87 + d };
+    digit as u8
 }
 
 // A number in decimal, in at most k digits.
@@ -69,10 +67,8 @@ pub fn put_hex(room: &mut [u8], at: usize, s: &[u8]) -> usize
     ensures { Writes (hex s.now) at room result }
 {
     let mut to = at;
-    let mut i = 0;
-    while i < s.len() {
-        to = put_hex_byte(room, to, s[i]);
-        i += 1;
+    for b in s {
+        to = put_hex_byte(room, to, *b);
     }
     to
 }

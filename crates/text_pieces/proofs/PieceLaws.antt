@@ -1,11 +1,12 @@
 -- Parts, and bytes written one after the other.
-use Prim.Native.Nat.{ℕ, ◌+◌, ◌-◌, ◌≤◌}
-use mathlib.Core.Path.{◌≡◌, refl, sym, ◌∙◌}
+use Prim.Native.Nat.{ℕ, ◌+◌, ◌-◌, ◌≤◌, min}
+use mathlib.Core.Path.{◌≡◌, refl, sym}
 use mathlib.Core.List.{[], ◌∷◌, ◌++◌, append_assoc}
 use native.Mathlib.Omega.{arith}
 use native.Mathlib.Numerals.{add-one}
-use lib.ListN.{length, take, drop, length-drop, drop_of_length-le}
-use lib.Seq.{take-nil, take_all}
+use lib.ListN.{length, drop, length-drop, drop_of_length-le}
+use lib.Seq.{take-nil}
+use Rattle.std.proofs.lemmas.List.{take_min}
 use Rattle.text.specs.Text.{Bytes, Wrote, hex}
 use Rattle.text.proofs.TextLaws.{wrote_none, wrote_then}
 use Rattle.text_pieces.specs.Pieces.{between, spaced, lines}
@@ -21,12 +22,12 @@ module _ (s : Bytes) (from to : ℕ) where
   unfolding between
   between_past h = rw (drop_of_length-le s h) (sym (take-nil (to - from)))
 
-  pub between-end : length s ≤ to → between s from (length s) ≡ between s from to
+  -- where the bytes end in the part, the part ends there
+  pub between-least : (e : ℕ) → e ≡ min to (length s) → between s from e ≡ between s from to
   unfolding between
-  between-end h = all (length s) (omega arith) ∙ sym (all to h)
-    where
-      all : (e : ℕ) → length s ≤ e → take (e - from) (drop from s) ≡ drop from s
-      all e l = take_all (e - from) (drop from s) (rw (length-drop from s) (omega arith))
+  between-least e h =
+      let short : e - from ≡ min (to - from) (length (drop from s)) = omega (arith, length-drop from s) in
+      rw short (take_min (to - from) (drop from s))
 
 pub spaced-append : (a b : Bytes) → spaced (a ++ b) ≡ spaced a ++ spaced b
 unfolding spaced

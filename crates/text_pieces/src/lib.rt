@@ -19,15 +19,10 @@ pub fn within(s: &[u8], from: usize, to: usize) -> Range
     ensures { (result.from ≤ result.to) × (result.to ≤ length s.now) × (between s.now result.from result.to ≡ between s.now from to) }
 {
     let end = s.len();
-    if to <= from {
+    if to <= from || end <= from {
         return Range { from: 0, to: 0 };
     }
-    if end <= from {
-        return Range { from: 0, to: 0 };
-    }
-    if end <= to {
-        return Range { from, to: end };
-    }
+    let to = to.min(end);
     Range { from, to }
 }
 
@@ -55,10 +50,8 @@ fn put_each(room: &mut [u8], at: usize, s: &[u8]) -> usize
     ensures { Writes (spaced s.now) at room result }
 {
     let mut to = at;
-    let mut i = 0;
-    while i < s.len() {
-        to = put_one(room, to, s[i]);
-        i += 1;
+    for b in s {
+        to = put_one(room, to, *b);
     }
     to
 }

@@ -2,10 +2,10 @@
 use Prim.Native.Nat.{ℕ, zero, suc, ◌+◌, ◌-◌, ◌≤◌, ◌<◌}
 use mathlib.Core.Path.{◌≡◌, refl, sym, ap, ◌∙◌}
 use mathlib.Core.Bool.{Bool, true, false, cond, false≢true}
-use mathlib.Core.List.{List, [], ◌∷◌, ◌++◌, append-nil, append_assoc}
+use mathlib.Core.List.{List, [], ◌∷◌, ◌++◌, append-nil}
 use lib.Dec.{eqb}
 use lib.ListN.{length, take, drop, get_or, drop_of_length-le}
-use lib.Seq.{take-suc, drop-cons}
+use lib.Seq.{drop-cons}
 use native.Mathlib.Omega.{arith}
 use native.Mathlib.Numerals.{add-one}
 use borrow.Author.Tests.{eq-eqb, ne_eqb}
@@ -15,18 +15,6 @@ use Rattle.text_rows.specs.Rows.{wide}
 use Rattle.text_rows.specs.Rows.{Row, word_of, numbers, words, before, after, barless, plain}
 
 module _ (s : Bytes) (i : ℕ) where
-  pub before_here : i < length s → get_or s i 0 ≡ 124 → before s ≡ take i s ++ before (drop i s) → take i s ≡ before s
-  unfolding before
-  before_here h e q = sym (q ∙ (rw (drop-cons s i 0 h, eq-eqb (get_or s i 0) 124 e) (append-nil (take i s))))
-
-  pub before-next : i < length s → (get_or s i 0 ≡ 124 → ⊥) → before s ≡ take i s ++ before (drop i s) → before s ≡ take (i + 1) s ++ before (drop (i + 1) s)
-  unfolding before
-  before-next h e q = q ∙ (rw (drop-cons s i 0 h, ne_eqb (get_or s i 0) 124 e, add-one i, take-suc s i 0 h) (sym (append_assoc (take i s) (get_or s i 0 ∷ []) (before (drop (suc i) s)))))
-
-  pub before-none : length s ≤ i → before s ≡ take i s ++ before (drop i s) → take i s ≡ before s
-  unfolding before
-  before-none h q = sym (q ∙ (rw (drop_of_length-le s h) (append-nil (take i s))))
-
   pub after_bar : (k : ℕ) → i < length s → (k ≡ 0 → ⊥) → get_or s i 0 ≡ 124 → after (k - 1) (drop (i + 1) s) ≡ after k (drop i s)
   unfolding after
   after_bar zero h z e = absurd (z refl)
@@ -51,12 +39,20 @@ pub after-zero : (s t : Bytes) (k : ℕ) → k ≡ 0 → after k s ≡ t → s �
 unfolding after
 after-zero s t k z q = rw z at q
 
+-- what stands before the first bar, by its place
+pub before_is : (s : Bytes) → take (position 124 s) s ≡ before s
+unfolding position before
+before_is [] = refl
+before_is (b ∷ s) = go (eqb b 124) (before_is s)
+  where
+    go : (x : Bool) → take (position 124 s) s ≡ before s → take (cond x 0 (suc (position 124 s))) (b ∷ s) ≡ cond x [] (b ∷ before s)
+    go true h = refl
+    go false h = ap (λ (t : Bytes). b ∷ t) h
+
 -- the word of line k, as a part of the words
-pub word-part : (s : Bytes) (k from to : ℕ) → drop from s ≡ after k s → take to (take (length s - from) (drop from s)) ≡ before (take (length s - from) (drop from s)) →
-    take (to - 0) (drop 0 (take (length s - from) (drop from s))) ≡ before (after k s)
-word-part s k from to e q =
-    let none : to - 0 ≡ to = omega arith in
-    rw none (q ∙ ap before (part-rest s from ∙ e))
+pub word-part : (s : Bytes) (k from : ℕ) → drop from s ≡ after k s →
+    take (position 124 (take (length s - from) (drop from s))) (take (length s - from) (drop from s)) ≡ before (after k s)
+word-part s k from e = before_is (take (length s - from) (drop from s)) ∙ ap before (part-rest s from ∙ e)
 
 first_word : (w t : Bytes) → barless w ≡ true → before (w ++ (124 ∷ t)) ≡ w
 unfolding before barless

@@ -1,14 +1,14 @@
 // A table of words by number, in lent room: the numbers, and the words in the same order with a bar after each.
 #![tactic(auto)]
 
-ghost use Rattle.std.specs.Prelude.{◌≡◌, ◌≤◌, length, take, drop};
+ghost use Rattle.std.specs.Prelude.{◌≡◌, ◌≤◌, length, drop};
 ghost use Rattle.text.specs.Text.{Writes};
 ghost use Rattle.text.specs.Text.{position as Text·position};
 ghost use Rattle.text_rows.specs.Rows.{wide, before, after};
 
 use text::{position, put, put_spaces};
 
-const BAR: u8 = 124;
+const BAR: u8 = b'|';
 
 // A word, and spaces up to a width.
 fn put_wide(room: &mut [u8], at: usize, word: &[u8], width: usize) -> usize
@@ -27,31 +27,15 @@ fn skip(s: &[u8], k: usize) -> usize
     ensures { (result ≤ length s.now) × (drop result s.now ≡ after k s.now) }
 {
     let mut left = k;
-    let mut i = 0;
-    while i < s.len() {
+    for (i, b) in s.iter().enumerate() {
         if left == 0 {
             return i;
         }
-        if s[i] == BAR {
+        if *b == BAR {
             left -= 1;
         }
-        i += 1;
     }
-    i
-}
-
-// The place of the first bar, or the length.
-fn bar(s: &[u8]) -> usize
-    ensures { (result ≤ length s.now) × (take result s.now ≡ before s.now) }
-{
-    let mut i = 0;
-    while i < s.len() {
-        if s[i] == BAR {
-            return i;
-        }
-        i += 1;
-    }
-    i
+    s.len()
 }
 
 // The word of a number in a table, and spaces up to a width; that after the last bar where the number is not in it.
@@ -67,6 +51,6 @@ pub fn put_word(
 {
     let from = skip(words, position(numbers, n));
     let rest = &words[from..];
-    let to = bar(rest);
-    put_wide(room, at, &rest[0..to], width)
+    let to = position(rest, usize::from(BAR));
+    put_wide(room, at, &rest[..to], width)
 }

@@ -7,12 +7,12 @@ use Rattle.rules.proofs.BytesLaws.{length_part}
 use Rattle.byte_buffer.proofs.copy.Goals as goal
 
 pub loop-i-init : goal.loop-i-init
-loop-i-init c = (omega arith, refl, put-start _ _ _)
+loop-i-init c = (refl, put-start _ _ _)
 
 pub loop-i-preserved : goal.loop-i-preserved
 loop-i-preserved c =
-    (omega arith, simp length-set (search rules), c.loop-i.invariant.2 ∙ part-next c.args.s.now c.args.from c.args.n _ _ c.loop-i.i (omega arith) (omega arith))
+    (simp length-set (search rules), c.loop-i.invariant.1 ∙ part-next c.args.s.now c.args.from c.args.n _ _ c.loop-i.i (omega arith) (omega arith))
 
 pub returns : goal.returns
 returns c =
-    sym (c.loop-i.invariant.2 ∙ put-end _ _ _ _ (omega (arith, length_part c.args.s.now c.args.from c.args.n (omega arith))))
+    sym (c.loop-i.invariant.1 ∙ put-end _ _ _ _ (omega (arith, length_part c.args.s.now c.args.from c.args.n (omega arith))))

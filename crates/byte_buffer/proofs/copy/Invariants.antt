@@ -1,4 +1,3 @@
-use Prim.Native.Nat.{◌-◌, ◌≤◌}
 use mathlib.Core.Path.{◌≡◌}
 use lib.ListN.{length}
 use lib.Seq.{sets}
@@ -8,7 +7,4 @@ use Rattle.byte_buffer.proofs.copy.Given as goal
 
 abbrev pub invariant-loop-i : goal.invariant-loop-i
 invariant-loop-i l =
-    (l.i ≤ l.n) × (length l.room ≡ length l.initial.room) × (sets l.initial.room l.to (part l.s l.from l.n) ≡ put_from l.to (part l.s l.from l.n) l.i l.room)
-
-abbrev pub decreases-loop-i : goal.decreases-loop-i
-decreases-loop-i l = l.n - l.i
+    (length l.room ≡ length l.initial.room) × (sets l.initial.room l.to (part l.s l.from l.n) ≡ put_from l.to (part l.s l.from l.n) l.i l.room)

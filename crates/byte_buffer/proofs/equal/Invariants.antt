@@ -1,4 +1,3 @@
-use Prim.Native.Nat.{◌-◌, ◌≤◌}
 use mathlib.Core.Path.{◌≡◌}
 use mathlib.Core.Bool.{◌&&◌}
 use Rattle.rules.specs.Bytes as Bytes
@@ -6,7 +5,4 @@ use Rattle.rules.proofs.SameLaws.{same_from}
 use Rattle.byte_buffer.proofs.equal.Given as goal
 
 abbrev pub invariant-loop-k : goal.invariant-loop-k
-invariant-loop-k l = (l.k ≤ l.n) × (Bytes.same (Bytes.part l.a l.i l.n) (Bytes.part l.b l.j l.n) ≡ (l.same && same_from l.a l.i l.b l.j l.n l.k))
-
-abbrev pub decreases-loop-k : goal.decreases-loop-k
-decreases-loop-k l = l.n - l.k
+invariant-loop-k l = Bytes.same (Bytes.part l.a l.i l.n) (Bytes.part l.b l.j l.n) ≡ (l.same && same_from l.a l.i l.b l.j l.n l.k)

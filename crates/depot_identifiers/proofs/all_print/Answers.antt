@@ -1,19 +1,12 @@
-use mathlib.Core.Path.{refl, sym, ◌∙◌}
+use mathlib.Core.Path.{◌∙◌}
 use borrow.Author.Rules.{rules}
-use Rattle.depot_identifiers.proofs.IdentifierLaws.{print_low, print_high, print_next, print_end}
+use borrow.Author.Tests.{tests}
+use Rattle.std.proofs.lemmas.Iterator.{YieldsList-from_slice}
+use Rattle.std.proofs.lemmas.Iterator.Search.{all_from_yields_List}
+use Rattle.depot_identifiers.proofs.IdentifierLaws.{printable, all_print-is}
 use Rattle.depot_identifiers.proofs.all_print.Goals as goal
 
-pub loop-i-init : goal.loop-i-init
-loop-i-init c = (search rules, refl)
-
-pub returns-then-b-lt32 : goal.returns-then-b-lt32
-returns-then-b-lt32 c = sym (c.loop-i.invariant.1 ∙ print_low _ _ c.loop-i-test.true c.if-b-lt32.true)
-
-pub returns-then-b-gt126 : goal.returns-then-b-gt126
-returns-then-b-gt126 c = sym (c.loop-i.invariant.1 ∙ print_high _ _ c.loop-i-test.true c.if-b-lt32.false c.if-b-gt126.true)
-
-pub loop-i-preserved : goal.loop-i-preserved
-loop-i-preserved c = (search rules, c.loop-i.invariant.1 ∙ print_next _ _ c.loop-i-test.true c.if-b-lt32.false c.if-b-gt126.false)
-
 pub returns : goal.returns
-returns c = sym (c.loop-i.invariant.1 ∙ print_end _ _ c.loop-i-test.false)
+returns c =
+    let xs = c.args.s.now in
+    all_from_yields_List printable _ _ _ c.all.ensures.ran (YieldsList-from_slice xs (cc)) (λ x b q k. search (rules, tests)) ∙ all_print-is xs

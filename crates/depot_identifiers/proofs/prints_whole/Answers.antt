@@ -1,11 +1,12 @@
-use borrow.Author.Tests.{eq-eqb, ne_eqb}
+use mathlib.Core.Path.{sym, ap, ◌∙◌}
+use mathlib.Core.Bool.{not}
 use Rattle.depot_identifiers.specs.Identifier.{prints}
 use Rattle.depot_identifiers.proofs.prints_whole.Goals as goal
 
-pub returns-then-s-eq0 : goal.returns-then-s-eq0
+pub returns-then-not-is_empty : goal.returns-then-not-is_empty
 unfolding prints
-returns-then-s-eq0 c = rw (eq-eqb _ _ c.if-s-eq0.true)
+returns-then-not-is_empty c = rw (sym c.is_empty.ensures ∙ c.if-not-is_empty.true) c.all_print.ensures
 
-pub returns : goal.returns
+pub returns-else-not-is_empty : goal.returns-else-not-is_empty
 unfolding prints
-returns c = rw (ne_eqb _ _ c.if-s-eq0.false) c.all_print.ensures
+returns-else-not-is_empty c = rw (sym c.is_empty.ensures ∙ c.if-not-is_empty.false) (ap not c.if-not-is_empty.false)

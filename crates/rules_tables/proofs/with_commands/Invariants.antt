@@ -1,7 +1,7 @@
-use Prim.Native.Nat.{ℕ, ◌-◌, ◌≤◌}
+use Prim.Native.Nat.{ℕ}
 use mathlib.Core.Path.{◌≡◌}
 use mathlib.Core.List.{[]}
-use lib.ListN.{length, drop}
+use lib.ListN.{drop}
 use Rattle.rules.specs.declared.tables.Command.{Command}
 use Rattle.std.specs.Prelude.{Some}
 use Rattle.rules.specs.Commands.{commands}
@@ -15,8 +15,5 @@ place r = r.code
 abbrev pub value : Command → ℕ
 value r = packed (Some r)
 
-abbrev pub invariant-loop-i : goal.invariant-loop-i
-invariant-loop-i l = (l.i ≤ length commands) × (stored place value (drop l.i l.rows) l.table ≡ table_of commands [])
-
-abbrev pub decreases-loop-i : goal.decreases-loop-i
-decreases-loop-i l = length commands - l.i
+abbrev pub invariant-loop-row : goal.invariant-loop-row
+invariant-loop-row l = stored place value (drop l.row-index l.fn.rows) l.table ≡ table_of commands []

@@ -1,8 +1,6 @@
 use Rattle.text.proofs.TextLaws.{wrote_then}
-use Rattle.text_escaped.specs.Escaped.{escape}
 use Rattle.text_escaped.proofs.put_escape.Goals as goal
 
 pub returns : goal.returns
-unfolding escape
 returns c =
     wrote_then c.put-to.ensures c.put_hex.ensures

@@ -4,18 +4,16 @@ use Rattle.text_escaped.specs.Escaped.{escaped}
 use Rattle.text_escaped.proofs.EscapeLaws.{escaped-append, escaped-one, escaped-none}
 use Rattle.text_escaped.proofs.put_escaped.Goals as goal
 
-pub loop-i-init : goal.loop-i-init
-loop-i-init c = (search rules, escaped-none _ _)
+pub loop-b-init : goal.loop-b-init
+loop-b-init c = escaped-none _ _
 
-pub loop-i-preserved : goal.loop-i-preserved
-loop-i-preserved c = (
-  search rules,
-  each_next escaped escaped-append c.args.s.now c.loop-i.i (search rules) c.loop-i.invariant.1
-      (rw (← escaped-one _) at c.put_escaped_byte-to.ensures),
-)
+pub loop-b-preserved : goal.loop-b-preserved
+loop-b-preserved c =
+    each_next escaped escaped-append c.args.s.now c.loop-b.b-index (search rules) c.loop-b.invariant
+    (rw (← escaped-one _) at c.put_escaped_byte-to.ensures)
 
 pub shape_of-room : goal.shape_of-room
-shape_of-room c = wrote-length c.loop-i.invariant.1
+shape_of-room c = wrote-length c.loop-b.invariant
 
 pub returns : goal.returns
-returns c = each_all escaped c.args.s.now c.loop-i.i (search rules) c.loop-i.invariant.1
+returns c = each_all escaped c.args.s.now c.loop-b.b-index (search rules) c.loop-b.invariant

@@ -1,15 +1,18 @@
-use borrow.Author.Rules.{rules}
-use Rattle.text_pieces.proofs.PieceLaws.{between_none, between_past, between-end}
+use native.Mathlib.Omega.{arith}
+use Rattle.text_pieces.proofs.PieceLaws.{between_none, between_past, between-least}
 use Rattle.text_pieces.proofs.within.Goals as goal
+use Rattle.text_pieces.proofs.within.Goals.{then-to-from-via-then-to-from, then-to-from-via-else-to-from+then-end-from}
 
 pub returns-then-to-from : goal.returns-then-to-from
-returns-then-to-from c =
-    (search rules, search rules, between_none c.args.s.now c.args.from c.args.to c.if-to-from.true)
+returns-then-to-from c = (
+  omega arith,
+  omega arith,
+  elim c.then-to-from.branch [
+    | then-to-from-via-then-to-from w ↦ between_none c.args.s.now c.args.from c.args.to w.if-to-from.true
+    | then-to-from-via-else-to-from+then-end-from w ↦ between_past c.args.s.now c.args.from c.args.to w.if-end-from.true
+  ],
+)
 
-pub returns-then-end-from : goal.returns-then-end-from
-returns-then-end-from c =
-    (search rules, search rules, between_past c.args.s.now c.args.from c.args.to c.if-end-from.true)
-
-pub returns-then-end-to : goal.returns-then-end-to
-returns-then-end-to c =
-    (search rules, search rules, between-end c.args.s.now c.args.from c.args.to c.if-end-to.true)
+pub returns : goal.returns
+returns c =
+    (omega arith, omega arith, between-least c.args.s.now c.args.from c.args.to c.min.result c.min.ensures)

@@ -3,5 +3,5 @@ use Rattle.text_rows.proofs.put_word.Goals as goal
 
 pub returns : goal.returns
 returns c =
-    rw (← c.position.ensures.0, ← word-part c.args.words.now c.position.result c.skip-from.result c.bar-to.result c.skip-from.ensures.1 c.bar-to.ensures.1)
-    c.put_wide.ensures
+    let bar = rw c.from.ensures at c.position-to.ensures.0 in
+    rw (← c.position.ensures.0, ← word-part c.args.words.now c.position.result c.skip-from.result c.skip-from.ensures.1, ← bar) c.put_wide.ensures

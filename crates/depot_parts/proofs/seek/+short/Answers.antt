@@ -1,32 +1,33 @@
 use mathlib.Core.Path.{sym, ◌∙◌}
+use native.Mathlib.Omega.{arith}
 use Rattle.depot_parts.proofs.SeekLaws.{short_none, short-leaf, short_stop, short_past, short-more, short-key, short_on}
 use Rattle.depot_parts.proofs.seek.+short.Goals as goal
 
 pub returns-then-depth-eq0 : goal.returns-then-depth-eq0
 returns-then-depth-eq0 t c = short_none _ _ _ _ _ _ c.if-depth-eq0.true
 
-pub returns-then-kind-eq-LEAF : goal.returns-then-kind-eq-LEAF
-returns-then-kind-eq-LEAF t c =
-    c.missing.ensures ∙ short-leaf _ _ _ _ _ _ c.if-depth-eq0.false _ c.shape_of-h.ensures c.if-kind-eq-LEAF.true
+pub returns-then-h-eq-LEAF : goal.returns-then-h-eq-LEAF
+returns-then-h-eq-LEAF t c =
+    c.missing.ensures ∙ short-leaf _ _ _ _ _ _ c.if-depth-eq0.false _ c.shape_of-h.ensures c.if-h-eq-LEAF.true
 
-pub returns-then-stop : goal.returns-then-stop
-returns-then-stop t c =
-    short_stop _ _ _ _ _ _ c.if-depth-eq0.false _ c.shape_of-h.ensures c.if-kind-eq-LEAF.false _ c.find-f.ensures c.if-stop.true
+pub returns-then-f : goal.returns-then-f
+returns-then-f t c =
+    short_stop _ _ _ _ _ _ c.if-depth-eq0.false _ c.shape_of-h.ensures c.if-h-eq-LEAF.false _ c.find-f.ensures c.if-f.true
 
-pub returns-then-left-eq0 : goal.returns-then-left-eq0
-returns-then-left-eq0 t c =
-    short_past _ _ _ _ _ _ c.if-depth-eq0.false _ c.shape_of-h.ensures c.if-kind-eq-LEAF.false _ c.find-f.ensures c.if-stop.false c.if-left-eq0.true
+pub returns-in-0 : goal.returns-in-0
+returns-in-0 t c =
+    short_past _ _ _ _ _ _ c.if-depth-eq0.false _ c.shape_of-h.ensures c.if-h-eq-LEAF.false _ c.find-f.ensures c.if-f.false c.in-0.is
 
-pub returns-then-left-gt1 : goal.returns-then-left-gt1
-returns-then-left-gt1 t c =
-    short-more _ _ _ _ _ _ c.if-depth-eq0.false _ c.shape_of-h.ensures c.if-kind-eq-LEAF.false _ c.find-f.ensures c.if-stop.false c.if-left-eq0.false c.if-left-gt1.true
+pub returns-in_default : goal.returns-in_default
+returns-in_default t c =
+    short-more _ _ _ _ _ _ c.if-depth-eq0.false _ c.shape_of-h.ensures c.if-h-eq-LEAF.false _ c.find-f.ensures c.if-f.false (λ q. omega arith) (omega arith)
 
 pub returns-then-at_head : goal.returns-then-at_head
 returns-then-at_head t c =
-    short-key _ _ _ _ _ _ c.if-depth-eq0.false _ c.shape_of-h.ensures c.if-kind-eq-LEAF.false _ c.find-f.ensures
-    c.if-stop.false c.if-left-eq0.false c.if-left-gt1.false _ c.key_at-k.ensures (sym c.at_head.ensures ∙ c.if-at_head.true)
+    c.if-at_head.true ∙ short-key _ _ _ _ _ _ c.if-depth-eq0.false _ c.shape_of-h.ensures c.if-h-eq-LEAF.false _ c.find-f.ensures
+    c.if-f.false (λ q. omega arith) (omega arith) _ c.key_at-k.ensures (sym c.at_head.ensures ∙ c.if-at_head.true)
 
-pub returns : goal.returns
-returns t c =
-    rw c.short.ensures (short_on _ _ _ _ _ _ c.if-depth-eq0.false _ c.shape_of-h.ensures c.if-kind-eq-LEAF.false _ c.find-f.ensures
-    c.if-stop.false c.if-left-eq0.false c.if-left-gt1.false _ c.key_at-k.ensures (sym c.at_head.ensures ∙ c.if-at_head.false) _ c.child.ensures)
+pub returns-else-at_head : goal.returns-else-at_head
+returns-else-at_head t c =
+    rw c.short.ensures (short_on _ _ _ _ _ _ c.if-depth-eq0.false _ c.shape_of-h.ensures c.if-h-eq-LEAF.false _ c.find-f.ensures
+    c.if-f.false (λ q. omega arith) (omega arith) _ c.key_at-k.ensures (sym c.at_head.ensures ∙ c.if-at_head.false) _ c.child.ensures)

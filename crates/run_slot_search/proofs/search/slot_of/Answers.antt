@@ -1,20 +1,17 @@
-use mathlib.Core.Path.{sym, ◌∙◌}
-use native.Mathlib.Omega.{arith}
+use mathlib.Core.Path.{refl, sym, ◌∙◌}
 use borrow.Author.Rules.{rules}
-use Rattle.run_slot_search.proofs.SearchLaws.{find-start, find_hit, find-next, find-end}
+use borrow.Author.Tests.{tests}
+use Rattle.std.proofs.lemmas.Iterator.{YieldsList-from_range}
+use Rattle.std.proofs.lemmas.Iterator.Adapters.{option_map_id}
+use Rattle.std.proofs.lemmas.Iterator.Search.{find_from_yields_List}
+use Rattle.rules.specs.Bytes.{part, same}
+use Rattle.rules.specs.Slots.{slot_at}
+use Rattle.run_slot_search.proofs.SearchLaws.{find-range}
 use Rattle.run_slot_search.proofs.search.slot_of.Goals as goal
 
-pub loop-k-init : goal.loop-k-init
-loop-k-init c = (omega arith, find-start _ _)
-
-pub named-requires : goal.named-requires
-named-requires c = (search rules, omega arith, c.requires.1 _ c.loop-k-test.true)
-
-pub returns-then-named : goal.returns-then-named
-returns-then-named c = sym (find_hit _ _ _ _ _ c.loop-k.invariant.1 (omega arith) (sym c.named.ensures ∙ c.if-named.true))
-
-pub loop-k-preserved : goal.loop-k-preserved
-loop-k-preserved c = (omega arith, find-next _ _ _ _ _ c.loop-k.invariant.1 (omega arith) (sym c.named.ensures ∙ c.if-named.false))
-
 pub returns : goal.returns
-returns c = sym (find-end _ _ _ _ _ c.loop-k.invariant.1 (omega arith))
+returns c =
+    let x = part c.args.s.now c.args.at c.args.n in
+    sym (option_map_id c.find.result)
+    ∙ find_from_yields_List (λ k. same x (slot_at c.args.slots.now k).id) _ _ c.find.result c.find.ensures.ran
+    (YieldsList-from_range 0 _ _ refl refl) (λ k b q h. search (rules, tests)) ∙ find-range _ _

@@ -1,37 +1,22 @@
-use Prim.Native.Nat.{ℕ, ◌+◌, ◌*◌, ◌≤◌, ◌<◌}
-use mathlib.Core.Bool.{Bool}
-use lib.ListN.{length, get_or}
-use mathlib.Core.Path.{◌≡◌, refl, sym, ap, ◌∙◌}
+use Prim.Native.Nat.{◌+◌, ◌*◌}
+use mathlib.Core.Path.{refl, sym, ap, ◌∙◌}
 use native.Mathlib.Omega.{arith}
-use Rattle.rules.specs.Bytes.{Bytes, part, same}
+use borrow.Author.Rules.{rules}
+use borrow.Author.Tests.{tests}
+use lib.ListN.{get_or}
+use Rattle.std.proofs.lemmas.Iterator.{YieldsList-from_range}
+use Rattle.std.proofs.lemmas.Iterator.Search.{any_from_yields_List}
+use Rattle.rules.specs.Bytes.{Bytes, part, same, member}
 use Rattle.rules.specs.Slots.{slot_bytes, id_from, slot_at}
-use Rattle.run_slots.specs.Slot.{Short}
-use Rattle.run_slot_search.proofs.SearchLaws.{short-at, id-part, member_hit, member-next, member-end}
+use Rattle.run_slot_search.specs.Search.{names_from}
+use Rattle.run_slot_search.proofs.SearchLaws.{member-range, short-at, id-part}
 use Rattle.run_slot_search.proofs.whole.named_again.Goals as goal
 
--- the slot's own identifier, as `named` is given it
-own : (s : Bytes) (i k n : ℕ) → Short s → slot_bytes * n ≤ length s → i < n → {r : Bool} →
-    r ≡ same (part s (slot_bytes * i + id_from) (get_or s (slot_bytes * i) 0)) (slot_at s k).id → r ≡ same (slot_at s i).id (slot_at s k).id
-own s i k n short whole below ensures =
-    ensures ∙ ap (λ (x : Bytes). same x (slot_at s k).id) (sym (id-part s i (short-at s short n whole i below)))
-
-pub overflow_cast-length : goal.overflow_cast-length
-overflow_cast-length c =
-    omega (arith, short-at c.args.slots.now c.requires.2 c.args.n (omega arith) c.args.i (omega arith))
-
-pub loop-k-init : goal.loop-k-init
-loop-k-init c = (omega arith, omega arith, refl)
-
-pub named-requires : goal.named-requires
-named-requires c =
-    let short = short-at c.args.slots.now c.requires.2 c.args.n (omega arith) in
-    (omega (arith, short c.args.i (omega arith)), omega arith, short c.loop-k.k (omega arith))
-
-pub returns-then-named : goal.returns-then-named
-returns-then-named c = sym (c.loop-k.invariant.2 ∙ member_hit _ _ _ _ (omega arith) (sym (own c.args.slots.now c.args.i c.loop-k.k c.args.n c.requires.2 (omega arith) (omega arith) c.named.ensures) ∙ c.if-named.true))
-
-pub loop-k-preserved : goal.loop-k-preserved
-loop-k-preserved c = (omega arith, omega arith, c.loop-k.invariant.2 ∙ member-next _ _ _ _ (omega arith) (sym (own c.args.slots.now c.args.i c.loop-k.k c.args.n c.requires.2 (omega arith) (omega arith) c.named.ensures) ∙ c.if-named.false))
-
 pub returns : goal.returns
-returns c = sym (c.loop-k.invariant.2 ∙ member-end _ _ _ _ (omega arith))
+returns c =
+    let slots = c.args.slots.now in
+    let i = c.args.i in
+    let own = part slots (slot_bytes * i + id_from) (get_or slots (slot_bytes * i) 0) in
+    any_from_yields_List (λ k. same own (slot_at slots k).id) _ _ c.any.result c.any.ensures.ran
+    (YieldsList-from_range (i + 1) c.args.n _ refl refl) (λ k b q h. search (rules, tests)) ∙ member-range slots own (i + 1) c.args.n
+    ∙ ap (λ (x : Bytes). member x (names_from slots (i + 1) c.args.n)) (sym (id-part slots i (short-at slots c.requires.2 c.args.n (omega arith) i (omega arith))))
