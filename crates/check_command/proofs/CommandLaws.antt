@@ -8,10 +8,10 @@ use lib.Dec.{leb, eqb}
 use borrow.Author.Tests.{lt-leb, le-leb, leb-true}
 use Rattle.rules.specs.declared.answers.Refusal.TheVariants.{UnknownCommand, NotAllowed, TooManyCommands}
 use Rattle.rules.specs.declared.tables.Command.{Command}
-use Rattle.std.specs.Prelude.{Some, None}
+use Rattle.std.specs.Prelude.{Some, None, Result, Err}
 use Rattle.rules.specs.Limits.{limits}
 use Rattle.rules.specs.Bytes.{Bytes}
-use Rattle.rules.specs.Got.{got, found}
+use Rattle.rules.specs.Got.{refused, got, found}
 use Rattle.rules.specs.Commands.{Row, commands, row_of, is_allowed}
 use Rattle.rules.specs.Tables.{kind_of, weight_of, as_command, listed}
 use Rattle.rules.specs.Check.{number}
@@ -20,16 +20,16 @@ use Rattle.rules.proofs.CheckLaws.{number_law}
 use Rattle.rules.proofs.TableLaws.{allowed_bit, listed-some, listed-none}
 use Rattle.cbor_reading.specs.Reading.{fault, reading}
 use Rattle.cbor_reading.specs.declared.Reading.{Reading}
-use Rattle.cbor_reading.proofs.ReadingLaws.{Stopped}
+use Rattle.rules.specs.declared.answers.Fault.{Fault}
 use Rattle.check_argument.specs.Argument.{argument_start}
 use Rattle.check_argument.proofs.ArgumentLaws.{argument_forth}
 use Rattle.check_command.specs.Command.{command_start, Section}
 
 -- the start of a command, by the tests in their order
 module _ (s : Bytes) (n section wt m e at : ℕ) where
-  pub start_stop : (r : Reading) → Stopped (number s e at) r → r ≡ reading (λ k. k) (command_start s n section wt m e at)
+  pub start_stop : (f : Fault) → number s e at ≡ refused f.refusal f.at → Err f ≡ reading (λ k. k) (command_start s n section wt m e at)
   unfolding command_start
-  start_stop r x = rw x.was x.is
+  start_stop f x = rw x
 
   module _ (code p : ℕ) (q : number s e at ≡ got (code, p)) where
     pub start_unknown : listed (row_of code commands) ≡ None → fault UnknownCommand at ≡ reading (λ k. k) (command_start s n section wt m e at)
@@ -49,7 +49,7 @@ module _ (s : Bytes) (n section wt m e at : ℕ) where
         unfolding command_start
         start_many l = let (r, f, g) = listed-some _ c u in rw (q, f, allowed r f g, a, lt-leb _ _ l)
 
-        pub start-argument : m + wt ≤ limits.commands → (x : Reading) → x ≡ reading (λ k. k) (argument_start s n c.argument e p) →
+        pub start-argument : m + wt ≤ limits.commands → (x : Result Reading Fault) → x ≡ reading (λ k. k) (argument_start s n c.argument e p) →
             x ≡ reading (λ k. k) (command_start s n section wt m e at)
         unfolding command_start
         start-argument l x y =

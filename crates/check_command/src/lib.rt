@@ -9,7 +9,7 @@ ghost use Rattle.check_command.specs.Command.{command_start, Section};
 
 use cbor_reading::{Reading, refuse};
 use check_argument::{number, read_argument};
-use rules::answers::Refusal;
+use rules::answers::{Fault, Refusal};
 use rules::codes;
 use rules::controller::Controller;
 use rules_lookup::look_up;
@@ -41,26 +41,20 @@ pub fn open_command(
     commands: usize,
     end: usize,
     at: usize,
-) -> Reading
+) -> Result<Reading, Fault>
     requires { (end ≤ length s.now) × (table.now ≡ by_number) × Section section × (weight < section_count) }
     ensures { result ≡ reading (λ k. k) (command_start s.now components section weight commands end at) }
 {
-    let c = number(s, end, at);
-    let refusal = c.refusal;
-    if refusal != 0 {
-        return c;
-    }
+    let c = number(s, end, at)?;
     let Some(row) = look_up(table, c.value) else {
         return refuse(Refusal::UnknownCommand, at);
     };
-    let sections = row.sections;
-    if !has_section(sections, section) {
+    if !has_section(row.sections, section) {
         return refuse(Refusal::NotAllowed, at);
     }
     let most = Controller::COMMANDS - weight;
     if most < commands {
         return refuse(Refusal::TooManyCommands, at);
     }
-    let argument = row.argument;
-    read_argument(s, table, components, argument, end, c.at)
+    read_argument(s, table, components, row.argument, end, c.at)
 }
