@@ -1,4 +1,5 @@
 -- Sequences and commands, read by their places and counts, end where the rules of check end them.
+use Rattle.std.specs.Prelude.{Ok, Err}
 use Prim.Native.Nat.{ℕ, zero, suc, ◌+◌, ◌-◌, ◌*◌, ◌/◌, ◌%◌, ◌≤◌, ◌<◌}
 use mathlib.Core.Path.{◌≡◌, refl, sym, ap, ◌∙◌}
 use native.Mathlib.Omega.{arith}
@@ -6,6 +7,7 @@ use native.Mathlib.Nat.{add-zero, mul-add, mul-one, mul-zero}
 use lib.Dec.{ltb, leb, eqb}
 use borrow.Author.Tests.{eq-eqb, ne_eqb, eqb-true}
 use Rattle.rules.specs.declared.answers.Refusal.TheVariants.{NotCbor, Malformed, TooDeep, UnknownCommand, NotAllowed, TooManyCommands, NoSuchComponent}
+use Rattle.rules.specs.declared.answers.Fault.{Fault}
 use Rattle.rules.specs.Limits.{limits}
 use Rattle.rules.specs.Bytes.{Bytes, Span, span}
 use Rattle.rules.specs.Got.{Got, refused, got, need, found, ◌>>=◌}
@@ -18,7 +20,7 @@ use Rattle.rules.proofs.GotLaws.{passed, split, split₂, both}
 use Rattle.rules.proofs.CheckLaws.{item_law}
 use Rattle.cbor_reading.specs.Reading.{fault, ends, reading}
 use Rattle.cbor_reading.specs.declared.Reading.{Reading}
-use Rattle.cbor_reading.proofs.ReadingLaws.{Stopped, alike, bind_assoc, reading_went}
+use Rattle.cbor_reading.proofs.ReadingLaws.{alike, bind_assoc, reading_went}
 use Rattle.check_argument.specs.Argument.{argument_start}
 use Rattle.check_command.specs.Command.{command_start}
 use Rattle.check_command.proofs.CommandLaws.{start_forth}
@@ -158,14 +160,14 @@ module _ (s : Bytes) (deeper : ℕ → Read Seq) (wt k m e at : ℕ) where
   nested-none z = rw z
 
   module _ (j : ℕ) (h : k ≡ suc j) where
-    pub nested_stop : (r : Reading) → Stopped (item BYTES 0 limits.largest s e at) r → r ≡ reading (λ c. c) (nested s deeper wt k m e at)
+    pub nested_stop : (f : Fault) → item BYTES 0 limits.largest s e at ≡ refused f.refusal f.at → Err f ≡ reading (λ c. c) (nested s deeper wt k m e at)
     unfolding nested
-    nested_stop r x = rw (h, x.was) x.is
+    nested_stop f x = rw (h, x)
 
     module _ (v p : ℕ) (q : item BYTES 0 limits.largest s e at ≡ got (record { kind = BYTES; num = v; next = p })) where
-      pub nested-bad : (r : Reading) → Stopped (deeper m (p + v) p) r → r ≡ reading (λ c. c) (nested s deeper wt k m e at)
+      pub nested-bad : (f : Fault) → deeper m (p + v) p ≡ refused f.refusal f.at → Err f ≡ reading (λ c. c) (nested s deeper wt k m e at)
       unfolding nested
-      nested-bad r x = rw (h, q, x.was) x.is
+      nested-bad f x = rw (h, q, x)
 
       module _ (a : Seq) (next : ℕ) (w : deeper m (p + v) p ≡ got (a, next)) where
         pub nested-left_over : (next ≡ p + v → ⊥) → fault NotCbor next ≡ reading (λ c. c) (nested s deeper wt k m e at)
@@ -183,8 +185,8 @@ module _ (s : Bytes) (deeper : ℕ → Read Seq) (n section wt m e at : ℕ) whe
       ≡ reading (λ k. k) (command_start s n section wt m e at >>= λ a. nested s deeper wt a.0 (m + wt) e a.1)
   whole = counted-reading (λ c. m + wt * count_cmd c) (command s deeper n section wt m e at) ∙ ap (λ (x : Got (ℕ × ℕ)). reading (λ k. k) x) (command_law s deeper wt n section m e at)
 
-  pub command_stop : (r : Reading) → Stopped (command_start s n section wt m e at) r → r ≡ reading (λ c. m + wt * count_cmd c) (command s deeper n section wt m e at)
-  command_stop r x = (rw x.was x.is) ∙ sym whole
+  pub command_stop : (f : Fault) → command_start s n section wt m e at ≡ refused f.refusal f.at → Err f ≡ reading (λ c. m + wt * count_cmd c) (command s deeper n section wt m e at)
+  command_stop f x = (rw x) ∙ sym whole
 
   pub command_opened : (k p : ℕ) → command_start s n section wt m e at ≡ got (k, p) →
       reading (λ c. m + wt * count_cmd c) (command s deeper n section wt m e at) ≡ reading (λ c. c) (nested s deeper wt k (m + wt) e p)
@@ -205,8 +207,8 @@ module _ (s : Bytes) (deeper : ℕ → Read Seq) (n section wt k m e at : ℕ) w
         rw h (counted-reading (λ a. m + wt * count a) (commands_at s deeper n section wt (suc j) m e at)
         ∙ ap (λ (x : Got (ℕ × ℕ)). reading (λ c. c) x) (then_law s deeper wt n section j m e at))
 
-    pub commands_stop : (r : Reading) → Stopped (command s deeper n section wt m e at) r → r ≡ reading (λ a. m + wt * count a) (commands_at s deeper n section wt k m e at)
-    commands_stop r x = (rw x.was x.is) ∙ sym turn
+    pub commands_stop : (f : Fault) → command s deeper n section wt m e at ≡ refused f.refusal f.at → Err f ≡ reading (λ a. m + wt * count a) (commands_at s deeper n section wt k m e at)
+    commands_stop f x = (rw x) ∙ sym turn
 
     pub commands-more : (c : Cmd) (p : ℕ) → command s deeper n section wt m e at ≡ got (c, p) → (v : ℕ) → v ≡ m + wt * count_cmd c →
         reading (λ a. m + wt * count a) (commands_at s deeper n section wt k m e at) ≡ reading (λ a. v + wt * count a) (commands_at s deeper n section wt j v e p)
@@ -214,13 +216,13 @@ module _ (s : Bytes) (deeper : ℕ → Read Seq) (n section wt k m e at : ℕ) w
 
 -- a sequence is its head and its commands
 module _ (s : Bytes) (n section wt d m e at : ℕ) where
-  pub sequence_stop : (r : Reading) → Stopped (item ARRAY 0 (limits.sequence + limits.sequence) s e at) r → r ≡ reading (λ a. m + wt * count a) (sequence_at s n section wt d m e at)
+  pub sequence_stop : (f : Fault) → item ARRAY 0 (limits.sequence + limits.sequence) s e at ≡ refused f.refusal f.at → Err f ≡ reading (λ a. m + wt * count a) (sequence_at s n section wt d m e at)
   unfolding sequence_at
-  sequence_stop r x = go d
+  sequence_stop f x = go d
     where
-      go : (d : ℕ) → r ≡ reading (λ a. m + wt * count a) (sequence_at s n section wt d m e at)
-      go zero = rw x.was x.is
-      go (suc d) = rw x.was x.is
+      go : (d : ℕ) → Err f ≡ reading (λ a. m + wt * count a) (sequence_at s n section wt d m e at)
+      go zero = rw x
+      go (suc d) = rw x
 
   module _ (v p : ℕ) (q : item ARRAY 0 (limits.sequence + limits.sequence) s e at ≡ got (record { kind = ARRAY; num = v; next = p })) where
     pub sequence_odd : (v % 2 ≡ 0 → ⊥) → fault Malformed at ≡ reading (λ a. m + wt * count a) (sequence_at s n section wt d m e at)
@@ -240,15 +242,19 @@ module _ (s : Bytes) (n section wt d m e at : ℕ) where
     unfolding sequence_at
     sequence_body o j h = rw (h, q, eq-eqb _ _ o)
 
+-- before the first of n turns
+pub all-left : (n : ℕ) → n - 0 ≡ n
+all-left n = omega arith
+
 -- what the start of a command, a sequence and a command gave where they went on
-pub opened : (s : Bytes) (n section wt m e at : ℕ) (r : Reading) → r ≡ reading (λ k. k) (command_start s n section wt m e at) → r.refusal ≡ 0 →
+pub opened : (s : Bytes) (n section wt m e at : ℕ) (r : Reading) → Ok r ≡ reading (λ k. k) (command_start s n section wt m e at) →
     command_start s n section wt m e at ≡ got (r.value, r.at)
-opened s n section wt m e at r q h = let (a, y, v) = reading_went (λ k. k) (command_start s n section wt m e at) r q h in y ∙ (λ j. got (sym v j, r.at))
+opened s n section wt m e at r q = let (a, y, v) = reading_went (λ k. k) (command_start s n section wt m e at) r q in y ∙ (λ j. got (sym v j, r.at))
 
-pub read : (s : Bytes) (n section wt d m e at : ℕ) (r : Reading) → r ≡ reading (λ a. m + wt * count a) (sequence_at s n section wt d m e at) → r.refusal ≡ 0 →
+pub read : (s : Bytes) (n section wt d m e at : ℕ) (r : Reading) → Ok r ≡ reading (λ a. m + wt * count a) (sequence_at s n section wt d m e at) →
     (a : Seq) × (sequence_at s n section wt d m e at ≡ got (a, r.at)) × (r.value ≡ m + wt * count a)
-read s n section wt d m e at r q h = reading_went (λ a. m + wt * count a) (sequence_at s n section wt d m e at) r q h
+read s n section wt d m e at = reading_went (λ a. m + wt * count a) (sequence_at s n section wt d m e at)
 
-pub done : (s : Bytes) (deeper : ℕ → Read Seq) (n section wt m e at : ℕ) (r : Reading) → r ≡ reading (λ c. m + wt * count_cmd c) (command s deeper n section wt m e at) → r.refusal ≡ 0 →
+pub done : (s : Bytes) (deeper : ℕ → Read Seq) (n section wt m e at : ℕ) (r : Reading) → Ok r ≡ reading (λ c. m + wt * count_cmd c) (command s deeper n section wt m e at) →
     (c : Cmd) × (command s deeper n section wt m e at ≡ got (c, r.at)) × (r.value ≡ m + wt * count_cmd c)
-done s deeper n section wt m e at r q h = reading_went (λ c. m + wt * count_cmd c) (command s deeper n section wt m e at) r q h
+done s deeper n section wt m e at = reading_went (λ c. m + wt * count_cmd c) (command s deeper n section wt m e at)

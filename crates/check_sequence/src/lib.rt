@@ -12,7 +12,7 @@ ghost use Rattle.check_sequence.specs.Command.{command_at};
 
 use cbor_reading::{Reading, item, refuse};
 use check_command::open_command;
-use rules::answers::Refusal;
+use rules::answers::{Fault, Refusal};
 use rules::controller::Controller;
 use rules_tables::Table;
 
@@ -28,48 +28,28 @@ pub fn check_sequence(
     commands: usize,
     end: usize,
     at: usize,
-) -> Reading
+) -> Result<Reading, Fault>
     requires { (end ≤ length s.now) × (table.now ≡ by_number) × Section section × (weight < section_count) }
     ensures { result ≡ reading (λ a. commands + weight * count a) (Check.sequence_at s.now components section weight depth commands end at) }
 {
-    let h = item(
-        s,
-        end,
-        at,
-        cbor::ARRAY,
-        0,
-        2 * Controller::SEQUENCE_COMMANDS,
-    );
-    let refusal = h.refusal;
-    if refusal != 0 {
-        return h;
-    }
-    let v = h.value;
-    if v % 2 != 0 {
+    let most = 2 * Controller::SEQUENCE_COMMANDS;
+    let h = item(s, end, at, cbor::ARRAY, 0, most)?;
+    if h.value % 2 != 0 {
         return refuse(Refusal::Malformed, at);
     }
     if depth == 0 {
         return refuse(Refusal::TooDeep, at);
     }
     let inner = depth - 1;
+    let count = h.value / 2;
     let mut p = h.at;
     let mut sum = commands;
-    let mut left = v / 2;
-    while 0 < left {
-        let c = check_command(s, table, components, section, weight, inner, sum, end, p);
-        let refusal = c.refusal;
-        if refusal != 0 {
-            return c;
-        }
+    for _ in 0..count {
+        let c = check_command(s, table, components, section, weight, inner, sum, end, p)?;
         p = c.at;
         sum = c.value;
-        left -= 1;
     }
-    Reading {
-        refusal: 0,
-        at: p,
-        value: sum,
-    }
+    Ok(Reading { at: p, value: sum })
 }
 
 // The command at `at`, likewise; the sequences that it holds may be `depth` deep.
@@ -84,42 +64,24 @@ fn check_command(
     commands: usize,
     end: usize,
     at: usize,
-) -> Reading
+) -> Result<Reading, Fault>
     requires { (end ≤ length s.now) × (table.now ≡ by_number) × Section section × (weight < section_count) }
     ensures { result ≡ reading (λ c. commands + weight * count_cmd c) (command_at s.now components section weight depth commands end at) }
 {
-    let o = open_command(s, table, components, section, weight, commands, end, at);
-    let refusal = o.refusal;
-    if refusal != 0 {
-        return o;
-    }
+    let o = open_command(s, table, components, section, weight, commands, end, at)?;
+    let count = o.value;
     let mut p = o.at;
     let mut sum = commands + weight;
-    let mut left = o.value;
-    while 0 < left {
-        let b = item(s, end, p, cbor::BYTES, 0, Controller::LARGEST_NUMBER);
-        let refusal = b.refusal;
-        if refusal != 0 {
-            return b;
-        }
+    for _ in 0..count {
+        let b = item(s, end, p, cbor::BYTES, 0, Controller::LARGEST_NUMBER)?;
         let from = b.at;
         let to = from + b.value;
-        let r = check_sequence(s, table, components, section, weight, depth, sum, to, from);
-        let refusal = r.refusal;
-        if refusal != 0 {
-            return r;
-        }
-        let next = r.at;
-        if next != to {
-            return refuse(Refusal::NotCbor, next);
+        let r = check_sequence(s, table, components, section, weight, depth, sum, to, from)?;
+        if r.at != to {
+            return refuse(Refusal::NotCbor, r.at);
         }
         p = to;
         sum = r.value;
-        left -= 1;
     }
-    Reading {
-        refusal: 0,
-        at: p,
-        value: sum,
-    }
+    Ok(Reading { at: p, value: sum })
 }

@@ -13,23 +13,17 @@ abbrev pub decreases-check_sequence : goal.decreases-check_sequence
 decreases-check_sequence l = l.depth + (l.end - l.at)
 
 -- the command is the sequences that are left
-abbrev pub invariant-check_command-loop-left : goal.invariant-check_command-loop-left
-invariant-check_command-loop-left l =
+abbrev pub invariant-check_command-loop : goal.invariant-check_command-loop
+invariant-check_command-loop l =
     (reading (λ c. l.commands + l.weight * count_cmd c)
     (command l.s (sequence_at l.s l.components l.section l.weight l.depth) l.components l.section l.weight l.commands l.end l.at)
-    ≡ reading (λ c. c) (nested l.s (sequence_at l.s l.components l.section l.weight l.depth) l.weight l.left l.sum l.end l.p))
+    ≡ reading (λ c. c) (nested l.s (sequence_at l.s l.components l.section l.weight l.depth) l.weight (l.count - l.counter) l.sum l.end l.p))
     × (l.at < l.p)
-
-abbrev pub decreases-check_command-loop-left : goal.decreases-check_command-loop-left
-decreases-check_command-loop-left l = l.left
 
 -- the sequence is the commands that are left
-abbrev pub invariant-check_sequence-loop-left : goal.invariant-check_sequence-loop-left
-invariant-check_sequence-loop-left l =
+abbrev pub invariant-check_sequence-loop : goal.invariant-check_sequence-loop
+invariant-check_sequence-loop l =
     (reading (λ a. l.commands + l.weight * count a) (sequence_at l.s l.components l.section l.weight l.depth l.commands l.end l.at)
     ≡ reading (λ a. l.sum + l.weight * count a)
-    (commands_at l.s (sequence_at l.s l.components l.section l.weight (l.depth - 1)) l.components l.section l.weight l.left l.sum l.end l.p))
+    (commands_at l.s (sequence_at l.s l.components l.section l.weight (l.depth - 1)) l.components l.section l.weight (l.count - l.counter) l.sum l.end l.p))
     × (l.at < l.p)
-
-abbrev pub decreases-check_sequence-loop-left : goal.decreases-check_sequence-loop-left
-decreases-check_sequence-loop-left l = l.left
