@@ -10,7 +10,7 @@ ghost use Rattle.cbor_heads.specs.Answer.{head_means};
 use byte_buffer::{four, two, wide};
 use rules::answers::{Fault, Refusal};
 
-// Kinds of items.
+// Kinds of items. They stay numbers: who reads an item may want any number for its kind (read_item of cbor).
 pub const NUMBER: usize = 0;
 
 pub const BYTES: usize = 2;

@@ -15,47 +15,48 @@ pub struct Reader<'a> {
     at: usize,
 }
 
-// A reader at a place of an envelope.
-pub fn new<'a>(envelope: &'a [u8], at: usize) -> Reader<'a>
-    ensures { result ≡ record { envelope = envelope.entry; at = at } }
-{
-    Reader { envelope, at }
-}
+impl<'a> Reader<'a> {
+    // A reader at a place of an envelope.
+    pub fn new(envelope: &'a [u8], at: usize) -> Reader<'a>
+        ensures { result ≡ record { envelope = envelope.entry; at = at } }
+    {
+        Reader { envelope, at }
+    }
 
-// The reader's place.
-pub fn place<'a>(r: Reader<'a>) -> usize
-    ensures { result ≡ r.entry.at }
-{
-    r.at
-}
+    // The reader's place.
+    pub fn place(&self) -> usize
+        ensures { result ≡ self.now.at }
+    {
+        self.at
+    }
 
-// How many bytes are left for it.
-pub fn left<'a>(r: Reader<'a>) -> usize
-    ensures { result ≡ length r.entry.envelope.now - r.entry.at }
-{
-    r.envelope.len().saturating_sub(r.at)
-}
+    // How many bytes are left for it.
+    pub fn left(&self) -> usize
+        ensures { result ≡ length self.now.envelope.now - self.now.at }
+    {
+        self.envelope.len().saturating_sub(self.at)
+    }
 
-// Reads one head, and moves the reader to the place after it; or refuses it with 65, and the reader is as it was.
-pub fn read_head<'s, 'a>(r: &'s mut Reader<'a>) -> Result<Head, Fault>
-    ensures { (result ≡ read_of (head_here r.old)) × (r.new ≡ moved r.old (head_here r.old)) }
-{
-    let h = cbor_heads::read_head(r.envelope, r.envelope.len(), r.at)?;
-    r.at = h.next;
-    Ok(h)
+    // Reads one head, and moves the reader to the place after it; or refuses it with 65, and the reader is as it was.
+    pub fn read_head(&mut self) -> Result<Head, Fault>
+        ensures { (result ≡ read_of (head_here self.old)) × (self.new ≡ moved self.old (head_here self.old)) }
+    {
+        let h = cbor_heads::read_head(self.envelope, self.envelope.len(), self.at)?;
+        self.at = h.next;
+        Ok(h)
+    }
 }
 
 // The same for a caller that has no reader: one head at a place of an envelope.
 pub fn head_at(envelope: &[u8], at: usize) -> Result<Head, Fault>
     ensures { result ≡ read_of (head envelope.now (length envelope.now) at) }
 {
-    let mut r = new(envelope, at);
-    read_head(&mut r)
+    Reader::new(envelope, at).read_head()
 }
 
 // How many bytes of an envelope are left from a place on.
 pub fn left_at(envelope: &[u8], at: usize) -> usize
     ensures { result ≡ length envelope.now - at }
 {
-    left(new(envelope, at))
+    Reader::new(envelope, at).left()
 }

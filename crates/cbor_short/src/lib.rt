@@ -10,35 +10,12 @@ use cbor::{MAP, content};
 pub fn is_short(kind: usize, first: usize) -> bool
     ensures { result ≡ true → (kind ≡ 1 → ⊥) × (kind < 6) × (first / 32 ≡ kind) × (first % 32 < 24) }
 {
-    if MAP < kind {
-        return false;
-    }
-    if kind == 1 {
-        return false;
-    }
-    // the head that says 0
-    let zero = 32 * kind;
-    if first < zero {
-        return false;
-    }
-    if 24 <= first - zero {
-        return false;
-    }
-    true
+    kind <= MAP && kind != 1 && 32 * kind <= first && first - 32 * kind < 24
 }
 
 // Whether a head's number is in range, and what it says of the content fits into the `left` bytes after the head.
 pub fn number_fits(kind: usize, num: usize, left: usize, lo: usize, hi: usize) -> bool
     ensures { result ≡ true → (lo ≤ num) × (num ≤ hi) × ((next : ℕ) → Cbor.after (record { kind = kind; num = num; next = next }) ≤ next + left) }
 {
-    if num < lo {
-        return false;
-    }
-    if hi < num {
-        return false;
-    }
-    if left < content(kind, num) {
-        return false;
-    }
-    true
+    lo <= num && num <= hi && content(kind, num) <= left
 }
