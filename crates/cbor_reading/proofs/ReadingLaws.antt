@@ -12,7 +12,7 @@ use Rattle.rules.specs.Check.{number}
 use Rattle.rules.proofs.CheckLaws.{item_law, bytes_after, text-after}
 use Rattle.rules.specs.Got.{Got, refused, got, ◌>>=◌}
 use Rattle.cbor_reading.specs.declared.Reading.{Reading}
-use Rattle.cbor_reading.specs.Reading.{view, head_reading, place_reading, place_of, reading}
+use Rattle.cbor_reading.specs.Reading.{result_of, view, head_reading, place_reading, place_of, reading}
 
 -- two that go on alike where the first gave a value
 pub alike : {A B : Type 0} (x : Got A) (f g : A → Got B) → ((a : A) → x ≡ got a → f a ≡ g a) → (x >>= f) ≡ (x >>= g)
@@ -26,6 +26,16 @@ bind_assoc (got a) f g = refl
 -- what `?` hands up
 pub handed : {T : Type 0} (r : Result T Fault) (f : Fault) → IsErrAnd r (λ g. g ≡ f) → r ≡ Err f
 handed r f h = let e = err_from_is_err_and r h in e.1 ∙ ap Err e.2
+
+-- what stopped is that refusal, and what did not gave a value
+module _ {A B : Type 0} (f : A → B) where
+  pub result-stopped : (x : Got A) (d : Fault) → Err d ≡ result_of f x → x ≡ refused d.refusal d.at
+  result-stopped (refused k q) d e = let g : d ≡ record { refusal = k; at = q } = cc in rw g
+  result-stopped (got a) d e = absurd cc
+
+  pub result_went : (x : Got A) (b : B) → Ok b ≡ result_of f x → (a : A) × (x ≡ got a) × (b ≡ f a)
+  result_went (refused k q) b e = absurd cc
+  result_went (got a) b e = let g : b ≡ f a = cc in (a, refl, g)
 
 module _ {A : Type 0} (p v : A → ℕ) (x : Got A) where
   -- a reading that stopped is a refusal
@@ -75,13 +85,11 @@ module _ (x : Got ℕ) where
   pub place_went : (r : Reading) → Ok r ≡ place_reading x → x ≡ got r.at
   place_went r q = let (a, y, p, v) = went (λ p. p) (λ p. 0) x r q in y ∙ ap got (sym p)
 
-pub place_of-stopped : (x : Got ℕ) (f : Fault) → Err f ≡ place_of x → x ≡ refused f.refusal f.at
-place_of-stopped (refused k q) f e = let g : f ≡ record { refusal = k; at = q } = cc in rw g
-place_of-stopped (got p) f e = absurd cc
+  pub place_of-stopped : (f : Fault) → Err f ≡ place_of x → x ≡ refused f.refusal f.at
+  place_of-stopped = result-stopped (λ p. p) x
 
-pub place_of-went : (x : Got ℕ) (p : ℕ) → Ok p ≡ place_of x → x ≡ got p
-place_of-went (refused k q) p e = absurd cc
-place_of-went (got a) p e = let g : p ≡ a = cc in rw g
+  pub place_of-went : (p : ℕ) → Ok p ≡ place_of x → x ≡ got p
+  place_of-went p e = let (q, y, h) = result_went (λ p. p) x p e in y ∙ ap got (sym h)
 
 -- of something and the place after it: one that stopped, and one that went on
 module _ {A : Type 0} (f : A → ℕ) (x : Got (A × ℕ)) where

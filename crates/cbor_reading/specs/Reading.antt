@@ -13,6 +13,11 @@ fault r p = Err (record { refusal = r; at = p })
 abbrev pub ends : ℕ → ℕ → Result Reading Fault
 ends p v = Ok (record { at = p; value = v })
 
+-- of what was read, f of it
+abbrev pub result_of : {A B : Type 0} → (A → B) → Got A → Result B Fault
+result_of f (refused r p) = fault r p
+result_of f (got a) = Ok (f a)
+
 -- by the place after what was read, and a number of it
 abbrev pub view : {A : Type 0} → (A → ℕ) → (A → ℕ) → Got A → Result Reading Fault
 view place value (refused r p) = fault r p
@@ -32,8 +37,7 @@ place_reading = view (λ p. p) (λ p. 0)
 
 -- of a place alone, as it is
 abbrev pub place_of : Got ℕ → Result ℕ Fault
-place_of (refused r p) = fault r p
-place_of (got p) = Ok p
+place_of = result_of (λ p. p)
 
 -- of something and the place after it: f of it
 abbrev pub reading : {A : Type 0} → (A → ℕ) → Got (A × ℕ) → Result Reading Fault

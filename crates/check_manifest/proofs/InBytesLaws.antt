@@ -2,34 +2,28 @@
 use Prim.Native.Nat.{ℕ, ◌+◌}
 use mathlib.Core.Path.{◌≡◌}
 use borrow.Author.Tests.{eq-eqb, ne_eqb}
+use Rattle.rules.specs.declared.answers.Fault.{Fault}
 use Rattle.rules.specs.declared.answers.Refusal.TheVariants.{NotCbor}
 use Rattle.rules.specs.Limits.{limits}
 use Rattle.rules.specs.Bytes.{Bytes, span}
-use Rattle.rules.specs.Got.{Got, got, ◌>>=◌}
+use Rattle.rules.specs.Got.{refused, got}
 use Rattle.rules.specs.Cbor.{BYTES, item}
 use Rattle.rules.specs.Check.{Read, in_bytes}
-use Rattle.cbor_reading.specs.declared.Reading.{Reading}
-use Rattle.cbor_reading.specs.Reading.{fault}
-use Rattle.cbor_reading.proofs.ReadingLaws.{Stopped}
-
--- what stopped stops all that would follow
-pub stopped_bind : {A B : Type 0} (x : Got A) (f : A → Got B) (r : Reading) → Stopped x r → Stopped (x >>= f) r
-stopped_bind x f r y = record { refusal = y.refusal; place = y.place; was = rw y.was; is = y.is }
 
 module _ {A : Type 0} (s : Bytes) (read : Read A) (e at : ℕ) where
-  pub in_stop : (r : Reading) → Stopped (item BYTES 0 limits.largest s e at) r → Stopped (in_bytes s read e at) r
+  pub in_stop : (d : Fault) → item BYTES 0 limits.largest s e at ≡ refused d.refusal d.at → in_bytes s read e at ≡ refused d.refusal d.at
   unfolding in_bytes
-  in_stop r x = stopped_bind (item BYTES 0 limits.largest s e at) _ r x
+  in_stop d x = rw x
 
   module _ (v p : ℕ) (q : item BYTES 0 limits.largest s e at ≡ got (record { kind = BYTES; num = v; next = p })) where
-    pub in_bad : (r : Reading) → Stopped (read (p + v) p) r → Stopped (in_bytes s read e at) r
+    pub in_bad : (d : Fault) → read (p + v) p ≡ refused d.refusal d.at → in_bytes s read e at ≡ refused d.refusal d.at
     unfolding in_bytes
-    in_bad r x = record { refusal = x.refusal; place = x.place; was = rw (q, x.was); is = x.is }
+    in_bad d x = rw (q, x)
 
     module _ (a : A) (next : ℕ) (w : read (p + v) p ≡ got (a, next)) where
-      pub in_over : (next ≡ p + v → ⊥) → (r : Reading) → r ≡ fault NotCbor next → Stopped (in_bytes s read e at) r
+      pub in_over : (next ≡ p + v → ⊥) → in_bytes s read e at ≡ refused NotCbor next
       unfolding in_bytes
-      in_over o r x = record { refusal = NotCbor; place = next; was = rw (q, w, ne_eqb _ _ o); is = x }
+      in_over o = rw (q, w, ne_eqb _ _ o)
 
       pub in_got : next ≡ p + v → in_bytes s read e at ≡ got (a, span p (p + v))
       unfolding in_bytes

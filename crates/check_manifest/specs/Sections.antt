@@ -1,5 +1,6 @@
 -- The places of sections, as check keeps them in an array.
-use Rattle.std.specs.Prelude.{ℕ, ◌+◌, ◌*◌, ◌≡◌, List, [], ◌∷◌, set}
+use Rattle.std.specs.Prelude.{ℕ, ◌+◌, ◌*◌, ◌≡◌, List, [], ◌∷◌, set, Result}
+use Rattle.rules.specs.declared.answers.Fault.{Fault}
 use Rattle.rules.specs.Lent.{Lent, was, left}
 use Rattle.rules.specs.Commands.{section_no}
 use Rattle.rules.specs.Got.{Got, refused, got}
@@ -21,8 +22,8 @@ Placed f (refused r p) before after = Unit {0}
 Placed f (got a) before after = after ≡ placed (f a.0) before
 
 -- a section was read, and sections: the answer has what commands weigh with theirs, and the lent array has their places
-abbrev pub SectionRead : (Section → ℕ) → Got (Section × ℕ) → Lent → Reading → Type 0
+abbrev pub SectionRead : (Section → ℕ) → Got (Section × ℕ) → Lent → Result Reading Fault → Type 0
 SectionRead commands g places r = (r ≡ reading commands g) × Placed (λ x. x ∷ []) g (was places) (left places)
 
-abbrev pub SectionsRead : (List Section → ℕ) → Got (List Section × ℕ) → Lent → Reading → Type 0
+abbrev pub SectionsRead : (List Section → ℕ) → Got (List Section × ℕ) → Lent → Result Reading Fault → Type 0
 SectionsRead commands g places r = (r ≡ reading commands g) × Placed (λ xs. xs) g (was places) (left places)

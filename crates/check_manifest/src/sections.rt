@@ -8,9 +8,10 @@ ghost use Rattle.rules.specs.Check as Check;
 ghost use Rattle.check_command.specs.Command.{Section};
 ghost use Rattle.check_manifest.specs.Sections.{SectionRead, SectionsRead};
 
+use crate::key_at;
 use cbor_reading::{Reading, item, refuse};
 use check_sequence::check_sequence;
-use rules::answers::Refusal;
+use rules::answers::{Fault, Refusal};
 use rules::codes;
 use rules::controller::{Controller, SectionPlaces};
 use rules_tables::Table;
@@ -44,17 +45,12 @@ fn section(
     end: usize,
     at: usize,
     places: &mut SectionPlaces,
-) -> Reading
+) -> Result<Reading, Fault>
     requires { (end ≤ length s.now) × (table.now ≡ by_number) × Section key × (weight < section_count) }
     ensures { SectionRead (λ x. commands + weight * count x.seq) (Check.section_at s.now components key weight commands end at) places result }
 {
-    let b = item(s, end, at, cbor::BYTES, 0, Controller::LARGEST_NUMBER);
-    let refusal = b.refusal;
-    if refusal != 0 {
-        return b;
-    }
-    let from = b.at;
-    let to = from + b.value;
+    let b = item(s, end, at, cbor::BYTES, 0, Controller::LARGEST_NUMBER)?;
+    let to = b.at + b.value;
     let r = check_sequence(
         s,
         table,
@@ -64,20 +60,15 @@ fn section(
         Controller::DEPTH,
         commands,
         to,
-        from,
-    );
-    let refusal = r.refusal;
-    if refusal != 0 {
-        return r;
-    }
-    let next = r.at;
-    if next != to {
-        return refuse(Refusal::NotCbor, next);
+        b.at,
+    )?;
+    if r.at != to {
+        return refuse(Refusal::NotCbor, r.at);
     }
     let i = section_number(key);
-    places[2 * i] = from;
+    places[2 * i] = b.at;
     places[2 * i + 1] = to;
-    r
+    Ok(r)
 }
 
 // k sections, whose keys ascend from 8 on and whose commands weigh 1 each, after commands that weigh `commands`.
@@ -90,36 +81,24 @@ pub(crate) fn sections(
     end: usize,
     at: usize,
     places: &mut SectionPlaces,
-) -> Reading
+) -> Result<Reading, Fault>
     requires { (end ≤ length s.now) × (table.now ≡ by_number) }
     ensures { SectionsRead (λ xs. commands + count_all xs) (Check.sections_at s.now components k PAYLOAD_FETCH commands end at) places result }
 {
     let mut p = at;
     let mut low = codes::PAYLOAD_FETCH;
     let mut so_far = commands;
-    let mut left = k;
-    while 0 < left {
-        let h = item(s, end, p, cbor::NUMBER, low, codes::RUN_SECTION);
-        let refusal = h.refusal;
-        if refusal != 0 {
-            return h;
-        }
-        let key = h.value;
-        let r = section(s, table, components, key, 1, so_far, end, h.at, places);
-        let refusal = r.refusal;
-        if refusal != 0 {
-            return r;
-        }
+    for _ in 0..k {
+        let h = item(s, end, p, cbor::NUMBER, low, codes::RUN_SECTION)?;
+        let r = section(s, table, components, h.value, 1, so_far, end, h.at, places)?;
         p = r.at;
         so_far = r.value;
-        low = key + 1;
-        left -= 1;
+        low = h.value + 1;
     }
-    Reading {
-        refusal: 0,
+    Ok(Reading {
         at: p,
         value: so_far,
-    }
+    })
 }
 
 // Common's own sequence, of which k entries, one or none, are left.
@@ -132,22 +111,14 @@ pub(crate) fn common_sequence(
     end: usize,
     at: usize,
     places: &mut SectionPlaces,
-) -> Reading
+) -> Result<Reading, Fault>
     requires { (end ≤ length s.now) × (table.now ≡ by_number) × (k ≤ 1) × (weight < section_count) }
     ensures { SectionsRead (λ xs. weight * count_all xs) (Check.common_seq s.now components weight k end at) places result }
 {
     if k == 0 {
-        return Reading {
-            refusal: 0,
-            at,
-            value: 0,
-        };
+        return Ok(Reading { at, value: 0 });
     }
-    let h = item(s, end, at, cbor::NUMBER, SEQUENCE_KEY, SEQUENCE_KEY);
-    let refusal = h.refusal;
-    if refusal != 0 {
-        return h;
-    }
+    let p = key_at(s, end, at, SEQUENCE_KEY)?;
     section(
         s,
         table,
@@ -156,7 +127,7 @@ pub(crate) fn common_sequence(
         weight,
         0,
         end,
-        h.at,
+        p,
         places,
     )
 }

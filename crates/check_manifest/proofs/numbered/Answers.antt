@@ -1,36 +1,22 @@
-use mathlib.Core.Path.{refl, ap, ◌∙◌}
-use Prim.Native.Nat.{ℕ}
-use Rattle.rules.specs.Commands.{COMMON}
-use Rattle.rules.specs.Check.{number, key, numbered_at}
-use Rattle.cbor_reading.specs.Reading.{ends, reading}
-use Rattle.check_manifest.proofs.BodyLaws.{Told, told, onward, halts, key-told}
+use Rattle.rules.specs.Check.{numbered_at}
+use Rattle.cbor_reading.proofs.ReadingLaws.{handed, place_of-stopped, place_of-went, number-stopped, number_went}
 use Rattle.check_manifest.proofs.numbered.Goals as goal
-use Rattle.check_manifest.proofs.numbered.Goals.{After-item-k}
 
-keyed : (c : After-item-k) → Told (λ q. q) (λ q. 2) (key c.args.s.now 2 c.args.end c.args.at) c.item-k.result
-keyed c = key-told c.args.s.now 2 c.args.end c.item-k.ensures refl
-
-pub returns-then-refusal-ne0 : goal.returns-then-refusal-ne0
+pub returns-in_err-p : goal.returns-in_err-p
 unfolding numbered_at
-returns-then-refusal-ne0 c = halts (keyed (goal.at.returns-then-refusal-ne0 c).After-item-k) _ _ _ c.if-refusal-ne0.true
+returns-in_err-p c = rw (handed _ _ c.from_residual.ensures.1, place_of-stopped _ _ c.in_err-p.ensures)
 
-pub returns-then-refusal-ne0-2 : goal.returns-then-refusal-ne0-2
+pub returns-in_err-n : goal.returns-in_err-n
 unfolding numbered_at
-returns-then-refusal-ne0-2 c =
-    onward (keyed (goal.at.returns-then-refusal-ne0-2 c).After-item-k) (reading (λ n. n)) _ _ c.if-refusal-ne0.false λ p at two.
-    halts (told _ _ (λ q. number c.args.s.now c.args.end q) c.number-n.ensures at) _ _ _ c.if-refusal-ne0-2.true
+returns-in_err-n c =
+    rw (handed _ _ c.from_residual-in_err-n.ensures.1, place_of-went _ _ c.in_ok-p.ensures, number-stopped _ _ _ _ c.in_err-n.ensures)
 
-pub returns-then-refusal-ne0-3 : goal.returns-then-refusal-ne0-3
+pub returns-in_err-next : goal.returns-in_err-next
 unfolding numbered_at
-returns-then-refusal-ne0-3 c =
-    onward (keyed (goal.at.returns-then-refusal-ne0-3 c).After-item-k) (reading (λ n. n)) _ _ c.if-refusal-ne0.false λ p at two.
-    onward (told _ _ (λ q. number c.args.s.now c.args.end q) c.number-n.ensures at) (reading (λ n. n)) _ _ c.if-refusal-ne0-2.false λ a next is.
-    halts (key-told c.args.s.now COMMON c.args.end c.item-c.ensures next) _ _ _ c.if-refusal-ne0-3.true
+returns-in_err-next c =
+    rw (handed _ _ c.from_residual-in_err-next.ensures.1, place_of-went _ _ c.in_ok-p.ensures, number_went _ _ _ _ c.in_ok-n.ensures)
+    (rw (place_of-stopped _ _ c.in_err-next.ensures))
 
 pub returns : goal.returns
 unfolding numbered_at
-returns c =
-    onward (keyed (goal.at.returns c).After-item-k) (reading (λ n. n)) _ _ c.if-refusal-ne0.false λ p at two.
-    onward (told _ _ (λ q. number c.args.s.now c.args.end q) c.number-n.ensures at) (reading (λ n. n)) _ _ c.if-refusal-ne0-2.false λ a next is.
-    onward (key-told c.args.s.now COMMON c.args.end c.item-c.ensures next) (reading (λ n. n)) _ _ c.if-refusal-ne0-3.false λ q end three.
-    ap (λ (n : ℕ). ends c.item-c.result.at n) is ∙ ap (λ (p : ℕ). ends p a.0) end
+returns c = rw (place_of-went _ _ c.in_ok-p.ensures, number_went _ _ _ _ c.in_ok-n.ensures, place_of-went _ _ c.in_ok-next.ensures)

@@ -1,36 +1,22 @@
-use mathlib.Core.Path.{refl, sym, ap, ◌∙◌}
-use Prim.Native.Nat.{ℕ}
 use borrow.Author.Tests.{eq-eqb, ne_eqb}
-use Rattle.rules.specs.declared.answers.Refusal.TheVariants.{WrongVersion}
-use Rattle.rules.specs.Check.{number, key, version_at}
-use Rattle.cbor_reading.specs.Reading.{fault, ends, place_reading}
-use Rattle.check_manifest.proofs.BodyLaws.{Told, told, onward, halts, key-told}
+use Rattle.rules.specs.Check.{version_at}
+use Rattle.cbor_reading.proofs.ReadingLaws.{handed, place_of-stopped, place_of-went, number-stopped, number_went}
 use Rattle.check_manifest.proofs.version.Goals as goal
-use Rattle.check_manifest.proofs.version.Goals.{After-item-k}
 
-keyed : (c : After-item-k) → Told (λ q. q) (λ q. 1) (key c.args.s.now 1 c.args.end c.args.at) c.item-k.result
-keyed c = key-told c.args.s.now 1 c.args.end c.item-k.ensures refl
-
-pub returns-then-refusal-ne0 : goal.returns-then-refusal-ne0
+pub returns-in_err-p : goal.returns-in_err-p
 unfolding version_at
-returns-then-refusal-ne0 c = halts (keyed (goal.at.returns-then-refusal-ne0 c).After-item-k) _ _ _ c.if-refusal-ne0.true
+returns-in_err-p c = rw (handed _ _ c.from_residual.ensures.1, place_of-stopped _ _ c.in_err-p.ensures)
 
-pub returns-then-refusal-ne0-2 : goal.returns-then-refusal-ne0-2
+pub returns-in_err-v : goal.returns-in_err-v
 unfolding version_at
-returns-then-refusal-ne0-2 c =
-    onward (keyed (goal.at.returns-then-refusal-ne0-2 c).After-item-k) place_reading _ _ c.if-refusal-ne0.false λ p at one.
-    halts (told _ _ (λ q. number c.args.s.now c.args.end q) c.number-v.ensures at) _ _ _ c.if-refusal-ne0-2.true
+returns-in_err-v c =
+    rw (handed _ _ c.from_residual-in_err-v.ensures.1, place_of-went _ _ c.in_ok-p.ensures, number-stopped _ _ _ _ c.in_err-v.ensures)
 
-pub returns-then-is-ne-VERSION : goal.returns-then-is-ne-VERSION
+pub returns-then-v-ne-VERSION : goal.returns-then-v-ne-VERSION
 unfolding version_at
-returns-then-is-ne-VERSION c =
-    onward (keyed (goal.at.returns-then-is-ne-VERSION c).After-item-k) place_reading _ _ c.if-refusal-ne0.false λ p at one.
-    onward (told _ _ (λ q. number c.args.s.now c.args.end q) c.number-v.ensures at) place_reading _ _ c.if-refusal-ne0-2.false λ a next is.
-    rw (ne_eqb a.0 1 λ q. c.if-is-ne-VERSION.true (is ∙ q)) (c.refuse.ensures ∙ ap (λ (q : ℕ). fault WrongVersion q) at)
+returns-then-v-ne-VERSION c =
+    rw (c.refuse.ensures, place_of-went _ _ c.in_ok-p.ensures, number_went _ _ _ _ c.in_ok-v.ensures, ne_eqb _ 1 c.if-v-ne-VERSION.true)
 
 pub returns : goal.returns
 unfolding version_at
-returns c =
-    onward (keyed (goal.at.returns c).After-item-k) place_reading _ _ c.if-refusal-ne0.false λ p at one.
-    onward (told _ _ (λ q. number c.args.s.now c.args.end q) c.number-v.ensures at) place_reading _ _ c.if-refusal-ne0-2.false λ a next is.
-    rw (eq-eqb a.0 1 (sym is ∙ c.if-is-ne-VERSION.false)) (ap (λ (q : ℕ). ends q 0) next)
+returns c = rw (place_of-went _ _ c.in_ok-p.ensures, number_went _ _ _ _ c.in_ok-v.ensures, eq-eqb _ 1 c.if-v-ne-VERSION.false)
