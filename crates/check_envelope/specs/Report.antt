@@ -1,39 +1,25 @@
 -- What check hands back.
-use Rattle.std.specs.Prelude.{ℕ, length, replicate}
+use Rattle.std.specs.Prelude.{ℕ, length, replicate, Result, Ok, Err}
+use Rattle.rules.specs.declared.answers.Fault.{Fault}
 use Rattle.rules.specs.declared.answers.Refusal.{Refusal}
 use Rattle.rules.specs.Answers.{refusal_number}
 use Rattle.rules.specs.Limits.{places, section_places}
-use Rattle.rules.specs.Bytes.{Span, span}
+use Rattle.rules.specs.Bytes.{Span}
 use Rattle.rules.specs.Got.{Got, refused, got}
 use Rattle.rules.specs.Manifest.{Manifest}
 use Rattle.check_envelope.specs.declared.report.Place.{Place}
-use Rattle.check_envelope.specs.declared.report.Checked.{Checked}
-use Rattle.check_envelope.specs.declared.report.Checked.TheVariants.{Accepted, Refused}
 use Rattle.check_envelope.specs.declared.report.Report.{Report}
+use Rattle.cbor_reading.specs.Reading.{result_of}
 use Rattle.component_ids.specs.Identifiers.{laid}
 use Rattle.check_manifest.specs.Sections.{placed}
 
 abbrev pub place : Span → Place
 place p = record { from = p.from; to = p.to }
 
--- the report of a refusal: all but the answer is 0
-abbrev pub refused_report : Refusal → ℕ → Report
-refused_report r p =
+-- of a manifest
+abbrev pub report : Manifest → Report
+report m =
     record {
-      answer = Refused r p;
-      number = 0;
-      components = 0;
-      ids = replicate places 0;
-      manifest = place (span 0 0);
-      common = place (span 0 0);
-      sections = replicate section_places 0;
-    }
-
-abbrev pub report_of : Got Manifest → Report
-report_of (refused r p) = refused_report r p
-report_of (got m) =
-    record {
-      answer = Accepted;
       number = m.number;
       components = length m.ids;
       ids = laid m.ids (replicate places 0);
@@ -41,6 +27,9 @@ report_of (got m) =
       common = place m.common;
       sections = placed m.sections (replicate section_places 0);
     }
+
+abbrev pub report_of : Got Manifest → Result Report Fault
+report_of = result_of report
 
 -- The answer in the numbers of document 01 ('sequence number, components and sections, or a refusal with its place'): a refusal's number and
 -- its place, or 0 for both where the envelope is accepted; then the sequence number and how many components there are, 0 on a refusal.
@@ -56,13 +45,10 @@ refused_numbers r p = record { refusal = refusal_number r; place = p; number = 0
 abbrev accepted_numbers : ℕ → ℕ → Numbers
 accepted_numbers n k = record { refusal = 0; place = 0; number = n; components = k }
 
--- for each case of a report's answer
-abbrev pub answer_numbers : Checked → ℕ → ℕ → Numbers
-answer_numbers Accepted n k = accepted_numbers n k
-answer_numbers (Refused r p) n k = refused_numbers r p
-
-abbrev pub numbers_in : Report → Numbers
-numbers_in r = answer_numbers r.answer r.number r.components
+-- as check hands it back
+abbrev pub numbers_in : Result Report Fault → Numbers
+numbers_in (Ok r) = accepted_numbers r.number r.components
+numbers_in (Err f) = refused_numbers f.refusal f.at
 
 -- and as the rule gives them
 abbrev pub numbers_of : Got Manifest → Numbers

@@ -1,11 +1,13 @@
 // The envelope around the manifest.
 ghost use Rattle.std.specs.Prelude.{◌≡◌, ◌≤◌, length};
 ghost use Rattle.rules.specs.Check as Check;
-ghost use Rattle.cbor_reading.specs.Reading.{head_reading, place_reading};
+ghost use Rattle.cbor_reading.specs.Reading.{head_reading, place_of};
 ghost use Rattle.check_envelope.specs.Outer.{manifest_head};
 
-use cbor_reading::{Reading, item, refuse};
-use rules::answers::Refusal;
+use cbor::{BYTES, MAP, NIL, read_one_of};
+use cbor_reading::{Reading, item};
+use check_manifest::key_at;
+use rules::answers::Fault;
 use rules::controller::Controller;
 
 // The keys of an envelope, which are all that it has.
@@ -16,54 +18,25 @@ const MANIFEST: usize = 3;
 const ENTRIES: usize = 2;
 
 // Nil or a byte string: the place after it.
-fn unread(s: &[u8], end: usize, at: usize) -> Reading
+fn unread(s: &[u8], end: usize, at: usize) -> Result<usize, Fault>
     requires { end ≤ length s.now }
-    ensures { result ≡ place_reading (Check.unread s.now end at) }
+    ensures { result ≡ place_of (Check.unread s.now end at) }
 {
-    match cbor::read_one_of(s, end, at, cbor::NIL, cbor::BYTES) {
-        Ok(h) => {
-            let kind = h.kind;
-            if kind == cbor::BYTES {
-                return Reading {
-                    refusal: 0,
-                    at: h.next + h.num,
-                    value: 0,
-                };
-            }
-            Reading {
-                refusal: 0,
-                at: h.next,
-                value: 0,
-            }
-        }
-        Err(f) => refuse(f.refusal, f.at),
+    let h = read_one_of(s, end, at, NIL, BYTES)?;
+    if h.kind == BYTES {
+        return Ok(h.next + h.num);
     }
+    Ok(h.next)
 }
 
 // The byte string that holds the manifest: where its bytes start, and how many they are.
-pub(crate) fn read_outer(s: &[u8], end: usize) -> Reading
+pub(crate) fn read_outer(s: &[u8], end: usize) -> Result<Reading, Fault>
     requires { end ≤ length s.now }
     ensures { result ≡ head_reading (manifest_head s.now end) }
 {
-    let h = item(s, end, 0, cbor::MAP, ENTRIES, ENTRIES);
-    let refusal = h.refusal;
-    if refusal != 0 {
-        return h;
-    }
-    let k = item(s, end, h.at, cbor::NUMBER, AUTHENTICATION, AUTHENTICATION);
-    let refusal = k.refusal;
-    if refusal != 0 {
-        return k;
-    }
-    let u = unread(s, end, k.at);
-    let refusal = u.refusal;
-    if refusal != 0 {
-        return u;
-    }
-    let m = item(s, end, u.at, cbor::NUMBER, MANIFEST, MANIFEST);
-    let refusal = m.refusal;
-    if refusal != 0 {
-        return m;
-    }
-    item(s, end, m.at, cbor::BYTES, 0, Controller::LARGEST_NUMBER)
+    let h = item(s, end, 0, MAP, ENTRIES, ENTRIES)?;
+    let first = key_at(s, end, h.at, AUTHENTICATION)?;
+    let next = unread(s, end, first)?;
+    let at = key_at(s, end, next, MANIFEST)?;
+    item(s, end, at, BYTES, 0, Controller::LARGEST_NUMBER)
 }

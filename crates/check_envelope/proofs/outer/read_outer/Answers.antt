@@ -1,31 +1,30 @@
-use Rattle.cbor_reading.proofs.ReadingLaws.{item-stopped, item_went, place-stopped, place_went}
-use Rattle.check_envelope.proofs.OuterLaws.{outer_stop, outer_no_key, outer_bad, outer_no_manifest, outer_bytes}
+use Rattle.rules.specs.Check.{outer_at}
+use Rattle.cbor_reading.proofs.ReadingLaws.{handed, item-stopped, item_went, place_of-stopped, place_of-went}
 use Rattle.check_envelope.proofs.outer.read_outer.Goals as goal
 
-pub returns-then-refusal-ne0 : goal.returns-then-refusal-ne0
-returns-then-refusal-ne0 c = outer_stop _ _ _ (item-stopped _ _ _ _ _ _ _ c.item-h.ensures c.if-refusal-ne0.true)
+pub returns-in_err-h : goal.returns-in_err-h
+unfolding outer_at
+returns-in_err-h c = rw (handed _ _ c.from_residual.ensures.1, item-stopped _ _ _ _ _ _ _ c.in_err-h.ensures)
 
-pub returns-then-refusal-ne0-2 : goal.returns-then-refusal-ne0-2
-returns-then-refusal-ne0-2 c =
-    let map = item_went _ _ _ _ _ _ _ c.item-h.ensures c.if-refusal-ne0.false in
-    outer_no_key _ _ _ _ map _ (item-stopped _ _ _ _ _ _ _ c.item-k.ensures c.if-refusal-ne0-2.true)
+pub returns-in_err-first : goal.returns-in_err-first
+unfolding outer_at
+returns-in_err-first c =
+    rw (handed _ _ c.from_residual-in_err-first.ensures.1, item_went _ _ _ _ _ _ _ c.in_ok-h.ensures, place_of-stopped _ _ c.in_err-first.ensures)
 
-pub returns-then-refusal-ne0-3 : goal.returns-then-refusal-ne0-3
-returns-then-refusal-ne0-3 c =
-    let map = item_went _ _ _ _ _ _ _ c.item-h.ensures c.if-refusal-ne0.false in
-    let first = item_went _ _ _ _ _ _ _ c.item-k.ensures c.if-refusal-ne0-2.false in
-    outer_bad _ _ _ _ map _ _ first _ (place-stopped _ _ c.unread-u.ensures c.if-refusal-ne0-3.true)
+pub returns-in_err-next : goal.returns-in_err-next
+unfolding outer_at
+returns-in_err-next c =
+    rw (handed _ _ c.from_residual-in_err-next.ensures.1, item_went _ _ _ _ _ _ _ c.in_ok-h.ensures, place_of-went _ _ c.in_ok-first.ensures)
+    (rw (place_of-stopped _ _ c.in_err-next.ensures))
 
-pub returns-then-refusal-ne0-4 : goal.returns-then-refusal-ne0-4
-returns-then-refusal-ne0-4 c =
-    let map = item_went _ _ _ _ _ _ _ c.item-h.ensures c.if-refusal-ne0.false in
-    let first = item_went _ _ _ _ _ _ _ c.item-k.ensures c.if-refusal-ne0-2.false in
-    let passed = place_went _ _ c.unread-u.ensures c.if-refusal-ne0-3.false in
-    outer_no_manifest _ _ _ _ map _ _ first _ passed _ (item-stopped _ _ _ _ _ _ _ c.item-m.ensures c.if-refusal-ne0-4.true)
+pub returns-in_err-at : goal.returns-in_err-at
+unfolding outer_at
+returns-in_err-at c =
+    rw (handed _ _ c.from_residual-in_err-at.ensures.1, item_went _ _ _ _ _ _ _ c.in_ok-h.ensures, place_of-went _ _ c.in_ok-first.ensures)
+    (rw (place_of-went _ _ c.in_ok-next.ensures, place_of-stopped _ _ c.in_err-at.ensures))
 
 pub returns : goal.returns
+unfolding outer_at
 returns c =
-    let map = item_went _ _ _ _ _ _ _ c.item-h.ensures c.if-refusal-ne0.false in
-    let first = item_went _ _ _ _ _ _ _ c.item-k.ensures c.if-refusal-ne0-2.false in
-    let passed = place_went _ _ c.unread-u.ensures c.if-refusal-ne0-3.false in
-    outer_bytes _ _ _ _ map _ _ first _ passed _ _ (item_went _ _ _ _ _ _ _ c.item-m.ensures c.if-refusal-ne0-4.false) _ c.item.ensures
+    rw (item_went _ _ _ _ _ _ _ c.in_ok-h.ensures, place_of-went _ _ c.in_ok-first.ensures, place_of-went _ _ c.in_ok-next.ensures)
+    (rw (place_of-went _ _ c.in_ok-at.ensures) c.item-2.ensures)

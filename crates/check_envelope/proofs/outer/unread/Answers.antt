@@ -1,16 +1,19 @@
-use mathlib.Core.Path.{sym, ◌∙◌}
+use mathlib.Core.Path.{sym}
 use native.Mathlib.Omega.{arith}
-use Rattle.check_envelope.proofs.OuterLaws.{unread-refused, unread-fits, unread-bytes, unread-nil}
+use Rattle.rules.specs.Check.{unread}
+use Rattle.cbor_reading.proofs.ReadingLaws.{handed}
+use Rattle.check_envelope.proofs.OuterLaws.{unread-fits, unread-bytes, unread-nil}
 use Rattle.check_envelope.proofs.outer.unread.Goals as goal
 
+pub returns-in_err-h : goal.returns-in_err-h
+unfolding unread
+returns-in_err-h c = rw (handed _ _ c.from_residual.ensures.1, ← c.in_err-h.ensures)
+
 pub overflow_add-result : goal.overflow_add-result
-overflow_add-result c = omega (arith, unread-fits _ _ _ _ (sym c.in-Ok.ensures) c.if-kind-eq-BYTES.true)
+overflow_add-result c = omega (arith, unread-fits _ _ _ _ (sym c.in_ok-h.ensures) c.if-h-eq-BYTES.true)
 
-pub returns-then-kind-eq-BYTES : goal.returns-then-kind-eq-BYTES
-returns-then-kind-eq-BYTES c = unread-bytes _ _ _ _ (sym c.in-Ok.ensures) c.if-kind-eq-BYTES.true
+pub returns-then-h-eq-BYTES : goal.returns-then-h-eq-BYTES
+returns-then-h-eq-BYTES c = rw (unread-bytes _ _ _ _ (sym c.in_ok-h.ensures) c.if-h-eq-BYTES.true)
 
-pub returns-else-kind-eq-BYTES : goal.returns-else-kind-eq-BYTES
-returns-else-kind-eq-BYTES c = unread-nil _ _ _ _ (sym c.in-Ok.ensures) c.if-kind-eq-BYTES.false
-
-pub returns-in-Err : goal.returns-in-Err
-returns-in-Err c = c.refuse.ensures ∙ unread-refused _ _ _ _ _ (sym c.in-Err.ensures)
+pub returns : goal.returns
+returns c = rw (unread-nil _ _ _ _ (sym c.in_ok-h.ensures) c.if-h-eq-BYTES.false)
