@@ -1,5 +1,5 @@
 -- Newer: which part of which of two lent envelopes is handed back.
-use Rattle.std.specs.Prelude.{ℕ, ◌+◌, ◌≡◌, List}
+use Rattle.std.specs.Prelude.{ℕ, ◌+◌, ◌≡◌, List, Option, Some, None}
 use Rattle.std.specs.Borrow.{Bor}
 use Rattle.rules.specs.Bytes.{Span, bytes_at}
 use Rattle.rules.specs.Got.{Got, refused, got}
@@ -7,6 +7,8 @@ use Rattle.rules.specs.Manifest.{Manifest}
 use Rattle.rules.specs.Newer.{Newer, in_first, in_second}
 use Rattle.check_newer.specs.declared.Part.{Part}
 use Rattle.check_newer.specs.declared.Newest.{Newest}
+use Rattle.check_newer.specs.declared.Newest.TheVariants.{First, Second}
+use Rattle.check_envelope.specs.Report.{place}
 
 -- r is the bytes at p of the slice s, and lies where they lie
 pub record PartOf (s : Bor (List ℕ)) (p : Span) (r : Bor (List ℕ)) : Type 0 where
@@ -19,12 +21,12 @@ abbrev pub Handed : Newer → Bor (List ℕ) → Bor (List ℕ) → Bor (List �
 Handed (in_first p) a b r = PartOf a p r
 Handed (in_second p) a b r = PartOf b p r
 
--- an envelope's rank, 0 where it is refused and else one more than its number, and its manifest's place
-abbrev pub part_in : Got Manifest → Part
-part_in (refused k p) = record { rank = 0; from = 0; to = 0 }
-part_in (got m) = record { rank = m.number + 1; from = m.part.from; to = m.part.to }
+-- the number of an accepted manifest, and its place
+abbrev pub part_in : Got Manifest → Option Part
+part_in (refused k p) = None
+part_in (got m) = Some (record { number = m.number; place = place m.part })
 
 -- the place of what is handed back
 abbrev pub newest_of : Newer → Newest
-newest_of (in_first p) = record { second = 0; from = p.from; to = p.to }
-newest_of (in_second p) = record { second = 1; from = p.from; to = p.to }
+newest_of (in_first p) = First (place p)
+newest_of (in_second p) = Second (place p)

@@ -7,62 +7,46 @@ ghost use Rattle.rules.specs.Newer as Rule;
 ghost use Rattle.check_newer.specs.Newer.{Handed, part_in, newest_of};
 
 use check_envelope::check;
-use check_envelope::report::Checked;
+use check_envelope::report::Place;
 
-// The rank is 0 where the envelope is refused, and else one more than the sequence number.
+// The sequence number of an envelope that check accepts, and where its manifest stands.
 #[derive(Clone, Copy)]
 struct Part {
-    rank: usize,
-    from: usize,
-    to: usize,
+    number: usize,
+    place: Place,
 }
 
-fn part_in(s: &[u8]) -> Part
+fn part_in(s: &[u8]) -> Option<Part>
     ensures { result ≡ part_in (Check.check s.now) }
 {
-    let r = check(s);
-    let answer = r.answer;
-    match answer {
-        Checked::Accepted => {
-            let place = r.manifest;
-            Part {
-                rank: r.number + 1,
-                from: place.from,
-                to: place.to,
-            }
-        }
-        Checked::Refused(_, _) => Part {
-            rank: 0,
-            from: 0,
-            to: 0,
-        },
-    }
+    let report = check(s).ok()?;
+    Some(Part {
+        number: report.number,
+        place: report.manifest,
+    })
 }
 
-// A place in the second envelope where `second` is 1, and in the first where it is 0.
+// The envelope with the newer manifest, and where it stands in it; where check refuses both, the empty start of the first.
 #[derive(Clone, Copy)]
-pub struct Newest {
-    pub second: usize,
-    pub from: usize,
-    pub to: usize,
+pub enum Newest {
+    First(Place),
+    Second(Place),
 }
 
 pub fn choose(a: &[u8], b: &[u8]) -> Newest
     ensures { result ≡ newest_of (Rule.newer a.now b.now) }
 {
-    let x = part_in(a);
-    let y = part_in(b);
-    if x.rank < y.rank {
-        return Newest {
-            second: 1,
-            from: y.from,
-            to: y.to,
-        };
-    }
-    Newest {
-        second: 0,
-        from: x.from,
-        to: x.to,
+    match (part_in(a), part_in(b)) {
+        (None, None) => Newest::First(Place { from: 0, to: 0 }),
+        (None, Some(y)) => Newest::Second(y.place),
+        (Some(x), None) => Newest::First(x.place),
+        (Some(x), Some(y)) => {
+            if x.number < y.number {
+                Newest::Second(y.place)
+            } else {
+                Newest::First(x.place)
+            }
+        }
     }
 }
 
@@ -70,11 +54,8 @@ pub fn choose(a: &[u8], b: &[u8]) -> Newest
 pub fn newer<'a>(a: &'a [u8], b: &'a [u8]) -> &'a [u8]
     ensures { Handed (Rule.newer a.now b.now) a.entry b.entry result }
 {
-    let n = choose(a, b);
-    let from = n.from;
-    let to = n.to;
-    if n.second == 1 {
-        return &b[from..to];
+    match choose(a, b) {
+        Newest::First(p) => &a[p.from..p.to],
+        Newest::Second(p) => &b[p.from..p.to],
     }
-    &a[from..to]
 }
