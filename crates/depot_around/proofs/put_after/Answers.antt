@@ -8,7 +8,7 @@ use Rattle.depot_around.proofs.put_after.Goals.{then-end-p-lt-END, else-end-p-lt
 pub returns : goal.returns
 returns c =
     elim c.if-end-p-lt-END.branch [
-      then-end-p-lt-END w ↦
-        rw (← between-end c.args.s.now (c.args.p + 1) (c.args.p + (1 + shown)) (omega arith), ← w.to-is) c.put_spaced.ensures
-    | else-end-p-lt-END w ↦ rw (← w.to-is) c.put_spaced.ensures
+      | then-end-p-lt-END w ↦
+          rw (← between-end c.args.s.now (c.args.p + 1) (c.args.p + (1 + shown)) (omega arith), ← w.to-is) c.put_spaced.ensures
+      | else-end-p-lt-END w ↦ rw (← w.to-is) c.put_spaced.ensures
     ]

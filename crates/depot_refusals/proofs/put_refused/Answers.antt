@@ -16,9 +16,9 @@ pub returns : goal.returns
 unfolding refused_text
 returns c =
     elim c.else-number-ge-NOT_CBOR.branch [
-      else-number-ge-NOT_CBOR-via-then-number-ge-NOT_CBOR+else-number-lt-NOT_VERIFIED w ↦
-        rw (le-ltb _ (refusal_number NotCbor) w.if-number-ge-NOT_CBOR.true, le-ltb _ (refusal_number NotVerified) w.if-number-lt-NOT_VERIFIED.false)
-        c.put_refused_line-to.ensures
-    | else-number-ge-NOT_CBOR-via-else-number-ge-NOT_CBOR w ↦
-        rw (lt-ltb _ (refusal_number NotCbor) w.if-number-ge-NOT_CBOR.false) c.put_refused_line-to.ensures
+      | else-number-ge-NOT_CBOR-via-then-number-ge-NOT_CBOR+else-number-lt-NOT_VERIFIED w ↦
+          rw (le-ltb _ (refusal_number NotCbor) w.if-number-ge-NOT_CBOR.true, le-ltb _ (refusal_number NotVerified) w.if-number-lt-NOT_VERIFIED.false)
+          c.put_refused_line-to.ensures
+      | else-number-ge-NOT_CBOR-via-else-number-ge-NOT_CBOR w ↦
+          rw (lt-ltb _ (refusal_number NotCbor) w.if-number-ge-NOT_CBOR.false) c.put_refused_line-to.ensures
     ]
