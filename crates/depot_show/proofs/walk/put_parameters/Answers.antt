@@ -1,7 +1,7 @@
 use mathlib.Core.Logic.{inl, inr}
 use Prim.Native.Nat.{◌+◌, ◌-◌}
 use native.Mathlib.Omega.{arith}
-use Rattle.depot_show.proofs.ShownLaws.{rest-start, rest-length, rest-text, rest-done}
+use Rattle.depot_show.proofs.ShownLaws.{rest-length, rest-text, rest-done}
 use Rattle.depot_show.proofs.WalkLaws.{no_parameters, more-parameters}
 use Rattle.depot_show.proofs.walk.put_parameters.Goals as goal
 
