@@ -7,6 +7,8 @@ use lib.ListN.{length, take, drop, length-append}
 use lib.Dec.{leb}
 use lib.Seq.{take-append_seam, drop-append_seam}
 use borrow.Author.Tests.{leb-true, leb-false}
+use Rattle.std.specs.Prelude.{Err}
+use Rattle.rules.specs.declared.answers.Fault.{Fault}
 use Rattle.rules.specs.declared.answers.Group.{Group}
 use Rattle.rules.specs.declared.answers.Refusal.{Refusal}
 use Rattle.rules.specs.declared.answers.Refusal.TheVariants.{ShortRoom, BadProgram}
@@ -20,7 +22,6 @@ use Rattle.rules.specs.Program.{program_of, translate}
 use Rattle.rules.specs.ProgramRun.{run_program}
 use Rattle.rules_theorems.proofs.Demand3.{demand_3}
 use Rattle.rules_theorems.proofs.ProgramFaults.{never97}
-use Rattle.run_ending.specs.declared.Answer.TheVariants as Answer
 use Rattle.run_ending.specs.declared.Outcome.{Outcome}
 use Rattle.run_ending.specs.Answer.{input_of, outcome_of, Settles}
 use Rattle.translate.specs.declared.Translated.{Translated}
@@ -57,8 +58,10 @@ refuses : (b : Bytes) (k : Refusal) (p : ℕ) (room room' : Bytes) → Translate
 refuses b k p room room' h = apart k p (length b) h.0
 
 -- an answer that is a refusal is the rule's
-refused-answer : (device : Controller) (g : Got Ran) (k : Refusal) (p : ℕ) → (outcome_of device g).answer ≡ Answer.Refused k p → g ≡ refused k p
-refused-answer device (refused r q) k p e = let a : r ≡ k = cc in let b : q ≡ p = cc in rw (a, b)
+refused-answer : (device : Controller) (g : Got Ran) (k : Refusal) (p : ℕ) → (outcome_of device g).answer ≡ Err (record { refusal = k; at = p }) → g ≡ refused k p
+refused-answer device (refused r q) k p e =
+    let f : ◌≡◌ {A = Fault} (record { refusal = r; at = q }) (record { refusal = k; at = p }) = cc in
+    ap (λ (x : Fault). refused x.refusal x.at) f
 refused-answer device (got r) k p e = let z : ◌≡◌ {A = ℕ} 0 1 = cc in absurd (omega arith)
 
 -- of an accepted manifest, by the room's length: the program, or 96
@@ -141,7 +144,7 @@ module _ (s : Bytes) (group : Group) (verdict : Bool) (device : Controller) (ans
           let b : w.bytes ≡ program_for s group m = given-program s group m (length room) w.bytes (told s group m (length room) c) w.is in
           (w.size ∙ ap length b, w.first ∙ b, w.beyond)
 
-      never : (m : Manifest) (p : ℕ) → check s ≡ got m → r.answer ≡ Answer.Refused BadProgram p → ⊥
+      never : (m : Manifest) (p : ℕ) → check s ≡ got m → r.answer ≡ Err (record { refusal = BadProgram; at = p }) → ⊥
       never m p c e =
           let x : Input = input_of verdict device pslots answers ptrace in
           let a : run_program part x ≡ refused BadProgram p = refused-answer device (run_program part x) BadProgram p (rw d.0 at e) in

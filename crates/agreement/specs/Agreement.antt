@@ -1,5 +1,5 @@
 -- Demand 3 (01, What we hold you to), of one envelope that is translated and run beside its program.
-use Rattle.std.specs.Prelude.{ℕ, ◌≤◌, ◌<◌, ◌≡◌, Bool, length, take, drop}
+use Rattle.std.specs.Prelude.{ℕ, ◌≤◌, ◌<◌, ◌≡◌, Bool, length, take, drop, Err}
 use Rattle.rules.specs.declared.answers.Group.{Group}
 use Rattle.rules.specs.declared.answers.Refusal.{Refusal}
 use Rattle.rules.specs.declared.answers.Refusal.TheVariants.{ShortRoom, BadProgram}
@@ -12,7 +12,6 @@ use Rattle.rules.specs.Check.{check}
 use Rattle.rules.specs.Run.{run_envelope}
 use Rattle.rules.specs.Program.{program_of, program_bytes, translate}
 use Rattle.rules.specs.ProgramRun.{run_program}
-use Rattle.run_ending.specs.declared.Answer.TheVariants as Answer
 use Rattle.run_ending.specs.Answer.{input_of, outcome_of, Settles}
 use Rattle.translate.specs.declared.Translated.TheVariants.{Refused, Program}
 use Rattle.translate.specs.Translate.{Translates}
@@ -41,7 +40,7 @@ pub record Agreed (s : Bytes) (group : Group) (verdict : Bool) (device : Control
   pub fixed : (m : Manifest) (n : ℕ) → check s ≡ got m → r.translated ≡ Program n →
       (n ≡ length (program_for s group m)) × (take n room' ≡ program_for s group m) × (drop n room' ≡ drop n room)
   -- 'Either both refuse with the same number and place': the run of the program is never refused with 97, which no run of an envelope gives
-  pub formed : (m : Manifest) (n p : ℕ) → check s ≡ got m → r.translated ≡ Program n → r.program.answer ≡ Answer.Refused BadProgram p → ⊥
+  pub formed : (m : Manifest) (n p : ℕ) → check s ≡ got m → r.translated ≡ Program n → r.program.answer ≡ Err (record { refusal = BadProgram; at = p }) → ⊥
   -- 'Either both refuse with the same number and place, or neither refuses and these are equal: the end and its place, the count of events,
   -- answers used, every slot, the device's sequence number, every byte of the trace buffer'
   pub agree : (m : Manifest) → check s ≡ got m → length (program_for s group m) ≤ length room → pslots ≡ eslots → ptrace ≡ etrace →

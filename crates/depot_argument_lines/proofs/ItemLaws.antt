@@ -2,6 +2,7 @@
 use Prim.Native.Nat.{ℕ, zero, suc, ◌+◌, ◌-◌, ◌≤◌, ◌<◌}
 use mathlib.Core.Path.{◌≡◌, refl, sym, ◌∙◌}
 use mathlib.Core.List.{[], ◌++◌}
+use Rattle.std.specs.Prelude.{Some, None}
 use mathlib.Core.Bool.{Bool, true, false}
 use lib.Dec.{leb}
 use lib.ListN.{length, take, drop}
@@ -11,7 +12,7 @@ use borrow.Author.Tests.{leb-true, leb-false, lt-ltb, le-ltb, eq-eqb, ne_eqb}
 use Rattle.rules.proofs.BytesLaws.{part-rest}
 use Rattle.text.specs.Text.{Bytes, Wrote, least}
 use Rattle.text.proofs.TextLaws.{wrote_none, wrote_then, wrote-length}
-use Rattle.depot_argument_lines.specs.Items.{size_in, items_text}
+use Rattle.depot_argument_lines.specs.Items.{size_in, sized, items_text}
 
 pub size-short : (s : Bytes) (head more : ℕ) → length s < head → size_in s head more ≡ 0
 unfolding size_in
@@ -41,6 +42,34 @@ size_lies s head more k h = go (leb (head + more) (length s)) refl
     go : (t : Bool) → leb (head + more) (length s) ≡ t → head + more ≤ length s
     go true e = leb-true _ _ e
     go false e = absurd (short (leb-false _ _ e))
+
+-- a size that was answered
+pub sized_none : (m : ℕ) → None ≡ sized m → m ≡ 0
+unfolding sized
+sized_none zero e = refl
+sized_none (suc m) e = cc
+
+pub sized-some : (k m : ℕ) → Some k ≡ sized m → k ≡ m
+unfolding sized
+sized-some k zero e = cc
+sized-some k (suc m) e = cc
+
+pub sized_positive : (k m : ℕ) → Some k ≡ sized m → k ≡ 0 → ⊥
+unfolding sized
+sized_positive k zero e z = cc
+sized_positive k (suc m) e z = let q : k ≡ suc m = cc in omega arith
+
+pub sized-of : (k m : ℕ) → m ≡ k → 0 < k → Some k ≡ sized m
+unfolding sized
+sized-of zero m e h = absurd (none h)
+  where
+    none : 0 < 0 → ⊥
+    none l = omega arith
+sized-of (suc k) m e h = rw e
+
+pub sized-zero : (m : ℕ) → m ≡ 0 → None ≡ sized m
+unfolding sized
+sized-zero m e = rw e
 
 -- the part of the bytes from a place on
 pub from-drop : (s : Bytes) (k m : ℕ) → k ≡ m → take (length s - k) (drop k s) ≡ drop m s

@@ -1,10 +1,11 @@
 // The argument of a program's record, below its line: the parameters, or the bytes in hexadecimal.
 #![tactic(auto)]
 
-ghost use Rattle.std.specs.Prelude.{◌≡◌, ◌+◌, ◌≤◌, length, get_or};
+ghost use Rattle.std.specs.Prelude.{◌≡◌, ◌+◌, ◌≤◌, IfSome, length, get_or};
 ghost use Rattle.rules.specs.ProgramFormat.{entry_length_from, entry_size};
 ghost use Rattle.rules_kinds.specs.Kinds.{kind_of};
 ghost use Rattle.text.specs.Text.{Writes};
+ghost use Rattle.depot_argument_lines.specs.Items.{sized};
 ghost use Rattle.depot_argument_lines.specs.Arguments.{lists_parameters, parameter_size};
 ghost use Rattle.depot_argument_lines.specs.Arguments.{parameter_text, stray_text, parameters_text, hex_text, argument_text};
 
@@ -23,18 +24,19 @@ const KEYS: usize = Controller::PARAMETERS - 1;
 // The spaces before what stands below a record.
 const INDENT: usize = 12;
 
-// How long the parameter at the start of the bytes is, 0 if none lies there.
-pub fn size_of(s: &[u8]) -> usize
-    ensures { (result ≡ parameter_size s.now) × (result ≤ length s.now) }
+// How long the parameter at the start of the bytes is, if one lies there.
+pub fn size_of(s: &[u8]) -> Option<usize>
+    ensures size { result ≡ sized (parameter_size s.now) }
+    ensures within { IfSome result (λ size. size ≤ length s.now) }
 {
     if s.len() < ENTRY_BYTES {
-        return 0;
+        return None;
     }
     let size = ENTRY_BYTES + wide(s[ENTRY_LENGTH]);
     if s.len() < size {
-        return 0;
+        return None;
     }
-    size
+    Some(size)
 }
 
 fn put_parameter(room: &mut [u8], at: usize, s: &[u8]) -> usize
@@ -54,7 +56,7 @@ fn put_parameter(room: &mut [u8], at: usize, s: &[u8]) -> usize
 fn put_stray(room: &mut [u8], at: usize, s: &[u8]) -> usize
     ensures { Writes (stray_text s.now) at room result }
 {
-    if s.len() == 0 {
+    if s.is_empty() {
         return at;
     }
     put(room, at, b"            ?\n")
@@ -65,15 +67,12 @@ fn put_parameters(room: &mut [u8], at: usize, s: &[u8]) -> usize
 {
     let mut to = at;
     let mut rest = s;
-    let mut n = 0;
-    while n < KEYS {
-        let size = size_of(rest);
-        if size == 0 {
+    for _ in 0..KEYS {
+        let Some(size) = size_of(rest) else {
             return put_stray(room, to, rest);
-        }
+        };
         to = put_parameter(room, to, rest);
         rest = &rest[size..];
-        n += 1;
     }
     to
 }
@@ -81,7 +80,7 @@ fn put_parameters(room: &mut [u8], at: usize, s: &[u8]) -> usize
 fn put_bytes(room: &mut [u8], at: usize, s: &[u8]) -> usize
     ensures { Writes (hex_text s.now) at room result }
 {
-    if s.len() == 0 {
+    if s.is_empty() {
         return at;
     }
     let a = put_spaces(room, at, INDENT);
@@ -92,15 +91,7 @@ fn put_bytes(room: &mut [u8], at: usize, s: &[u8]) -> usize
 fn lists_parameters(code: usize) -> bool
     ensures { result ≡ lists_parameters (kind_of code) }
 {
-    let argument = argument_of(code);
-    match argument {
-        Argument::Sixteen => false,
-        Argument::Nil => false,
-        Argument::Index => false,
-        Argument::Alternatives => false,
-        Argument::Parameters => true,
-        Argument::Sequence => false,
-    }
+    matches!(argument_of(code), Argument::Parameters)
 }
 
 pub fn put_argument(room: &mut [u8], at: usize, code: usize, s: &[u8]) -> usize

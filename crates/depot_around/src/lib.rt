@@ -17,10 +17,7 @@ const END: usize = 1 + SHOWN;
 fn back(p: usize) -> usize
     ensures { result ≡ p - shown }
 {
-    if p < SHOWN {
-        return 0;
-    }
-    p - SHOWN
+    p.saturating_sub(SHOWN)
 }
 
 fn put_before(room: &mut [u8], at: usize, s: &[u8], p: usize) -> usize
@@ -38,10 +35,8 @@ fn put_after(room: &mut [u8], at: usize, s: &[u8], p: usize) -> usize
     ensures { Writes (spaced (between s.now (p + 1) (p + (1 + shown)))) at room result }
 {
     let end = s.len();
-    if end - p < END {
-        return put_spaced(room, at, s, p + 1, end);
-    }
-    put_spaced(room, at, s, p + 1, p + END)
+    let to = if end - p < END { end } else { p + END };
+    put_spaced(room, at, s, p + 1, to)
 }
 
 // The bytes around a place.

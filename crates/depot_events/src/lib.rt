@@ -20,26 +20,20 @@ use text_numbers::put_padded;
 fn note_at(notes: &[u8], k: usize) -> u8
     ensures { result ≡ get_or notes.now k 0 }
 {
-    if notes.len() <= k {
-        return NO_NOTE;
-    }
-    notes[k]
+    notes.get(k).copied().unwrap_or(NO_NOTE)
 }
 
 // What a note adds to the result.
+#[tactic(auto, using(text::proofs::TextLaws::wrote_none), unfolding(crate::specs::Events::note_text))]
 fn put_note(room: &mut [u8], at: usize, note: u8) -> usize
     ensures { Writes (note_text note) at room result }
 {
-    if note == SLOT_ABSENT {
-        return put(room, at, b": slot absent");
+    match note {
+        SLOT_ABSENT => put(room, at, b": slot absent"),
+        OTHER_DIGEST => put(room, at, b": other digest"),
+        OTHER_SIZE => put(room, at, b": other size"),
+        _ => at,
     }
-    if note == OTHER_DIGEST {
-        return put(room, at, b": other digest");
-    }
-    if note == OTHER_SIZE {
-        return put(room, at, b": other size");
-    }
-    at
 }
 
 fn put_fields(
@@ -81,10 +75,8 @@ fn put_each(room: &mut [u8], at: usize, trace: &[u8], notes: &[u8], n: usize) ->
     ensures { Writes (lines (event_text trace.now notes.now) n) at room result }
 {
     let mut to = at;
-    let mut k = 0;
-    while k < n {
+    for k in 0..n {
         to = put_event(room, to, trace, notes, k);
-        k += 1;
     }
     to
 }

@@ -1,7 +1,8 @@
 // The components of a program.
-ghost use Rattle.std.specs.Prelude.{◌≡◌, ◌+◌, ◌≤◌, length, get_or};
+ghost use Rattle.std.specs.Prelude.{◌≡◌, ◌+◌, ◌≤◌, IfSome, length, get_or};
 ghost use Rattle.rules.specs.ProgramFormat.{name_size, length_from};
 ghost use Rattle.text.specs.Text.{Writes};
+ghost use Rattle.depot_argument_lines.specs.Items.{sized};
 ghost use Rattle.depot_listing.specs.Listing.{component_size, component_text, components_text, after_components};
 
 use byte_buffer::wide;
@@ -10,18 +11,19 @@ use rules::program_format::{NAME_BYTES, NAME_LENGTH};
 use text::put;
 use text_pieces::put_labelled;
 
-// How long the component at the start of the bytes is, 0 if none lies there.
-pub fn size_of(s: &[u8]) -> usize
-    ensures { (result ≡ component_size s.now) × (result ≤ length s.now) }
+// How long the component at the start of the bytes is, if one lies there.
+pub fn size_of(s: &[u8]) -> Option<usize>
+    ensures size { result ≡ sized (component_size s.now) }
+    ensures within { IfSome result (λ size. size ≤ length s.now) }
 {
     if s.len() < NAME_BYTES {
-        return 0;
+        return None;
     }
     let size = NAME_BYTES + wide(s[NAME_LENGTH]);
     if s.len() < size {
-        return 0;
+        return None;
     }
-    size
+    Some(size)
 }
 
 fn put_component(room: &mut [u8], at: usize, n: usize, s: &[u8]) -> usize
@@ -40,15 +42,12 @@ pub(crate) fn put_components(room: &mut [u8], at: usize, s: &[u8], count: usize)
 {
     let mut to = at;
     let mut rest = s;
-    let mut n = 0;
-    while n < count {
-        let size = size_of(rest);
-        if size == 0 {
+    for n in 0..count {
+        let Some(size) = size_of(rest) else {
             return put(room, to, b"?\n");
-        }
+        };
         to = put_component(room, to, n, rest);
         rest = &rest[size..];
-        n += 1;
     }
     to
 }
@@ -58,14 +57,11 @@ pub fn after_components(s: &[u8], count: usize) -> &[u8]
     ensures { result.now ≡ after_components count s.now }
 {
     let mut rest = s;
-    let mut n = 0;
-    while n < count {
-        let size = size_of(rest);
-        if size == 0 {
-            return &rest[0..0];
-        }
+    for _ in 0..count {
+        let Some(size) = size_of(rest) else {
+            return &[];
+        };
         rest = &rest[size..];
-        n += 1;
     }
     rest
 }

@@ -21,8 +21,7 @@ use text_pieces::{put_counted, put_labelled};
 fn put_group(room: &mut [u8], at: usize, group: usize) -> usize
     ensures { Writes (group_text group) at room result }
 {
-    let boot = Group::Boot;
-    if group == wide(boot.number()) {
+    if group == wide(Group::Boot.number()) {
         return put(room, at, b"boot");
     }
     put(room, at, b"install")

@@ -11,7 +11,7 @@ use depot_listing::components::{after_components, size_of};
 use rules::answers::End;
 use rules::codes;
 use rules::controller::Controller;
-use rules::program_format::{NAME_BYTES, NAME_LENGTH, START_BYTES};
+use rules::program_format::{NAME_BYTES, START_BYTES};
 use rules::slot_format::{IMAGE, IMAGE_BYTES, SLOT_BYTES};
 use run_slot_search::search::slot_of;
 use run_slot_search::whole::good_slots;
@@ -96,10 +96,9 @@ fn name_of(p: &[u8], c: usize) -> &[u8]
         return &p[0..0];
     }
     let s = after_components(&p[START_BYTES..], c);
-    if size_of(s) == 0 {
+    let Some(end) = size_of(s) else {
         return &s[0..0];
-    }
-    let end = NAME_BYTES + wide(s[NAME_LENGTH]);
+    };
     &s[NAME_BYTES..end]
 }
 

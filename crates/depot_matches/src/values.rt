@@ -49,10 +49,9 @@ fn argument_among(s: &[u8], total: usize, e: Event) -> &[u8]
     let mut rest = s;
     let mut n = 0;
     while n < total {
-        let size = depot_record_lines::size_of(rest);
-        if size == 0 {
+        let Some(size) = depot_record_lines::size_of(rest) else {
             return &rest[0..0];
-        }
+        };
         if record_is(rest, e) {
             return argument_in(rest);
         }
@@ -87,10 +86,9 @@ fn value_in(s: &[u8], key: usize) -> &[u8]
     let mut rest = s;
     let mut n = 0;
     while n < KEYS {
-        let size = depot_argument_lines::size_of(rest);
-        if size == 0 {
+        let Some(size) = depot_argument_lines::size_of(rest) else {
             return &rest[0..0];
-        }
+        };
         if wide(rest[0]) == key {
             return entry_in(rest);
         }

@@ -13,7 +13,7 @@ use Rattle.text.specs.Text.{Bytes, Wrote, newline}
 use Rattle.text.proofs.TextLaws.{wrote_none, wrote_then}
 use Rattle.text_names.specs.Words.{section_words}
 use Rattle.depot_order.specs.declared.Told.{Told}
-use Rattle.depot_order.specs.Order.{end_of, one, present, parting, names, some_after, order_text, group_text, group_line, Tells}
+use Rattle.depot_order.specs.Order.{end_of, one, is_there, if_there, present, parting, names, some_after, order_text, group_text, group_line, Tells}
 
 -- keys below that of payload fetch are common's, and the others are counted from there
 pub low-number : (key : ℕ) → key < PAYLOAD_FETCH → section_no key ≡ 0
@@ -73,19 +73,26 @@ order_text_lem common [] = refl
 order_text_lem [] (x ∷ xs) = sym (append-nil _)
 order_text_lem (c ∷ cs) (x ∷ xs) = sym (append-nil _)
 
--- the places of a report, and where common's sequence ends by them
-module _ (places : List ℕ) {e : ℕ} (common : e ≡ end_of places COMMON) where
+one-there : (places : List ℕ) (key : ℕ) (there : Bool) → there ≡ is_there places key → if_there there key ≡ one (end_of places key) key
+one-there places key there q = rw q (go (eqb (end_of places key) 0))
+  where
+    go : (b : Bool) → if_there (cond b false true) key ≡ cond b [] (key ∷ [])
+    go true = refl
+    go false = refl
+
+-- the places of a report, and whether common is there by them
+module _ (places : List ℕ) {t : Bool} (common : t ≡ is_there places COMMON) where
   -- a section in its turn, and those after it
-  pub turn-then : (key : ℕ) (keys : List ℕ) {end : ℕ} {told : Told} {room : Bytes} {r : Told} {room₁ : Bytes} {r₂ : Told} {room₂ : Bytes} → end ≡ end_of places key →
-      Tells (each (one e COMMON) (one end key)) told room r room₁ → Tells (each (one e COMMON) (present places keys)) r room₁ r₂ room₂ →
-      Tells (each (one e COMMON) (present places (key ∷ keys))) told room r₂ room₂
-  turn-then key keys {end} q f g = rw (← q, each_append (one e COMMON) (one end key) (present places keys)) (tells-then f g)
+  pub turn-then : (key : ℕ) (keys : List ℕ) {there : Bool} {told : Told} {room : Bytes} {r : Told} {room₁ : Bytes} {r₂ : Told} {room₂ : Bytes} → there ≡ is_there places key →
+      Tells (each (if_there t COMMON) (if_there there key)) told room r room₁ → Tells (each (if_there t COMMON) (present places keys)) r room₁ r₂ room₂ →
+      Tells (each (if_there t COMMON) (present places (key ∷ keys))) told room r₂ room₂
+  turn-then key keys {there} q f g = rw (← one-there places key there q, each_append (if_there t COMMON) (if_there there key) (present places keys)) (tells-then f g)
 
   pub line_wrote : (group : Group) {at : ℕ} {room : Bytes} {p : ℕ} {room₁ : Bytes} {r : Told} {room₂ : Bytes} {c : ℕ} {room₃ : Bytes} {q : ℕ} {room₄ : Bytes} →
       Wrote (group_text group) at room p room₁ →
-      Tells (each (one e COMMON) (present places (sections_of group))) (record { to = p; some = false }) room₁ r room₂ →
-      Wrote (cond r.some [] (order_text (one e COMMON))) r.to room₂ c room₃ → Wrote newline c room₃ q room₄ →
+      Tells (each (if_there t COMMON) (present places (sections_of group))) (record { to = p; some = false }) room₁ r room₂ →
+      Wrote (cond r.some [] (order_text (if_there t COMMON))) r.to room₂ c room₃ → Wrote newline c room₃ q room₄ →
       Wrote (group_line group places) at room q room₄
   unfolding group_line
   line_wrote group f g h n =
-      rw (← common, order_text_lem (one e COMMON) (present places (sections_of group))) (wrote_then (wrote_then f (wrote_then g.wrote (rw g.some at h))) n)
+      rw (← one-there places COMMON t common, order_text_lem (if_there t COMMON) (present places (sections_of group))) (wrote_then (wrote_then f (wrote_then g.wrote (rw g.some at h))) n)

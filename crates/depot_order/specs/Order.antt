@@ -17,6 +17,14 @@ end_of places key = get_or places (2 * section_no key + 1) 0
 abbrev pub one : ℕ → ℕ → List ℕ
 one end key = cond (eqb end 0) [] (key ∷ [])
 
+-- whether it is there
+abbrev pub is_there : List ℕ → ℕ → Bool
+is_there places key = cond (eqb (end_of places key) 0) false true
+
+-- a key that is told if its section is there
+abbrev pub if_there : Bool → ℕ → List ℕ
+if_there there key = cond there (key ∷ []) []
+
 -- those of the keys whose sections are there
 abbrev pub present : List ℕ → List ℕ → List ℕ
 present places [] = []

@@ -6,7 +6,7 @@ ghost use Rattle.rules.specs.declared.answers.Group.TheVariants.{Install, Boot};
 ghost use Rattle.rules.specs.Commands.{COMMON as Commands-as-COMMON, RUN as Commands-as-RUN};
 ghost use Rattle.rules.specs.Run.{each};
 ghost use Rattle.text.specs.Text.{Writes};
-ghost use Rattle.depot_order.specs.Order.{Tells, end_of, one, parting, order_text, group_line, groups_text};
+ghost use Rattle.depot_order.specs.Order.{Tells, end_of, is_there, if_there, parting, order_text, group_line, groups_text};
 
 use rules::codes::{COMMON, INSTALL, LOAD, PAYLOAD_FETCH, RUN_SECTION, VALIDATE};
 use rules::controller::SectionPlaces;
@@ -31,6 +31,13 @@ fn end_of(sections: &SectionPlaces, key: usize) -> usize
     sections[2 * (key - PAYLOAD_FETCH + 1) + 1]
 }
 
+fn is_there(sections: &SectionPlaces, key: usize) -> bool
+    requires { key ≤ Commands-as-RUN }
+    ensures { result ≡ is_there sections.now key }
+{
+    end_of(sections, key) != 0
+}
+
 // What parts a name from that before it, or from the group.
 fn put_parting(room: &mut [u8], at: usize, some: bool) -> usize
     ensures { Writes (parting some) at room result }
@@ -49,21 +56,22 @@ fn put_name(room: &mut [u8], told: Told, key: usize) -> Told
     Told { to: b, some: true }
 }
 
-// The section under `key`, which ends at `end`, if it is there.
-fn put_one(room: &mut [u8], told: Told, end: usize, key: usize) -> Told
-    ensures { Tells (one end key) told room.old result room.new }
+// The section under `key`, if it is there.
+fn put_one(room: &mut [u8], told: Told, there: bool, key: usize) -> Told
+    ensures { Tells (if_there there key) told room.old result room.new }
 {
-    if end == 0 {
-        return told;
+    if there {
+        put_name(room, told, key)
+    } else {
+        told
     }
-    put_name(room, told, key)
 }
 
-// The same, with common before it; `common` is where that ends.
-fn put_turn(room: &mut [u8], told: Told, common: usize, end: usize, key: usize) -> Told
-    ensures { Tells (each (one common Commands-as-COMMON) (one end key)) told room.old result room.new }
+// The same, with common before it if that is there.
+fn put_turn(room: &mut [u8], told: Told, common: bool, there: bool, key: usize) -> Told
+    ensures { Tells (each (if_there common Commands-as-COMMON) (if_there there key)) told room.old result room.new }
 {
-    if end == 0 {
+    if !there {
         return told;
     }
     let before = put_one(room, told, common, COMMON);
@@ -71,40 +79,36 @@ fn put_turn(room: &mut [u8], told: Told, common: usize, end: usize, key: usize) 
 }
 
 // Common alone, or the word for nothing.
-fn put_alone(room: &mut [u8], at: usize, common: usize) -> usize
-    ensures { Writes (order_text (one common Commands-as-COMMON)) at room result }
+fn put_alone(room: &mut [u8], at: usize, common: bool) -> usize
+    ensures { Writes (order_text (if_there common Commands-as-COMMON)) at room result }
 {
-    if common == 0 {
+    if !common {
         return put(room, at, b" nothing");
     }
-    let told = put_name(
-        room,
-        Told {
-            to: at,
-            some: false,
-        },
-        COMMON,
-    );
-    told.to
+    let before = Told {
+        to: at,
+        some: false,
+    };
+    put_name(room, before, COMMON).to
 }
 
 // What is left to tell of a group whose sections were told: common, where there was none of them.
-fn put_rest(room: &mut [u8], told: Told, common: usize) -> usize
-    ensures { Writes (cond told.some [] (order_text (one common Commands-as-COMMON))) told.to room result }
+fn put_rest(room: &mut [u8], told: Told, common: bool) -> usize
+    ensures { Writes (cond told.some [] (order_text (if_there common Commands-as-COMMON))) told.to room result }
 {
-    let some = told.some;
-    if some {
-        return told.to;
+    if told.some {
+        told.to
+    } else {
+        put_alone(room, told.to, common)
     }
-    put_alone(room, told.to, common)
 }
 
 fn put_install(room: &mut [u8], at: usize, sections: &SectionPlaces) -> usize
     ensures { Writes (group_line Install sections.now) at room result }
 {
-    let common = end_of(sections, COMMON);
-    let fetch = end_of(sections, PAYLOAD_FETCH);
-    let install = end_of(sections, INSTALL);
+    let common = is_there(sections, COMMON);
+    let fetch = is_there(sections, PAYLOAD_FETCH);
+    let install = is_there(sections, INSTALL);
     let to = put(room, at, b"install:");
     let a = put_turn(room, Told { to, some: false }, common, fetch, PAYLOAD_FETCH);
     let b = put_turn(room, a, common, install, INSTALL);
@@ -115,10 +119,10 @@ fn put_install(room: &mut [u8], at: usize, sections: &SectionPlaces) -> usize
 fn put_boot(room: &mut [u8], at: usize, sections: &SectionPlaces) -> usize
     ensures { Writes (group_line Boot sections.now) at room result }
 {
-    let common = end_of(sections, COMMON);
-    let validate = end_of(sections, VALIDATE);
-    let load = end_of(sections, LOAD);
-    let run = end_of(sections, RUN_SECTION);
+    let common = is_there(sections, COMMON);
+    let validate = is_there(sections, VALIDATE);
+    let load = is_there(sections, LOAD);
+    let run = is_there(sections, RUN_SECTION);
     let to = put(room, at, b"boot:");
     let a = put_turn(room, Told { to, some: false }, common, validate, VALIDATE);
     let b = put_turn(room, a, common, load, LOAD);

@@ -15,6 +15,7 @@ use text_pieces::put_labelled;
 // Of the manifest's sequence number.
 const NUMBER_KEY: usize = 2;
 
+#[tactic(auto, using(text::proofs::TextLaws::wrote_none), unfolding(crate::specs::Names::name_of))]
 pub fn put_name(room: &mut [u8], at: usize, part: Part) -> usize
     ensures { Writes (name_of part) at room result }
 {
@@ -23,22 +24,20 @@ pub fn put_name(room: &mut [u8], at: usize, part: Part) -> usize
         Part::Manifest => put(room, at, b"manifest"),
         Part::Common => put(room, at, b"common"),
         Part::Components => put(room, at, b"common, components"),
-        Part::Identifier => at,
-        Part::Sequence => at,
-        Part::Alternatives => at,
-        Part::Parameters => at,
         Part::Argument => put(room, at, b", argument"),
-        Part::Value => at,
+        Part::Identifier | Part::Sequence | Part::Alternatives | Part::Parameters | Part::Value =>
+            at,
     }
 }
 
+#[tactic(auto, using(text::proofs::TextLaws::wrote_none), unfolding(crate::specs::Names::envelope_title))]
 fn put_envelope_title(room: &mut [u8], at: usize, key: usize) -> usize
     ensures { Writes (envelope_title key) at room result }
 {
-    if key == MANIFEST_KEY {
-        return at;
+    match key {
+        MANIFEST_KEY => at,
+        _ => put(room, at, b"envelope, authentication"),
     }
-    put(room, at, b"envelope, authentication")
 }
 
 fn put_section_title(room: &mut [u8], at: usize, key: usize) -> usize
@@ -60,18 +59,20 @@ fn put_manifest_title(room: &mut [u8], at: usize, key: usize) -> usize
         return at;
     }
     if key == NUMBER_KEY {
-        return put(room, at, b"manifest, sequence number");
+        put(room, at, b"manifest, sequence number")
+    } else {
+        put(room, at, b"manifest, version")
     }
-    put(room, at, b"manifest, version")
 }
 
+#[tactic(auto, using(text::proofs::TextLaws::wrote_none), unfolding(crate::specs::Names::common_title))]
 fn put_common_title(room: &mut [u8], at: usize, key: usize) -> usize
     ensures { Writes (common_title key) at room result }
 {
-    if key == LIST_KEY {
-        return at;
+    match key {
+        LIST_KEY => at,
+        _ => put(room, at, b"common sequence"),
     }
-    put(room, at, b"common sequence")
 }
 
 fn put_command_title(room: &mut [u8], at: usize, n: usize, code: usize) -> usize
@@ -94,13 +95,11 @@ fn put_parameter_title(room: &mut [u8], at: usize, key: usize) -> usize
 pub fn less(a: usize, b: usize) -> usize
     ensures { result ≡ a - b }
 {
-    if a < b {
-        return 0;
-    }
-    a - b
+    a.saturating_sub(b)
 }
 
 // Components are counted from 0.
+#[tactic(auto, unfolding(crate::specs::Names::component_title))]
 fn put_component_title(room: &mut [u8], at: usize, n: usize) -> usize
     ensures { Writes (component_title n) at room result }
 {
@@ -108,6 +107,7 @@ fn put_component_title(room: &mut [u8], at: usize, n: usize) -> usize
 }
 
 // Entry `n` of a part, under its key.
+#[tactic(auto, using(text::proofs::TextLaws::wrote_none), unfolding(crate::specs::Names::entry_text))]
 pub fn put_entry(room: &mut [u8], at: usize, part: Part, n: usize, key: usize) -> usize
     ensures { Writes (entry_text part n key) at room result }
 {
@@ -120,8 +120,7 @@ pub fn put_entry(room: &mut [u8], at: usize, part: Part, n: usize, key: usize) -
         Part::Sequence => put_command_title(room, at, n, key),
         Part::Alternatives => put_labelled(room, at, b", alternative ", n),
         Part::Parameters => put_parameter_title(room, at, key),
-        Part::Argument => at,
-        Part::Value => at,
+        Part::Argument | Part::Value => at,
     }
 }
 
@@ -129,9 +128,7 @@ pub fn put_entry(room: &mut [u8], at: usize, part: Part, n: usize, key: usize) -
 pub fn put_key(room: &mut [u8], at: usize, part: Part, n: usize, key: usize) -> usize
     ensures { Writes (key_text part n key) at room result }
 {
-    let h = shape_of(part);
-    let kind = h.kind;
-    if kind == cbor::MAP {
+    if shape_of(part).kind == cbor::MAP {
         let a = put_name(room, at, part);
         return put(room, a, b", key");
     }

@@ -29,19 +29,16 @@ fn put_within(
         return to;
     }
     let f = find(s, place, part, e, at);
-    let stop = f.stop;
-    if stop {
+    if f.stop {
         return put_name(room, to, part);
     }
-    let spot = f.spot;
-    let x = settle(s, place, depth - 1, part, f.end, spot);
-    let left = x.left;
-    if left == 0 {
+    let x = settle(s, place, depth - 1, part, f.end, f.spot);
+    if x.left == 0 {
         return put_left_over(room, to, part);
     }
     let h = shape_of(part);
     let k = key_at(s, h.keyed, f.end, x.at);
-    let n = less(f.count, left - 1);
+    let n = less(f.count, x.left - 1);
     if at_head(place, cbor::NUMBER, k) {
         return put_key(room, to, part, n, k.num);
     }

@@ -1,12 +1,13 @@
 // The lines of a program's records: commands and jumps.
 #![tactic(auto)]
 
-ghost use Rattle.std.specs.Prelude.{◌≡◌, ◌+◌, ◌-◌, ◌≤◌, length};
+ghost use Rattle.std.specs.Prelude.{◌≡◌, ◌+◌, ◌-◌, ◌≤◌, IfSome, length};
 ghost use Rattle.rules.specs.ProgramFormat.{argument_from};
 ghost use Rattle.rules.specs.ProgramFormat.{record_size as ProgramFormat·recordSize};
 ghost use Rattle.text.specs.Text.{Writes};
 ghost use Rattle.text_rows.specs.Rows.{wide as Rows·wide};
 ghost use Rattle.rules.specs.Bytes.{two_at};
+ghost use Rattle.depot_argument_lines.specs.Items.{sized};
 ghost use Rattle.depot_record_lines.specs.Lines.{column, name_text, line_text, target_text, failure_text, jump_text};
 ghost use Rattle.depot_record_lines.specs.Lines.{record_size, command_text, record_text, records_text};
 
@@ -35,13 +36,7 @@ fn put_name(room: &mut [u8], at: usize, code: usize) -> usize
 fn gap(from: usize, to: usize) -> usize
     ensures { result ≡ column - (to - from) }
 {
-    if to < from {
-        return COLUMN;
-    }
-    if COLUMN < to - from {
-        return 0;
-    }
-    COLUMN - (to - from)
+    COLUMN.saturating_sub(to.saturating_sub(from))
 }
 
 fn put_label(room: &mut [u8], at: usize, code: usize) -> usize
@@ -94,18 +89,19 @@ fn put_jump(room: &mut [u8], at: usize, total: usize, target: usize) -> usize
     put(room, to, b"\n")
 }
 
-// How long the record at the start of the bytes is, 0 if none lies there.
-pub fn size_of(s: &[u8]) -> usize
-    ensures { (result ≡ record_size s.now) × (result ≤ length s.now) }
+// How long the record at the start of the bytes is, if one lies there.
+pub fn size_of(s: &[u8]) -> Option<usize>
+    ensures size { result ≡ sized (record_size s.now) }
+    ensures within { IfSome result (λ size. size ≤ length s.now) }
 {
     if s.len() < RECORD_BYTES {
-        return 0;
+        return None;
     }
     let size = RECORD_BYTES + two(s, ARGUMENT_LENGTH);
     if s.len() < size {
-        return 0;
+        return None;
     }
-    size
+    Some(size)
 }
 
 fn put_command_record(room: &mut [u8], at: usize, total: usize, s: &[u8]) -> usize
@@ -136,15 +132,12 @@ pub fn put_records(room: &mut [u8], at: usize, s: &[u8], total: usize) -> usize
 {
     let mut to = at;
     let mut rest = s;
-    let mut n = 0;
-    while n < total {
-        let size = size_of(rest);
-        if size == 0 {
+    for n in 0..total {
+        let Some(size) = size_of(rest) else {
             return put(room, to, b"?\n");
-        }
+        };
         to = put_record(room, to, total, n, rest);
         rest = &rest[size..];
-        n += 1;
     }
     to
 }

@@ -34,10 +34,7 @@ pub fn put_refused(room: &mut [u8], at: usize, number: usize, place: usize, s: &
     ensures { Writes (refused_text number place s.now) at room result }
 {
     let to = put_refused_line(room, at, number, place);
-    if number < Refusal::NOT_CBOR {
-        return to;
-    }
-    if number < Refusal::NOT_VERIFIED {
+    if Refusal::NOT_CBOR <= number && number < Refusal::NOT_VERIFIED {
         let a = put_path_line(room, to, s, place);
         return put_around(room, a, s, place);
     }

@@ -30,10 +30,8 @@ fn put_components(room: &mut [u8], at: usize, s: &[u8], ids: &Places, n: usize) 
 {
     let end = least(n, Controller::COMPONENTS);
     let mut to = at;
-    let mut k = 0;
-    while k < end {
+    for k in 0..end {
         to = put_component(room, to, s, ids, k);
-        k += 1;
     }
     to
 }
@@ -63,10 +61,8 @@ fn put_sections(room: &mut [u8], at: usize, sections: &SectionPlaces) -> usize
     ensures { Writes (sections_text sections.now) at room result }
 {
     let mut to = at;
-    let mut j = 0;
-    while j < SECTIONS {
+    for j in 0..SECTIONS {
         to = put_one_section(room, to, sections, j);
-        j += 1;
     }
     to
 }

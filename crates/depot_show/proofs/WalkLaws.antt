@@ -21,9 +21,6 @@ use Rattle.depot_show.proofs.ShownLaws.{Rest, rest-shown}
 not_none : (k : ℕ) → suc k ≤ 0 → ⊥
 not_none k h = omega arith
 
-not_some : 0 < 0 → ⊥
-not_some h = omega arith
-
 below : (n : ℕ) → suc n - 1 ≡ n
 below n = omega arith
 
@@ -34,15 +31,12 @@ module _ (s : Bytes) (depth : ℕ) where
   no_parameters (suc k) e at (inl h) = rw (le-leb e at h)
   no_parameters (suc k) e at (inr h) = absurd (not_none k h)
 
-  pub more-parameters : (k e at : ℕ) → 0 < k → at < e →
+  pub more-parameters : (k j e at : ℕ) → k ≡ suc j → at < e →
       parameters_shown s depth k e at ≡
       behind (parameter_text s depth (item_of s e at NUMBER).num (item_at s e (item_of s e at NUMBER).next))
-      (parameters_shown s depth (k - 1) e (item_at s e (item_of s e at NUMBER).next).after)
+      (parameters_shown s depth j e (item_at s e (item_of s e at NUMBER).next).after)
   unfolding parameters_shown
-  more-parameters zero e at h l = absurd (not_some h)
-  more-parameters (suc k) e at h l =
-      let q : suc k - 1 ≡ k = omega arith in
-      rw (lt-leb e at l, q)
+  more-parameters k j e at h l = rw (h, lt-leb e at l)
 
 module _ (s : Bytes) (deeper : ℕ → ℕ → Shown) where
   pub nested_shows : (e at : ℕ) (b : Item) → b ≡ item_of s e at BYTES → {to : ℕ} {room : Bytes} {r : Put} {room' : Bytes} →
@@ -57,20 +51,17 @@ module _ (s : Bytes) (deeper : ℕ → ℕ → Shown) (depth : ℕ) where
   no_alternatives n (suc k) e at (inl h) = rw (le-leb e at h)
   no_alternatives n (suc k) e at (inr h) = absurd (not_none k h)
 
-  more-alternatives : (n k e at : ℕ) → 0 < k → at < e →
+  more-alternatives : (n k j e at : ℕ) → k ≡ suc j → at < e →
       alternatives_shown s deeper depth n k e at ≡
-      and_then (behind (alternative_text depth (n - (k - 1))) (nested_shown s deeper e at)) (alternatives_shown s deeper depth n (k - 1) e)
+      and_then (behind (alternative_text depth (n - j)) (nested_shown s deeper e at)) (alternatives_shown s deeper depth n j e)
   unfolding alternatives_shown
-  more-alternatives n zero e at h l = absurd (not_some h)
-  more-alternatives n (suc k) e at h l =
-      let q : suc k - 1 ≡ k = omega arith in
-      rw (lt-leb e at l, q)
+  more-alternatives n k j e at h l = rw (h, lt-leb e at l)
 
-  pub alternatives-on : (n k e at : ℕ) → 0 < k → at < e → {whole : Shown} {to : ℕ} {room : Bytes} {p : ℕ} {room₁ : Bytes} {r : Put} {room₂ : Bytes} →
+  pub alternatives-on : (n k j e at : ℕ) → k ≡ suc j → at < e → {whole : Shown} {to : ℕ} {room : Bytes} {p : ℕ} {room₁ : Bytes} {r : Put} {room₂ : Bytes} →
       Rest whole to room (alternatives_shown s deeper depth n k e at) p room₁ →
-      Shows (behind (alternative_text depth (n - (k - 1))) (nested_shown s deeper e at)) p room₁ r room₂ →
-      Rest whole to room (alternatives_shown s deeper depth n (k - 1) e r.next) r.to room₂
-  alternatives-on n k e at h l y x = rest-shown (alternatives_shown s deeper depth n (k - 1) e) (rw (more-alternatives n k e at h l) at y) x
+      Shows (behind (alternative_text depth (n - j)) (nested_shown s deeper e at)) p room₁ r room₂ →
+      Rest whole to room (alternatives_shown s deeper depth n j e r.next) r.to room₂
+  alternatives-on n k j e at h l y x = rest-shown (alternatives_shown s deeper depth n j e) (rw (more-alternatives n k j e at h l) at y) x
 
   pub no_commands : (k e at : ℕ) → (e ≤ at) ⊎ (k ≤ 0) → commands_shown s deeper depth k e at ≡ none at
   unfolding commands_shown
@@ -78,18 +69,15 @@ module _ (s : Bytes) (deeper : ℕ → ℕ → Shown) (depth : ℕ) where
   no_commands (suc k) e at (inl h) = rw (le-leb e at h)
   no_commands (suc k) e at (inr h) = absurd (not_none k h)
 
-  more-commands : (k e at : ℕ) → 0 < k → at < e →
-      commands_shown s deeper depth k e at ≡ and_then (command_shown s deeper depth e at) (commands_shown s deeper depth (k - 1) e)
+  more-commands : (k j e at : ℕ) → k ≡ suc j → at < e →
+      commands_shown s deeper depth k e at ≡ and_then (command_shown s deeper depth e at) (commands_shown s deeper depth j e)
   unfolding commands_shown
-  more-commands zero e at h l = absurd (not_some h)
-  more-commands (suc k) e at h l =
-      let q : suc k - 1 ≡ k = omega arith in
-      rw (lt-leb e at l, q)
+  more-commands k j e at h l = rw (h, lt-leb e at l)
 
-  pub commands-on : (k e at : ℕ) → 0 < k → at < e → {whole : Shown} {to : ℕ} {room : Bytes} {p : ℕ} {room₁ : Bytes} {r : Put} {room₂ : Bytes} →
+  pub commands-on : (k j e at : ℕ) → k ≡ suc j → at < e → {whole : Shown} {to : ℕ} {room : Bytes} {p : ℕ} {room₁ : Bytes} {r : Put} {room₂ : Bytes} →
       Rest whole to room (commands_shown s deeper depth k e at) p room₁ → Shows (command_shown s deeper depth e at) p room₁ r room₂ →
-      Rest whole to room (commands_shown s deeper depth (k - 1) e r.next) r.to room₂
-  commands-on k e at h l y x = rest-shown (commands_shown s deeper depth (k - 1) e) (rw (more-commands k e at h l) at y) x
+      Rest whole to room (commands_shown s deeper depth j e r.next) r.to room₂
+  commands-on k j e at h l y x = rest-shown (commands_shown s deeper depth j e) (rw (more-commands k j e at h l) at y) x
 
   -- a command, by its code and its argument
   module _ (e at : ℕ) (c : Item) (q : c ≡ item_of s e at NUMBER) where

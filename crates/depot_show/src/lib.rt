@@ -34,10 +34,8 @@ fn put_components(room: &mut [u8], at: usize, s: &[u8], n: usize, ids: &Places) 
     ensures { Writes (components_text s.now ids.now n) at room result }
 {
     let mut to = at;
-    let mut k = 0;
-    while k < n {
+    for k in 0..n {
         to = put_component(room, to, s, k, ids[2 * k], ids[2 * k + 1]);
-        k += 1;
     }
     to
 }
@@ -60,8 +58,7 @@ fn put_sections(room: &mut [u8], at: usize, s: &[u8], sections: &SectionPlaces) 
     ensures { Writes (sections_text s.now sections.now) at room result }
 {
     let mut to = at;
-    let mut j = 0;
-    while j < SECTIONS {
+    for j in 0..SECTIONS {
         to = put_section(
             room,
             to,
@@ -70,7 +67,6 @@ fn put_sections(room: &mut [u8], at: usize, s: &[u8], sections: &SectionPlaces) 
             sections[2 * j],
             sections[2 * j + 1],
         );
-        j += 1;
     }
     to
 }

@@ -43,8 +43,7 @@ fn put_parameters(
 {
     let mut next = at;
     let mut end = to;
-    let mut left = count;
-    while 0 < left {
+    for _ in 0..count {
         if e <= next {
             return Put { next, to: end };
         }
@@ -52,7 +51,6 @@ fn put_parameters(
         let v = look(s, e, key.next);
         end = put_parameter(room, end, s, depth, key.num, v);
         next = v.after;
-        left -= 1;
     }
     Put { next, to: end }
 }
@@ -84,13 +82,11 @@ fn put_alternatives(
 {
     let mut next = at;
     let mut end = to;
-    let mut left = count;
-    while 0 < left {
+    for n in 0..count {
         if e <= next {
             return Put { next, to: end };
         }
-        left -= 1;
-        let line = put_alternative(room, end, depth, count - left);
+        let line = put_alternative(room, end, depth, n + 1);
         let a = put_nested(room, line, s, depth, e, next);
         next = a.next;
         end = a.to;
@@ -113,7 +109,6 @@ fn put_command(room: &mut [u8], to: usize, s: &[u8], depth: usize, e: usize, at:
     let c = want(s, e, at, cbor::NUMBER);
     let i = look(s, e, c.next);
     let code = c.num;
-    let kind = i.kind;
     let title = put_title(room, to, depth, at, code);
     if holds_sequence(code) {
         let below = put_byte(room, title, NEWLINE);
@@ -121,15 +116,13 @@ fn put_command(room: &mut [u8], to: usize, s: &[u8], depth: usize, e: usize, at:
     }
     let argument = put_argument(room, title, s, i);
     let line = put_byte(room, argument, NEWLINE);
-    if kind == cbor::ARRAY {
-        return put_alternatives(room, line, s, depth, e, i.next, i.num);
-    }
-    if kind == cbor::MAP {
-        return put_parameters(room, line, s, depth, e, i.next, i.num);
-    }
-    Put {
-        next: i.after,
-        to: line,
+    match i.kind {
+        cbor::ARRAY => put_alternatives(room, line, s, depth, e, i.next, i.num),
+        cbor::MAP => put_parameters(room, line, s, depth, e, i.next, i.num),
+        _ => Put {
+            next: i.after,
+            to: line,
+        },
     }
 }
 
@@ -147,15 +140,13 @@ fn put_commands(
 {
     let mut next = at;
     let mut end = to;
-    let mut left = count;
-    while 0 < left {
+    for _ in 0..count {
         if e <= next {
             return Put { next, to: end };
         }
         let c = put_command(room, end, s, depth, e, next);
         next = c.next;
         end = c.to;
-        left -= 1;
     }
     Put { next, to: end }
 }
@@ -176,8 +167,7 @@ pub(crate) fn put_sequence(
         return put_stop(room, to, 0, e);
     }
     let h = want(s, e, at, cbor::ARRAY);
-    let kind = h.kind;
-    if kind != cbor::ARRAY {
+    if h.kind != cbor::ARRAY {
         return put_stop(room, to, depth - 1, e);
     }
     put_commands(room, to, s, depth - 1, e, h.next, h.num / 2)

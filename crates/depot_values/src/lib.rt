@@ -16,24 +16,20 @@ use text_numbers::{put_decimal, put_hex};
 fn put_number(room: &mut [u8], at: usize, s: &[u8]) -> usize
     ensures { Writes (number_text s.now) at room result }
 {
-    if s.len() == SIZE_BYTES {
-        return put_decimal(room, at, four(s, 0));
+    match s.len() {
+        SIZE_BYTES => put_decimal(room, at, four(s, 0)),
+        SOURCE_BYTES => put_decimal(room, at, wide(s[0])),
+        _ => put_hex(room, at, s),
     }
-    if s.len() == SOURCE_BYTES {
-        return put_decimal(room, at, wide(s[0]));
-    }
-    put_hex(room, at, s)
 }
 
 fn put_known(room: &mut [u8], at: usize, parameter: Parameter, s: &[u8]) -> usize
     ensures { Writes (known_text parameter s.now) at room result }
 {
     match parameter {
-        Parameter::Coerce => put_number(room, at, s),
         Parameter::Uri => put_quoted(room, at, s),
-        Parameter::Source => put_number(room, at, s),
         Parameter::Digest => put_hex(room, at, s),
-        Parameter::Size => put_number(room, at, s),
+        Parameter::Coerce | Parameter::Source | Parameter::Size => put_number(room, at, s),
     }
 }
 

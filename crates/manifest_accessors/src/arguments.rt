@@ -51,10 +51,7 @@ fn bare(value: usize, next: usize) -> Args
 fn flag(b: u8) -> usize
     ensures { result ≡ flag_of b }
 {
-    if b == TRUE {
-        return COERCE_TRUE;
-    }
-    COERCE_FALSE
+    if b == TRUE { COERCE_TRUE } else { COERCE_FALSE }
 }
 
 // The parameter under that key at `at`, after those of `a`.
@@ -103,11 +100,9 @@ fn read_entries(s: &[u8], k: usize, at: usize) -> Args
     ensures { (x : Entries s.now k at) → EntriesRead s.now k at x result }
 {
     let mut a = bare(0, at);
-    let mut left = k;
-    while 0 < left {
+    for _ in 0..k {
         let name = open(s, a.next);
         a = entry(s, name.value, name.next, a);
-        left -= 1;
     }
     a
 }
@@ -138,8 +133,5 @@ pub fn read_one(s: &[u8], code: usize, at: usize) -> Args
 pub fn component(code: usize, value: usize, index: usize) -> usize
     ensures { result ≡ component_of code value index }
 {
-    if code == SET_INDEX {
-        return value;
-    }
-    index
+    if code == SET_INDEX { value } else { index }
 }

@@ -44,11 +44,9 @@ pub fn skip(s: &[u8], k: usize, at: usize) -> usize
     ensures { (x : Strings s.now k at) → result ≡ x.to }
 {
     let mut p = at;
-    let mut left = k;
-    while 0 < left {
+    for _ in 0..k {
         let b = open(s, p);
         p = b.next + b.value;
-        left -= 1;
     }
     p
 }

@@ -66,10 +66,8 @@ pub fn plan(group: Group, sections: &SectionPlaces, starts: &mut PlanStarts) -> 
     ensures { Puts (starts_of group sections.now) 0 starts result }
 {
     let mut n = 0;
-    let mut k = 1;
-    while k < SECTIONS {
+    for k in 1..SECTIONS {
         n = put_section(group, sections, k, n, starts);
-        k += 1;
     }
     if n == 0 {
         return put_start(sections, COMMON, 0, starts);

@@ -5,9 +5,10 @@ use mathlib.Core.List.{List}
 use mathlib.Core.Bool.{Bool, true, false}
 use native.Mathlib.Omega.{arith}
 use lib.ListN.{length, replicate}
+use Rattle.std.specs.Prelude.{Result, Ok, Err}
 use Rattle.rules.specs.declared.answers.Refusal.{Refusal}
 use Rattle.rules.specs.declared.answers.Refusal.TheVariants.{BadProgram}
-use Rattle.rules.specs.Answers.{refusal_of, end_of}
+use Rattle.rules.specs.Answers.{end_of}
 use Rattle.rules.specs.Limits.{limits, memory_numbers}
 use Rattle.rules.specs.Bytes.{Bytes, InBytes}
 use Rattle.rules.specs.Got.{Got, refused, got}
@@ -17,9 +18,9 @@ use Rattle.rules.specs.ProgramRun.{exec, run_program}
 use Rattle.rules.specs.Run.{Input, admit, number_after, report, start_state, env_of, run_of}
 use Rattle.run_slot_search.specs.Search.{names_at, Found}
 use Rattle.run_commands.specs.Machine.{state_at}
-use Rattle.run_ending.specs.declared.Answer.TheVariants as The
+use Rattle.run_admission.specs.Admission.{tests_of}
 use Rattle.run_ending.specs.declared.Ending.{Ending}
-use Rattle.run_ending.specs.Answer.{refusal_in, LastEvent, ending_of, Settles}
+use Rattle.run_ending.specs.Answer.{LastEvent, ending_of, Settles}
 use Rattle.run_admission.proofs.FrameLaws.{trace-room, lent-start, state-start, settles_refused}
 use Rattle.run_admission.proofs.FrameLaws as Frame
 use Rattle.program_steps.specs.declared.ProgramState.{ProgramState}
@@ -48,19 +49,19 @@ module _ (p : Bytes) (t : Tested) (a : Known p t) where
   pub counted : length a.program.ids ≡ t.components
   counted = ap length (sym a.stands.names) ∙ names-count p t.ids t.components
 
-  module _ (x : Input) (refusal : ℕ) (e : refusal ≡ refusal_in (admit t.group t.number (names_at p t.ids t.components) x)) where
-    pub stops : refusal ≡ refusal_in (admit a.program.group a.program.number a.program.ids x)
+  module _ (x : Input) (tests : Result (Unit {0}) Refusal) (e : tests ≡ tests_of (admit t.group t.number (names_at p t.ids t.components) x)) where
+    pub stops : tests ≡ tests_of (admit a.program.group a.program.number a.program.ids x)
     stops = rw (← group, ← number, ← a.stands.names) e
 
     is-run : run_program p x ≡ run_of a.program.group a.program.number a.program.ids (λ env st. exec env a.program.records 0 0 st) x
     unfolding run_program
     is-run = rw a.tests
 
-    pub refused-answer : (refusal ≡ 0 → ⊥) → (r : Refusal) → r ≡ refusal_of refusal →
-        Settles x.device (run_program p x) (record { answer = The.Refused r 0; number = x.device.number }) x.slots x.slots x.trace x.trace
-    refused-answer = Frame.refused-answer a.program.group a.program.number a.program.ids x _ (run_program p x) is-run refusal stops
+    pub refused-answer : (r : Refusal) → tests ≡ Err r →
+        Settles x.device (run_program p x) (record { answer = Err (record { refusal = r; at = 0 }); number = x.device.number }) x.slots x.slots x.trace x.trace
+    refused-answer = Frame.refused-answer a.program.group a.program.number a.program.ids x _ (run_program p x) is-run tests stops
 
-    module _ (z : refusal ≡ 0) (memory : List ℕ) (f : Found (names_at p t.ids t.components) x.slots (replicate memory_numbers 0) memory) where
+    module _ (z : tests ≡ Ok tt) (memory : List ℕ) (f : Found (names_at p t.ids t.components) x.slots (replicate memory_numbers 0) memory) where
       unfoldable pub job : RunJob p t.records (start_at t.from) x.device.vendor x.device.class x.answers x.slots memory x.trace
       job =
           record {
@@ -69,7 +70,7 @@ module _ (p : Bytes) (t : Tested) (a : Known p t) where
             components = t.components;
             ready =
                 record {
-                  lent = lent-start a.program.group a.program.number a.program.ids x refusal stops z (omega (arith, few, counted)) memory (rw a.stands.names at f) p;
+                  lent = lent-start a.program.group a.program.number a.program.ids x tests stops z (omega (arith, few, counted)) memory (rw a.stands.names at f) p;
                   among = counted;
                   place =
                       record {
@@ -96,19 +97,19 @@ module _ (p : Bytes) (t : Tested) (a : Known p t) where
             ran.goes
             ∙ ap (λ (n : ℕ). exec (env_of a.program.ids x) a.program.records 0 0 (state_at p n memory x.slots x.trace 0 0)) (sym counted)
             ∙ ap (exec (env_of a.program.ids x) a.program.records 0 0)
-            (state-start a.program.group a.program.number a.program.ids x refusal stops z (omega (arith, few, counted)) memory (rw a.stands.names at f) p)
+            (state-start a.program.group a.program.number a.program.ids x tests stops z (omega (arith, few, counted)) memory (rw a.stands.names at f) p)
 
         pub last-event : LastEvent r.end r.events trace'
         unfolding report
         last-event =
             let f = program_effects p a.program x _ a.tests
-            (Frame.run_as a.program.group a.program.number a.program.ids x _ (run_program p x) is-run refusal stops z r.end r.events r.used _ slots' trace' done) in
-            (ran.late, omega (arith, f.fits, f.trace-length, trace-room a.program.group a.program.number a.program.ids x refusal stops z))
+            (Frame.run_as a.program.group a.program.number a.program.ids x _ (run_program p x) is-run tests stops z r.end r.events r.used _ slots' trace' done) in
+            (ran.late, omega (arith, f.fits, f.trace-length, trace-room a.program.group a.program.number a.program.ids x tests stops z))
 
         pub answered : (ending : Ending) (after : ℕ) → ending ≡ ending_of r.end r.events r.used trace' → after ≡ number_after t.group (end_of r.end) t.number x.device.number →
-            Settles x.device (run_program p x) (record { answer = The.Ran ending; number = after }) x.slots slots' x.trace trace'
+            Settles x.device (run_program p x) (record { answer = Ok ending; number = after }) x.slots slots' x.trace trace'
         answered ending after q w =
-            Frame.answered a.program.group a.program.number a.program.ids x _ (run_program p x) is-run refusal stops z r.end r.events r.used _ slots' trace' done ending after q
+            Frame.answered a.program.group a.program.number a.program.ids x _ (run_program p x) is-run tests stops z r.end r.events r.used _ slots' trace' done ending after q
             (rw (← group, ← number) w)
 
 -- what the test answered
@@ -121,7 +122,7 @@ module _ (p : Bytes) (t : Tested) (e : TestedAs p (program_in p) t) where
       go (got x) u v w = let z : ◌≡◌ {A = Bool} true false = sym (ap (λ (s : Tested). s.good) v.exact) ∙ h in let y : ◌≡◌ {A = ℕ} 0 1 = cc in absurd (omega arith)
 
   pub refused-program : t.good ≡ false → (x : Input) →
-      Settles x.device (run_program p x) (record { answer = The.Refused BadProgram 0; number = x.device.number }) x.slots x.slots x.trace x.trace
+      Settles x.device (run_program p x) (record { answer = Err (record { refusal = BadProgram; at = 0 }); number = x.device.number }) x.slots x.slots x.trace x.trace
   unfolding run_program
   refused-program h x = settles_refused x (run_program p x) BadProgram 0 (rw (no_program_lem h))
 

@@ -9,7 +9,7 @@ use program_test::test::{Tested, test_program};
 use rules::answers::Refusal;
 use rules::controller::{Controller, MEMORY_NUMBERS};
 use run_admission::{Request, admit};
-use run_ending::{Answer, Outcome, ended, number_after, refused};
+use run_ending::{Outcome, ended, number_after, refused};
 
 // The run of a program that the test has accepted, by what the test found.
 fn run_tested(
@@ -33,9 +33,8 @@ fn run_tested(
     };
     let ids = t.ids;
     let mut memory = [0usize; MEMORY_NUMBERS];
-    let refusal = admit(p, request, &ids, device, slots, answers, trace, &mut memory);
-    if refusal != 0 {
-        return refused(Refusal::of(refusal), 0, device);
+    if let Err(refusal) = admit(p, request, &ids, device, slots, answers, trace, &mut memory) {
+        return refused(refusal, 0, device);
     }
     let vendor = device.vendor;
     let class = device.class;
@@ -51,7 +50,7 @@ fn run_tested(
         trace,
     );
     Outcome {
-        answer: Answer::Ran(ended(done.end, done.events, done.used, trace)),
+        answer: Ok(ended(done.end, done.events, done.used, trace)),
         number: number_after(group, done.end, t.number, device.number),
     }
 }

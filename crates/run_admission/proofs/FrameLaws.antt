@@ -7,10 +7,11 @@ use native.Mathlib.Omega.{arith}
 use lib.Dec.{eqb, ltb, leb}
 use lib.ListN.{length, get_or, replicate}
 use borrow.Author.Tests.{eqb-true, leb-true, ltb-true, ltb-false}
+use Rattle.std.specs.Prelude.{Result, Ok, Err}
 use Rattle.rules.specs.declared.answers.Group.{Group}
 use Rattle.rules.specs.declared.answers.Refusal.{Refusal}
 use Rattle.rules.specs.declared.answers.Refusal.TheVariants.{NotVerified, EventOpen, WrongNumber, BadSlots, NoSlot, BadAnswers, ShortTrace}
-use Rattle.rules.specs.Answers.{refusal_of, end_of}
+use Rattle.rules.specs.Answers.{end_of}
 use Rattle.rules.specs.Limits.{limits, memory_numbers}
 use Rattle.rules.specs.Bytes.{Bytes, all_in}
 use Rattle.rules.specs.Got.{Got, refused, got, need, ◌>>=◌}
@@ -18,7 +19,6 @@ use Rattle.rules.specs.Commands.{Params}
 use Rattle.rules.specs.Slots.{answer_bytes, good_slots, slot_names}
 use Rattle.rules.specs.Step.{Env, State, state, Out, out}
 use Rattle.rules.specs.Run.{Input, Ran, may_start, number_fits, admit, number_after, report, start_state, env_of, run_of}
-use Rattle.rules.proofs.AnswerLaws.{of_number, not-zero}
 use Rattle.rules.proofs.GotLaws.{passed}
 use Rattle.run_slots.specs.Slot.{Holds}
 use Rattle.run_slot_search.specs.Search.{Found}
@@ -27,9 +27,9 @@ use Rattle.run_slots.proofs.ParamsLaws.{zeros, params-start, fit-start}
 use Rattle.run_slot_search.proofs.SearchLaws.{good-some}
 use Rattle.run_actions.specs.Action.{AllHold}
 use Rattle.run_commands.specs.Machine.{state_at, Lends}
-use Rattle.run_ending.specs.declared.Answer.TheVariants as The
+use Rattle.run_admission.specs.Admission.{tests_of}
 use Rattle.run_ending.specs.declared.Ending.{Ending}
-use Rattle.run_ending.specs.Answer.{refusal_in, ending_of, Settles}
+use Rattle.run_ending.specs.Answer.{ending_of, Settles}
 use Rattle.run_ending.proofs.EndingLaws.{finished_law}
 
 -- a refusal of a run has place 0
@@ -45,14 +45,14 @@ last-zero : (b : Bool) (r : Refusal) → AtZero (need b r 0)
 last-zero true r = tt
 last-zero false r = refl
 
--- by its number: what was refused, or all that was tested
-by_number_lem : (y : Got (Unit {0})) → AtZero y → (n : ℕ) → n ≡ refusal_in y → (n ≡ 0 → ⊥) → y ≡ refused (refusal_of n) 0
-by_number_lem (refused r p) z n e d = rw (e, of_number r, z)
-by_number_lem (got u) z n e d = absurd (d e)
+-- what was refused, or all that was tested
+refused-tests : (y : Got (Unit {0})) → AtZero y → (r : Refusal) → Err r ≡ tests_of y → y ≡ refused r 0
+refused-tests (refused k p) z r e = let q : k ≡ r = cc in rw (q, z)
+refused-tests (got u) z r e = cc
 
-no_number_lem : (y : Got (Unit {0})) (n : ℕ) → n ≡ refusal_in y → n ≡ 0 → y ≡ got tt
-no_number_lem (refused r p) n e z = absurd (not-zero r (sym e ∙ z))
-no_number_lem (got u) n e z = refl
+passed-tests : (y : Got (Unit {0})) → Ok tt ≡ tests_of y → y ≡ got tt
+passed-tests (refused r p) e = cc
+passed-tests (got u) e = refl
 
 module _ (group : Group) (number : ℕ) (ids : List Bytes) (x : Input) where
   admit-zero : AtZero (admit group number ids x)
@@ -86,17 +86,17 @@ module _ (group : Group) (number : ℕ) (ids : List Bytes) (x : Input) where
       held true e = refl
       held false e = let z : ◌≡◌ {A = ℕ} 0 1 = cc in absurd (omega arith)
 
--- a run of any body, by the number that its tests gave
-module _ (group : Group) (number : ℕ) (ids : List Bytes) (x : Input) (refusal : ℕ) (e : refusal ≡ refusal_in (admit group number ids x)) where
-  refused-run : (body : Env → State → Out) → (refusal ≡ 0 → ⊥) → run_of group number ids body x ≡ refused (refusal_of refusal) 0
+-- a run of any body, by what its tests answered
+module _ (group : Group) (number : ℕ) (ids : List Bytes) (x : Input) (t : Result (Unit {0}) Refusal) (e : t ≡ tests_of (admit group number ids x)) where
+  refused-run : (body : Env → State → Out) → (r : Refusal) → t ≡ Err r → run_of group number ids body x ≡ refused r 0
   unfolding run_of
-  refused-run body d =
-      let y : admit group number ids x ≡ refused (refusal_of refusal) 0 = by_number_lem _ (admit-zero group number ids x) refusal e d in
+  refused-run body r d =
+      let y : admit group number ids x ≡ refused r 0 = refused-tests _ (admit-zero group number ids x) r (sym d ∙ e) in
       rw y
 
-  module _ (z : refusal ≡ 0) where
+  module _ (z : t ≡ Ok tt) where
     admitted : admit group number ids x ≡ got tt
-    admitted = no_number_lem _ refusal e z
+    admitted = passed-tests _ (sym z ∙ e)
 
     facts : Tested group number ids x
     facts = tested group number ids x admitted
@@ -137,28 +137,28 @@ module _ (group : Group) (number : ℕ) (ids : List Bytes) (x : Input) (refusal 
 
 -- what is handed back is what the rule's answer says
 pub settles_refused : (x : Input) (g : Got Ran) (k : Refusal) (p : ℕ) → g ≡ refused k p →
-    Settles x.device g (record { answer = The.Refused k p; number = x.device.number }) x.slots x.slots x.trace x.trace
+    Settles x.device g (record { answer = Err (record { refusal = k; at = p }); number = x.device.number }) x.slots x.slots x.trace x.trace
 settles_refused x g k p q = rw q (refl, refl, refl, refl)
 
 settles_ran : (group : Group) (number : ℕ) (x : Input) (end events used : ℕ) (ps : List Params) (slots trace : Bytes) (g : Got Ran) →
     g ≡ got (report group number x (out (end_of end) (state ps slots trace events used))) → (ending : Ending) (after : ℕ) → ending ≡ ending_of end events used trace →
     after ≡ number_after group (end_of end) number x.device.number →
-    Settles x.device g (record { answer = The.Ran ending; number = after }) x.slots slots x.trace trace
+    Settles x.device g (record { answer = Ok ending; number = after }) x.slots slots x.trace trace
 unfolding report
 settles_ran group number x end events used ps slots trace g q ending after p w = rw (q, p, w, finished_law end) (refl, refl, refl, refl)
 
 -- the answer of a job that is a run of that body
 module _ (group : Group) (number : ℕ) (ids : List Bytes) (x : Input) (body : Env → State → Out) (job : Got Ran) (is : job ≡ run_of group number ids body x)
-    (refusal : ℕ) (e : refusal ≡ refusal_in (admit group number ids x)) where
-  pub refused-answer : (refusal ≡ 0 → ⊥) → (r : Refusal) → r ≡ refusal_of refusal →
-      Settles x.device job (record { answer = The.Refused r 0; number = x.device.number }) x.slots x.slots x.trace x.trace
-  refused-answer d r q = settles_refused x job r 0 (is ∙ rw q (refused-run group number ids x refusal e body d))
+    (t : Result (Unit {0}) Refusal) (e : t ≡ tests_of (admit group number ids x)) where
+  pub refused-answer : (r : Refusal) → t ≡ Err r →
+      Settles x.device job (record { answer = Err (record { refusal = r; at = 0 }); number = x.device.number }) x.slots x.slots x.trace x.trace
+  refused-answer r d = settles_refused x job r 0 (is ∙ refused-run group number ids x t e body r d)
 
-  module _ (z : refusal ≡ 0) (end events used : ℕ) (ps : List Params) (slots trace : Bytes)
+  module _ (z : t ≡ Ok tt) (end events used : ℕ) (ps : List Params) (slots trace : Bytes)
       (goes : out (end_of end) (state ps slots trace events used) ≡ body (env_of ids x) (start_state ids x)) where
     pub run_as : job ≡ got (report group number x (out (end_of end) (state ps slots trace events used)))
-    run_as = is ∙ ran-run group number ids x refusal e z body _ goes
+    run_as = is ∙ ran-run group number ids x t e z body _ goes
 
     pub answered : (ending : Ending) (after : ℕ) → ending ≡ ending_of end events used trace → after ≡ number_after group (end_of end) number x.device.number →
-        Settles x.device job (record { answer = The.Ran ending; number = after }) x.slots slots x.trace trace
+        Settles x.device job (record { answer = Ok ending; number = after }) x.slots slots x.trace trace
     answered ending after p w = settles_ran group number x end events used ps slots trace job run_as ending after p w

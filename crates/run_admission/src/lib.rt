@@ -41,7 +41,7 @@ pub struct Request {
     pub verdict: bool,
 }
 
-// The number of the refusal of a run, or 0 and the slots of the components, whose identifiers stand at the places `ids` of s.
+// Admits a run: then the memory has the slots of the components, whose identifiers stand at the places `ids` of s.
 pub fn admit(
     s: &[u8],
     request: Request,
@@ -51,31 +51,30 @@ pub fn admit(
     answers: &[u8],
     trace: &[u8],
     memory: &mut Memory,
-) -> usize
+) -> Result<(), Refusal>
     requires { Requested s.now request ids.now }
     ensures { Admits s.now request ids.now device slots.now answers.now trace.now memory result }
 {
-    let group = request.group;
     if !request.verdict {
-        return Refusal::NOT_VERIFIED;
+        return Err(Refusal::NotVerified);
     }
-    if !may_start(group, device) {
-        return Refusal::EVENT_OPEN;
+    if !may_start(request.group, device) {
+        return Err(Refusal::EventOpen);
     }
-    if !number_fits(group, request.number, device) {
-        return Refusal::WRONG_NUMBER;
+    if !number_fits(request.group, request.number, device) {
+        return Err(Refusal::WrongNumber);
     }
     if !good_slots(slots) {
-        return Refusal::BAD_SLOTS;
+        return Err(Refusal::BadSlots);
     }
     if !find_slots(s, ids, request.components, slots, memory) {
-        return Refusal::NO_SLOT;
+        return Err(Refusal::NoSlot);
     }
     if answers.len() % IMAGE_BYTES != 0 {
-        return Refusal::BAD_ANSWERS;
+        return Err(Refusal::BadAnswers);
     }
     if trace.len() < Controller::TRACE_BYTES {
-        return Refusal::SHORT_TRACE;
+        return Err(Refusal::ShortTrace);
     }
-    0
+    Ok(())
 }

@@ -1,5 +1,6 @@
 -- What a run hands back, and what it leaves in lent memory.
-use Rattle.std.specs.Prelude.{ℕ, ◌*◌, ◌≤◌, ◌<◌, List, [], ◌∷◌, ◌≡◌, Bool, cond, eqb, length}
+use Rattle.std.specs.Prelude.{ℕ, ◌*◌, ◌≤◌, ◌<◌, List, [], ◌∷◌, ◌≡◌, Bool, cond, eqb, length, Result, Ok, Err}
+use Rattle.rules.specs.declared.answers.Fault.{Fault}
 use Rattle.rules.specs.declared.controller.Controller.{Controller}
 use Rattle.rules.specs.Answers.{refusal_number, end_number, end_of}
 use Rattle.rules.specs.Bytes.{Bytes}
@@ -7,8 +8,6 @@ use Rattle.rules.specs.Lent.{Lent, was, left}
 use Rattle.rules.specs.Got.{Got, refused, got}
 use Rattle.rules.specs.Step.{event_bytes}
 use Rattle.rules.specs.Run.{Input, Ran, last_place}
-use Rattle.run_ending.specs.declared.Answer as The
-use Rattle.run_ending.specs.declared.Answer.TheVariants as Answer
 use Rattle.run_ending.specs.declared.Ending.{Ending}
 use Rattle.run_ending.specs.declared.Outcome.{Outcome}
 
@@ -23,9 +22,9 @@ given verdict device slots answers trace = input_of verdict device slots answers
 
 -- 'A refusal returns its number and place, and nothing lent is altered'
 abbrev pub outcome_of : Controller → Got Ran → Outcome
-outcome_of device (refused r p) = record { answer = Answer.Refused r p; number = device.number }
+outcome_of device (refused r p) = record { answer = Err (record { refusal = r; at = p }); number = device.number }
 outcome_of device (got r) =
-    record { answer = Answer.Ran (record { end = r.end; place = r.place; events = r.events; used = r.used }); number = r.number }
+    record { answer = Ok (record { end = r.end; place = r.place; events = r.events; used = r.used }); number = r.number }
 
 abbrev pub slots_after : Bytes → Got Ran → Bytes
 slots_after slots (refused r p) = slots
@@ -37,9 +36,9 @@ trace_after trace (got r) = r.trace
 
 -- the numbers that document 01 gives an answer: of a refusal its number and place; of a run that was not refused those of its end, the
 -- place, the events, and the answers used
-abbrev pub answer_numbers : The.Answer → List ℕ
-answer_numbers (Answer.Refused r p) = refusal_number r ∷ p ∷ []
-answer_numbers (Answer.Ran e) = end_number e.end ∷ e.place ∷ e.events ∷ e.used ∷ []
+abbrev pub answer_numbers : Result Ending Fault → List ℕ
+answer_numbers (Err f) = refusal_number f.refusal ∷ f.at ∷ []
+answer_numbers (Ok e) = end_number e.end ∷ e.place ∷ e.events ∷ e.used ∷ []
 
 -- and before them the device's number
 abbrev pub outcome_numbers : Outcome → List ℕ
@@ -57,11 +56,6 @@ Settles device g r slots slots' trace trace' = (r ≡ outcome_of device g) × (s
 -- the same of lent slots and a lent trace
 abbrev pub Settled : Controller → Got Ran → Lent → Lent → Outcome → Type 0
 Settled device g slots trace r = Settles device g r (was slots) (left slots) (was trace) (left trace)
-
--- the number of a refusal, 0 for none
-abbrev pub refusal_in : {A : Type 0} → Got A → ℕ
-refusal_in (refused r p) = refusal_number r
-refusal_in (got a) = 0
 
 -- the trace holds that many events, and one at least unless the run finished
 abbrev pub LastEvent : ℕ → ℕ → Bytes → Type 0

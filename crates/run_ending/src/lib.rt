@@ -1,4 +1,4 @@
-// What a run answers: a refusal, or how it ended; and the device's number after it.
+// What a run answers: how it ended, or a refusal; and the device's number after it.
 #![tactic(auto)]
 
 ghost use Rattle.std.specs.Prelude.{◌≡◌, cond, eqb};
@@ -8,7 +8,7 @@ ghost use Rattle.rules.specs.Run.{last_place, number_after};
 ghost use Rattle.run_ending.specs.Answer.{outcome_of, LastEvent, ending_of};
 
 use byte_buffer::two;
-use rules::answers::{End, Group, Refusal};
+use rules::answers::{End, Fault, Group, Refusal};
 use rules::controller::Controller;
 use rules::event_format::{EVENT_BYTES, PLACE};
 
@@ -22,17 +22,10 @@ pub struct Ending {
     pub used: usize,
 }
 
-// A refusal with its place, or how the run ended.
-#[derive(Clone, Copy)]
-pub enum Answer {
-    Refused(Refusal, usize),
-    Ran(Ending),
-}
-
-// The answer, and the device's number after the run.
+// How the run ended or why it was refused, and the device's number after it.
 #[derive(Clone, Copy)]
 pub struct Outcome {
-    pub answer: Answer,
+    pub answer: Result<Ending, Fault>,
     pub number: usize,
 }
 
@@ -41,7 +34,7 @@ pub fn refused(refusal: Refusal, place: usize, device: Controller) -> Outcome
     ensures { result ≡ outcome_of device (Got.refused refusal place) }
 {
     Outcome {
-        answer: Answer::Refused(refusal, place),
+        answer: Err(Fault { refusal, at: place }),
         number: device.number,
     }
 }

@@ -7,10 +7,10 @@ ghost use Rattle.run_envelope.specs.Envelope.{Runs};
 use check_envelope::check;
 use check_envelope::report::Checked;
 use manifest_plan::plan;
-use rules::answers::{Group, Refusal};
+use rules::answers::Group;
 use rules::controller::{Controller, MEMORY_NUMBERS, PLAN_SEQUENCES, Places, SectionPlaces};
 use run_admission::{Request, admit};
-use run_ending::{Answer, Outcome, ended, number_after, refused};
+use run_ending::{Outcome, ended, number_after, refused};
 use run_plan::run_plan;
 
 // The run of an envelope that check has accepted, by what check reported.
@@ -28,9 +28,8 @@ fn run_checked(
     ensures { Runs s.now request.group request.verdict device slots answers.now trace result }
 {
     let mut memory = [0usize; MEMORY_NUMBERS];
-    let refusal = admit(s, request, ids, device, slots, answers, trace, &mut memory);
-    if refusal != 0 {
-        return refused(Refusal::of(refusal), 0, device);
+    if let Err(refusal) = admit(s, request, ids, device, slots, answers, trace, &mut memory) {
+        return refused(refusal, 0, device);
     }
     let group = request.group;
     let vendor = device.vendor;
@@ -49,7 +48,7 @@ fn run_checked(
         trace,
     );
     Outcome {
-        answer: Answer::Ran(ended(done.end, done.events, done.used, trace)),
+        answer: Ok(ended(done.end, done.events, done.used, trace)),
         number: number_after(group, done.end, request.number, device.number),
     }
 }

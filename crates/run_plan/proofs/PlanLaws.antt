@@ -5,13 +5,14 @@ use mathlib.Core.List.{List, [], ◌∷◌}
 use mathlib.Core.Bool.{Bool, true, false, cond}
 use native.Mathlib.Omega.{arith}
 use lib.Dec.{eqb}
-use lib.ListN.{length, get_or}
+use lib.ListN.{length, get_or, take}
+use lib.Seq.{get_or-take}
 use borrow.Author.Tests.{ne_eqb}
 use Rattle.rules.specs.declared.answers.End.{End}
 use Rattle.rules.specs.declared.answers.End.TheVariants.{Finished, ConditionFailed, Started, Failed}
 use Rattle.rules.specs.Answers.{end_number, end_of, failure_of}
 use Rattle.rules.specs.Bytes.{Bytes}
-use Rattle.rules.specs.Limits.{limits, plan_sequences}
+use Rattle.rules.specs.Limits.{limits}
 use Rattle.rules.specs.Manifest.{Seq, count}
 use Rattle.rules.specs.Step.{Env, State, Out, out}
 use Rattle.rules.specs.Run.{on, run_seq, run_all}
@@ -53,6 +54,10 @@ module _ (env : Env) (q : Seq) (qs : List Seq) (st : State) (e : End) (st' : Sta
   unfolding on
   all-goes n = all-next ∙ rw n
 
+-- the run at a start that is taken from the plan's part of the array
+pub begins : (starts : List ℕ) (total k : ℕ) (now : Progress) → k < total → (run : Run) → run ≡ start_of (get_or (take total starts) k 0) now → run ≡ start_of (get_or starts k 0) now
+begins starts total k now l run e = e ∙ ap (λ (from : ℕ). start_of from now) (get_or-take total starts k 0 l)
+
 module _ (s vendor class answers : Bytes) (starts : List ℕ) (total : ℕ) (env : Env) (plan : List Seq) (slots₀ : Bytes) (memory₀ : List ℕ) (trace₀ : Bytes) where
   -- the state that r has reached
   abbrev state_by : Bytes → List ℕ → Bytes → Progress → State
@@ -81,9 +86,6 @@ module _ (s vendor class answers : Bytes) (starts : List ℕ) (total : ℕ) (env
     module _ (h : k < total) where
       pub its : First s (length env.ids) starts total k l.commands l.rest
       its = plan-first s (length env.ids) starts total k l.commands l.rest l.left h
-
-      pub turn_inside : k < plan_sequences
-      turn_inside = omega (arith, l.left.inside)
 
       abbrev pub turn-job : SequenceJob s limits.depth (start_of (get_or starts k 0) run) vendor class answers slots memory trace
       turn-job =

@@ -49,15 +49,12 @@ pub fn run_plan(
         used: 0,
         end: End::FINISHED,
     };
-    let mut k = 0;
-    while k < total {
-        let run = start_of(starts[k], now);
+    for from in &starts[..total] {
+        let run = start_of(*from, now);
         now = run_sequence(s, level, run, vendor, class, answers, slots, memory, trace);
-        let end = now.end;
-        if end != End::FINISHED {
-            return now;
+        if now.end != End::FINISHED {
+            break;
         }
-        k += 1;
     }
     now
 }

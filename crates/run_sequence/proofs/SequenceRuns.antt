@@ -68,12 +68,12 @@ pub record Loop (s vendor class : Bytes) (memory₀ : List ℕ) (answers : Bytes
   pub same : SlotsKept memory₀ memory
 
 module _ (s vendor class answers : Bytes) (depth : ℕ) (coercible : Bool) (slots : Bytes) (memory : List ℕ) (trace : Bytes) (left : ℕ) (now : Run) where
-  pub loop_starts : (x : CommandsJob s depth left now vendor class answers slots memory trace) →
+  pub loop_starts : (n : ℕ) → n - 0 ≡ left → (x : CommandsJob s depth n now vendor class answers slots memory trace) →
       Loop s vendor class memory answers depth coercible x.ready.env
       (run_seq x.ready.env x.place.cmds coercible now.index (is_true now.coerce) (state_of s (length x.ready.env.ids) memory slots trace now))
       slots memory trace left now
-  loop_starts x =
-      record { kept = kept_of s vendor class answers slots memory trace now.index x.ready; place = x.place; goes = refl; same = λ i h. refl }
+  loop_starts n e x = let z : left ≡ n = omega arith in rw z
+      (record { kept = kept_of s vendor class answers slots memory trace now.index x.ready; place = x.place; goes = refl; same = λ i h. refl })
 
 module _ (s vendor class : Bytes) (memory₀ : List ℕ) (answers : Bytes) (depth : ℕ) (coercible : Bool) (slots : Bytes) (memory : List ℕ) (trace : Bytes) (left : ℕ) (now : Run) where
   module _ (env : Env) (whole : Out) (l : Loop s vendor class memory₀ answers depth coercible env whole slots memory trace left now) where
@@ -98,8 +98,8 @@ module _ (s vendor class : Bytes) (memory₀ : List ℕ) (answers : Bytes) (dept
         pub loop_rises : r.end ≡ 0 → now.next < r.next
         loop_rises z = omega (arith, ran.next z, command_later s (length env.ids) depth now.events now.next its-turn.first)
 
-        pub loop_goes_on : r.end ≡ 0 → Loop s vendor class memory₀ answers depth coercible env whole slots' memory' trace' (left - 1) r
-        loop_goes_on z =
+        after : r.end ≡ 0 → Loop s vendor class memory₀ answers depth coercible env whole slots' memory' trace' (left - 1) r
+        after z =
             let t = its-turn in
             let st : State = state_of s (length env.ids) memory slots trace now in
             let m : Moves st (run_cmd env t.first.cmd now.index st).state (count_cmd t.first.cmd) = moves-cmd env t.first.cmd now.index st in
@@ -126,6 +126,9 @@ module _ (s vendor class : Bytes) (memory₀ : List ℕ) (answers : Bytes) (dept
                   (state_of s (length env.ids) memory' slots' trace' r) r.end z (sym ran.goes));
               same = λ i h. ran.same i h ∙ l.same i h;
             }
+
+        pub loop_goes_on : r.end ≡ 0 → (next : ℕ) → next ≡ left - 1 → Loop s vendor class memory₀ answers depth coercible env whole slots' memory' trace' next r
+        loop_goes_on z next e = rw e (after z)
 
 -- a run of a sequence, from its job
 module _ (s : Bytes) (depth : ℕ) (run : Run) (vendor class answers slots : Bytes) (memory : List ℕ) (trace : Bytes)

@@ -36,7 +36,7 @@ pub fn run_sequence(
     ensures { SequenceRuns s.now level run vendor.now class.now answers.now slots memory trace result }
 {
     let h = open(s, run.next);
-    let mut left = h.value / 2;
+    let commands = h.value / 2;
     let mut now = Run {
         next: h.next,
         index: run.index,
@@ -45,7 +45,7 @@ pub fn run_sequence(
         used: run.used,
         end: End::FINISHED,
     };
-    while 0 < left {
+    for _ in 0..commands {
         let coerce = now.coerce;
         now = run_command(
             s,
@@ -58,11 +58,9 @@ pub fn run_sequence(
             memory,
             trace,
         );
-        let end = now.end;
-        if end != End::FINISHED {
+        if now.end != End::FINISHED {
             return caught(now, level.coercible, coerce);
         }
-        left -= 1;
     }
     ended(End::FINISHED, now.events, now.used)
 }
@@ -100,9 +98,8 @@ fn run_command(
     if holds_alternatives(kind) {
         let h = open(s, c.next);
         let mut p = h.next;
-        let mut left = h.value;
         let mut now = ended(End::CONDITION_FAILED, run.events, run.used);
-        while 0 < left {
+        for left in (0..h.value).rev() {
             let b = open(s, p);
             let level = Level {
                 depth,
@@ -111,10 +108,8 @@ fn run_command(
             let from = run_at(run, b.next, now, End::FINISHED);
             now = run_sequence(s, level, from, vendor, class, answers, slots, memory, trace);
             p = b.next + b.value;
-            left -= 1;
-            let end = now.end;
-            if end != End::CONDITION_FAILED {
-                return run_at(run, skip(s, left, p), now, end);
+            if now.end != End::CONDITION_FAILED {
+                return run_at(run, skip(s, left, p), now, now.end);
             }
         }
         return run_at(run, p, now, End::CONDITION_FAILED);

@@ -4,7 +4,8 @@ use mathlib.Core.Path.{◌≡◌, refl, sym, ap, ◌∙◌}
 use mathlib.Core.List.{List, [], ◌∷◌, ◌++◌, append_assoc, append-nil}
 use mathlib.Core.Bool.{false}
 use native.Mathlib.Omega.{arith}
-use lib.ListN.{length, get_or}
+use lib.ListN.{length, get_or, take}
+use lib.Seq.{get_or-take, length-take-le}
 use Rattle.rules.specs.Bytes.{Bytes, put}
 use Rattle.rules.specs.Limits.{limits}
 use Rattle.rules.specs.Manifest.{Seq, count}
@@ -39,6 +40,13 @@ flat-first a xs n = refl
 flat-none : (n : ℕ) → flat_all [] n ≡ []
 unfolding flat_all
 flat-none n = refl
+
+-- start k of those that are walked
+pub walked : (starts : List ℕ) (total k : ℕ) → total ≤ length starts → k < length (take total starts) →
+    (k < total) × (get_or (take total starts) k 0 ≡ get_or starts k 0)
+walked starts total k h l =
+    let m : k < total = omega (arith, length-take-le total starts h) in
+    (m, get_or-take total starts k 0 m)
 
 module _ (s : Bytes) (table starts : List ℕ) (total : ℕ) (h : PlanHere s table starts total) where
   -- the sequences that are left, from number k on

@@ -21,15 +21,13 @@ pub fn size_plan(s: &[u8], table: &Table, starts: &PlanStarts, total: usize) -> 
         records: 0,
         arguments: 0,
     };
-    let mut k = 0;
-    while k < total {
-        let r = size_sequence(s, table, Controller::DEPTH, starts[k]);
+    for start in &starts[..total] {
+        let r = size_sequence(s, table, Controller::DEPTH, *start);
         now = Size {
             next: 0,
             records: now.records + r.records,
             arguments: now.arguments + r.arguments,
         };
-        k += 1;
     }
     now
 }
@@ -48,10 +46,9 @@ pub fn write_plan(
 {
     let mut n = 0;
     let mut at = to;
-    let mut k = 0;
-    while k < total {
-        let start = WriteState {
-            next: starts[k],
+    for start in &starts[..total] {
+        let state = WriteState {
+            next: *start,
             index: 0,
             coerce: COERCE_FALSE,
             n,
@@ -64,11 +61,10 @@ pub fn write_plan(
             false,
             NO_TARGET,
             0,
-            start,
+            state,
             room,
         );
         n = r.n;
         at = r.to;
-        k += 1;
     }
 }

@@ -479,6 +479,13 @@ module _ (s : Bytes) (table : List ℕ) (depth : ℕ) (state : WriteState) (room
             small = j.small;
           }
 
+-- of n alternatives, turn i is for one but the last
+pub all_alternatives : (n : ℕ) → n + 1 - 1 ≡ n
+all_alternatives n = omega arith
+
+pub alternative_left : (n i : ℕ) → i < n → 1 < n + 1 - i
+alternative_left n i l = omega arith
+
 module _ (s : Bytes) (table : List ℕ) (depth components : ℕ) (cmd : Cmd) (to target : ℕ) (state : WriteState) (room₀ : Bytes) (z : ℕ) (room : Bytes) (k : ℕ) (now : WriteState)
     (l : AltsLoop s table depth components cmd to target state room₀ z room k now) where
   abbrev pub its_choice : Choice s components depth 0 k now.next to l.place

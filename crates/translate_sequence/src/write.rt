@@ -46,11 +46,9 @@ pub fn write_sequence(
         n: state.n,
         to: state.to,
     };
-    let mut left = h.value / 2;
-    while 0 < left {
+    for _ in 0..h.value / 2 {
         let t = caught(coercible, now.coerce, beyond, target);
         now = write_command(s, table, depth - 1, t, now, room);
-        left -= 1;
     }
     enter(state, now.next, now)
 }
@@ -82,16 +80,14 @@ fn write_command(
         let whole = size_command(s, table, depth, state.next);
         let z = state.n + whole.records;
         let h = open(s, c.next);
-        let mut left = h.value;
         let mut now = enter(state, h.next, state);
-        while 1 < left {
+        for _ in 1..h.value {
             let b = open(s, now.next);
             let alternative = size_sequence(s, table, depth, b.next);
             let after = now.n + alternative.records + 1;
             let first = enter(state, b.next, now);
             now = write_sequence(s, table, depth, false, after, z, first, room);
             now = put_jump(z, now, room);
-            left -= 1;
         }
         let b = open(s, now.next);
         let last = enter(state, b.next, now);

@@ -14,6 +14,13 @@ use Rattle.manifest_accessors.proofs.SequencePlaces.{CommandsAt, start, start-he
 use Rattle.translate_size.specs.declared.sizes.Size.{Size}
 use Rattle.translate_size.specs.Size.{most, SequenceHere, CommandHere, SequenceSized, CommandSized}
 
+-- of n turns, i of which are done
+pub turn_left : (n i : ℕ) → i < n → 0 < n - i
+turn_left n i l = omega arith
+
+pub turn_less : (n i : ℕ) → n - (i + 1) ≡ n - i - 1
+turn_less n i = omega arith
+
 -- the loop over commands: what is counted and the commands that are left make the whole
 pub record Commands (s : Bytes) (table : List ℕ) (depth at : ℕ) (seq : Seq) (to k : ℕ) (now : Size) : Type 0 where
   pub rows : table ≡ by_number

@@ -48,10 +48,7 @@ fn argument_size(kind: Argument, a: Args) -> usize
     match kind {
         Argument::Sixteen => Controller::CLASS_BYTES,
         Argument::Parameters => parameters_size(a),
-        Argument::Nil => 0,
-        Argument::Index => 0,
-        Argument::Alternatives => 0,
-        Argument::Sequence => 0,
+        Argument::Nil | Argument::Index | Argument::Alternatives | Argument::Sequence => 0,
     }
 }
 
@@ -67,15 +64,13 @@ pub fn size_sequence(s: &[u8], table: &Table, depth: usize, at: usize) -> Size
         records: 0,
         arguments: 0,
     };
-    let mut left = h.value / 2;
-    while 0 < left {
+    for _ in 0..h.value / 2 {
         let c = size_command(s, table, depth - 1, now.next);
         now = Size {
             next: c.next,
             records: now.records + c.records,
             arguments: now.arguments + c.arguments,
         };
-        left -= 1;
     }
     now
 }
@@ -95,14 +90,13 @@ pub fn size_command(s: &[u8], table: &Table, depth: usize, at: usize) -> Size
     }
     if holds_alternatives(kind) {
         let h = open(s, c.next);
-        let mut left = h.value;
         // each alternative but the last has a jump after it
         let mut now = Size {
             next: h.next,
-            records: left - 1,
+            records: h.value - 1,
             arguments: 0,
         };
-        while 0 < left {
+        for _ in 0..h.value {
             let b = open(s, now.next);
             let r = size_sequence(s, table, depth, b.next);
             now = Size {
@@ -110,7 +104,6 @@ pub fn size_command(s: &[u8], table: &Table, depth: usize, at: usize) -> Size
                 records: now.records + r.records,
                 arguments: now.arguments + r.arguments,
             };
-            left -= 1;
         }
         return now;
     }

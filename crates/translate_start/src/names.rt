@@ -18,10 +18,8 @@ pub fn size_names(ids: &Places, n: usize) -> usize
     ensures { (s : Bytes) → InBytes ids.now n (length s) → result ≡ length (name_records s ids.now n) }
 {
     let mut sum = 0;
-    let mut k = 0;
-    while k < n {
+    for k in 0..n {
         sum += NAME_BYTES + ids[2 * k + 1] - ids[2 * k];
-        k += 1;
     }
     sum
 }
@@ -45,11 +43,9 @@ pub fn write_names(s: &[u8], ids: &Places, n: usize, room: &mut [u8], at: usize)
     ensures { Filled (name_records s.now ids.now n) at room.old result room.new }
 {
     let mut to = at;
-    let mut k = 0;
-    while k < n {
+    for k in 0..n {
         let from = ids[2 * k];
         to = put_name(s, from, ids[2 * k + 1] - from, room, to);
-        k += 1;
     }
     to
 }

@@ -1,15 +1,12 @@
-use borrow.Author.Tests.{eq-eqb, ne_eqb}
-use lib.ListN.{length}
+use mathlib.Core.Path.{sym, ◌∙◌}
 use Rattle.depot_argument_lines.specs.Arguments.{stray_text}
 use Rattle.text.proofs.TextLaws.{wrote_none}
 use Rattle.depot_argument_lines.proofs.put_stray.Goals as goal
 
-pub returns-then-s-eq0 : goal.returns-then-s-eq0
+pub returns-then-is_empty : goal.returns-then-is_empty
 unfolding stray_text
-returns-then-s-eq0 c =
-    rw (eq-eqb (length c.args.s.now) 0 c.if-s-eq0.true) (wrote_none _ _)
+returns-then-is_empty c = rw (sym c.is_empty.ensures ∙ c.if-is_empty.true) (wrote_none _ _)
 
 pub returns : goal.returns
 unfolding stray_text
-returns c =
-    rw (ne_eqb (length c.args.s.now) 0 c.if-s-eq0.false) c.put.ensures
+returns c = rw (sym c.is_empty.ensures ∙ c.if-is_empty.false) c.put.ensures

@@ -1,10 +1,8 @@
-use borrow.Author.Tests.{eq-eqb, ne_eqb}
 use Rattle.depot_order.proofs.OrderLaws.{tells_none, tells-then}
 use Rattle.depot_order.proofs.put_turn.Goals as goal
 
-pub returns-then-end-eq0 : goal.returns-then-end-eq0
-returns-then-end-eq0 c = rw (eq-eqb _ 0 c.if-end-eq0.true) (tells_none _ _)
+pub returns-then-not-there : goal.returns-then-not-there
+returns-then-not-there c = rw c.if-not-there.true (tells_none _ _)
 
 pub returns : goal.returns
-returns c =
-    rw (ne_eqb _ 0 c.if-end-eq0.false) (tells-then c.put_one-before.ensures c.put_name.ensures)
+returns c = rw c.if-not-there.false (tells-then c.put_one-before.ensures c.put_name.ensures)

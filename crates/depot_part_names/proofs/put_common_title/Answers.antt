@@ -1,13 +1,9 @@
-use borrow.Author.Tests.{eq-eqb, ne_eqb}
-use Rattle.text.proofs.TextLaws.{wrote_none}
+use borrow.Author.Rules.{rules}
+use borrow.Author.Tests.{ne_eqb}
+use Rattle.depot_parts.specs.Parts.{list_key}
 use Rattle.depot_part_names.specs.Names.{common_title}
 use Rattle.depot_part_names.proofs.put_common_title.Goals as goal
 
-pub returns-then-key-eq-LIST_KEY : goal.returns-then-key-eq-LIST_KEY
+pub returns-in_default : goal.returns-in_default
 unfolding common_title
-returns-then-key-eq-LIST_KEY c = rw (eq-eqb _ _ c.if-key-eq-LIST_KEY.true) (wrote_none _ _)
-
-pub returns : goal.returns
-unfolding common_title
-returns c =
-    rw (ne_eqb _ _ c.if-key-eq-LIST_KEY.false) c.put.ensures
+returns-in_default c = rw (ne_eqb c.args.key list_key (search rules)) c.put.ensures

@@ -18,7 +18,7 @@ unfolding manifest_title
 returns-then-key-eq-NUMBER_KEY c =
     rw (le-ltb COMMON _ c.if-key-gt-COMMON.false, ne_eqb _ _ c.if-key-eq-COMMON.false, eq-eqb _ _ c.if-key-eq-NUMBER_KEY.true) c.put.ensures
 
-pub returns : goal.returns
+pub returns-else-key-eq-NUMBER_KEY : goal.returns-else-key-eq-NUMBER_KEY
 unfolding manifest_title
-returns c =
-    rw (le-ltb COMMON _ c.if-key-gt-COMMON.false, ne_eqb _ _ c.if-key-eq-COMMON.false, ne_eqb _ _ c.if-key-eq-NUMBER_KEY.false) c.put-2.ensures
+returns-else-key-eq-NUMBER_KEY c =
+    rw (le-ltb COMMON _ c.if-key-gt-COMMON.false, ne_eqb _ _ c.if-key-eq-COMMON.false, ne_eqb _ _ c.if-key-eq-NUMBER_KEY.false) c.put-else-key-eq-NUMBER_KEY.ensures

@@ -6,18 +6,18 @@ use Rattle.depot_report.specs.Report.{components_text}
 use Rattle.depot_report.proofs.put_components.Goals as goal
 
 pub loop-k-init : goal.loop-k-init
-loop-k-init c = (search rules, lines_none _ _ _)
+loop-k-init c = lines_none _ _ _
 
 pub put_component-to-requires : goal.put_component-to-requires
 put_component-to-requires c = omega (arith, c.least-end.ensures)
 
 pub loop-k-preserved : goal.loop-k-preserved
 loop-k-preserved c =
-    (search rules, lines_next _ _ c.loop-k.invariant.1 c.put_component-to.ensures)
+    lines_next _ _ c.loop-k.invariant c.put_component-to.ensures
 
 pub shape_of-room : goal.shape_of-room
-shape_of-room c = wrote-length c.loop-k.invariant.1
+shape_of-room c = wrote-length c.loop-k.invariant
 
 pub returns : goal.returns
 unfolding components_text
-returns c = rw (← c.least-end.ensures) (lines-all _ _ _ (search rules) (search rules) c.loop-k.invariant.1)
+returns c = rw (← c.least-end.ensures) (lines-all _ _ _ (search rules) (search rules) c.loop-k.invariant)

@@ -6,15 +6,15 @@ use Rattle.depot_report.specs.Report.{sections_text}
 use Rattle.depot_report.proofs.put_sections.Goals as goal
 
 pub loop-j-init : goal.loop-j-init
-loop-j-init c = (search rules, lines_none _ _ _)
+loop-j-init c = lines_none _ _ _
 
 pub loop-j-preserved : goal.loop-j-preserved
 loop-j-preserved c =
-    (search rules, lines_next _ _ c.loop-j.invariant.1 c.put_one_section-to.ensures)
+    lines_next _ _ c.loop-j.invariant c.put_one_section-to.ensures
 
 pub shape_of-room : goal.shape_of-room
-shape_of-room c = wrote-length c.loop-j.invariant.1
+shape_of-room c = wrote-length c.loop-j.invariant
 
 pub returns : goal.returns
 unfolding sections_text
-returns c = lines-all _ _ section_count (search rules) (search rules) c.loop-j.invariant.1
+returns c = lines-all _ _ section_count (search rules) (search rules) c.loop-j.invariant

@@ -1,11 +1,7 @@
-use Prim.Native.Nat.{◌-◌, ◌≤◌}
 use Rattle.text.specs.Text.{Wrote}
 use Rattle.depot_show.specs.Manifest.{components_text}
 use Rattle.depot_show.proofs.put_components.Given as goal
 
 -- The invariant: the components passed were written.
 abbrev pub invariant-loop-k : goal.invariant-loop-k
-invariant-loop-k l = (l.k ≤ l.n) × Wrote (components_text l.s l.ids l.k) l.at l.initial.room l.to l.room
-
-abbrev pub decreases-loop-k : goal.decreases-loop-k
-decreases-loop-k l = l.n - l.k
+invariant-loop-k l = Wrote (components_text l.s l.ids l.k) l.at l.initial.room l.to l.room

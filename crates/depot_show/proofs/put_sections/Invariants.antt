@@ -1,5 +1,3 @@
-use Prim.Native.Nat.{◌-◌, ◌≤◌}
-use Rattle.rules.specs.Limits.{section_count}
 use Rattle.text.specs.Text.{Wrote}
 use Rattle.text_pieces.specs.Pieces.{lines}
 use Rattle.depot_show.specs.Manifest.{section_at}
@@ -7,7 +5,4 @@ use Rattle.depot_show.proofs.put_sections.Given as goal
 
 -- The invariant: the sections passed were written.
 abbrev pub invariant-loop-j : goal.invariant-loop-j
-invariant-loop-j l = (l.j ≤ section_count) × Wrote (lines (section_at l.s l.sections) l.j) l.at l.initial.room l.to l.room
-
-abbrev pub decreases-loop-j : goal.decreases-loop-j
-decreases-loop-j l = section_count - l.j
+invariant-loop-j l = Wrote (lines (section_at l.s l.sections) l.j) l.at l.initial.room l.to l.room

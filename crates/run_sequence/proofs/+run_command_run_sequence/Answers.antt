@@ -1,3 +1,5 @@
+use Prim.Native.Nat.{◌-◌, ◌/◌, ◌<◌}
+use mathlib.Core.Path.{refl}
 use native.Mathlib.Omega.{arith}
 use Rattle.rules_kinds.proofs.KindTests.{runs, runs-not, tries, tries_not}
 use Rattle.run_sequence.proofs.SequenceRuns.{loop_starts, command-job, loop_rises, loop_goes_on, sequence-deep, sequence-head}
@@ -83,21 +85,21 @@ run_command-skip-requires t c =
     let o = c.open-b-in-loop-left.ensures (choice_head _ _ _ _ _ _ _ _ _ _ _ _ _ _ _ _ _ _ l more) in
     choice_rest _ _ _ _ _ _ _ _ _ _ _ _ _ _ _ _ _ _ l more _ _ o
 
-pub run_command-returns-then-end-ne-CONDITION_FAILED : goal.run_command-returns-then-end-ne-CONDITION_FAILED
-run_command-returns-then-end-ne-CONDITION_FAILED t c =
+pub run_command-returns-then-now-ne-CONDITION_FAILED : goal.run_command-returns-then-now-ne-CONDITION_FAILED
+run_command-returns-then-now-ne-CONDITION_FAILED t c =
     λ j.
     let l = c.loop-left.invariant.0 j in
     let more = c.loop-left-test.true in
     let o = c.open-b-in-loop-left.ensures (choice_head _ _ _ _ _ _ _ _ _ _ _ _ _ _ _ _ _ _ l more) in
     let rest = c.skip.ensures (choice_rest _ _ _ _ _ _ _ _ _ _ _ _ _ _ _ _ _ _ l more _ _ o) in
-    tries_end _ _ _ _ _ _ _ _ _ _ _ _ _ _ _ _ _ _ l more _ _ o _ c.run_at-from-in-loop-left.ensures _ _ _ _ c.run_sequence-now.ensures c.if-end-ne-CONDITION_FAILED.true _ rest _ c.run_at-then-end-ne-CONDITION_FAILED.ensures
+    tries_end _ _ _ _ _ _ _ _ _ _ _ _ _ _ _ _ _ _ l more _ _ o _ c.run_at-from-in-loop-left.ensures _ _ _ _ c.run_sequence-now.ensures c.if-now-ne-CONDITION_FAILED.true _ rest _ c.run_at-then-now-ne-CONDITION_FAILED.ensures
 
 pub run_command-loop-left-preserved : goal.run_command-loop-left-preserved
 run_command-loop-left-preserved t c =
     let more = c.loop-left-test.true in (
       λ j.
           let o = c.open-b-in-loop-left.ensures (choice_head _ _ _ _ _ _ _ _ _ _ _ _ _ _ _ _ _ _ (c.loop-left.invariant.0 j) more) in
-          tries_on _ _ _ _ _ _ _ _ _ _ _ _ _ _ _ _ _ _ (c.loop-left.invariant.0 j) more _ _ o _ c.run_at-from-in-loop-left.ensures _ _ _ _ c.run_sequence-now.ensures c.if-end-ne-CONDITION_FAILED.false,
+          tries_on _ _ _ _ _ _ _ _ _ _ _ _ _ _ _ _ _ _ (c.loop-left.invariant.0 j) more _ _ o _ c.run_at-from-in-loop-left.ensures _ _ _ _ c.run_sequence-now.ensures c.if-now-ne-CONDITION_FAILED.false,
       λ j.
           let o = c.open-b-in-loop-left.ensures (choice_head _ _ _ _ _ _ _ _ _ _ _ _ _ _ _ _ _ _ (c.loop-left.invariant.0 j) more) in
           omega (arith, c.loop-left.invariant.1 j, choice_later _ _ _ _ _ _ _ _ _ _ _ _ _ _ _ _ _ _ (c.loop-left.invariant.0 j) more _ _ o),
@@ -126,9 +128,9 @@ pub run_sequence-open-h-requires : goal.run_sequence-open-h-requires
 run_sequence-open-h-requires t c =
     sequence-head _ _ _ _ _ _ _ _ _ c.requires
 
-pub run_sequence-loop-left-init : goal.run_sequence-loop-left-init
-run_sequence-loop-left-init t c =
-    (loop_starts _ _ _ _ _ _ _ _ _ _ _, λ x. omega arith)
+pub run_sequence-loop-init : goal.run_sequence-loop-init
+run_sequence-loop-init t c =
+    (loop_starts _ _ _ _ _ _ _ _ _ _ _ _ refl, λ x. omega arith)
 
 pub run_sequence-overflow_sub-level : goal.run_sequence-overflow_sub-level
 run_sequence-overflow_sub-level t c =
@@ -138,25 +140,26 @@ pub run_sequence-run_command-now-requires : goal.run_sequence-run_command-now-re
 run_sequence-run_command-now-requires t c =
     let o = c.open-h.ensures (sequence-head _ _ _ _ _ _ _ _ _ c.requires) in
     let x = commands-job _ _ _ _ _ _ _ _ _ c.requires _ _ o _ in
-    (command_falls _ _ _ _ _ _ _ _ _ c.requires _ _ o _ c.decreases _ (c.loop-left.invariant.1 x), command-job _ _ _ _ _ _ _ _ _ _ _ _ _ _ (c.loop-left.invariant.0 x) c.loop-left-test.true)
+    let more : 0 < c.open-h.result.value / 2 - c.loop.counter = omega (arith, c.loop-test.true) in
+    (command_falls _ _ _ _ _ _ _ _ _ c.requires _ _ o _ c.decreases _ (c.loop.invariant.1 x), command-job _ _ _ _ _ _ _ _ _ _ _ _ _ _ (c.loop.invariant.0 x) more)
 
-pub run_sequence-returns-then-end-ne-FINISHED : goal.run_sequence-returns-then-end-ne-FINISHED
-run_sequence-returns-then-end-ne-FINISHED t c =
+pub run_sequence-returns-then-now-ne-FINISHED : goal.run_sequence-returns-then-now-ne-FINISHED
+run_sequence-returns-then-now-ne-FINISHED t c =
     λ j.
     let x = commands-job _ _ _ _ _ _ _ _ _ j _ _ (c.open-h.ensures (sequence-head _ _ _ _ _ _ _ _ _ j)) _ in
-    let l = c.loop-left.invariant.0 x in
-    let more = c.loop-left-test.true in
-    rw c.caught.ensures (sequence-stopped _ _ _ _ _ _ _ _ _ _ _ _ _ _ _ _ _ l more _ _ _ _ (c.run_command-now.ensures (command-job _ _ _ _ _ _ _ _ _ _ _ _ _ _ l more)) c.if-end-ne-FINISHED.true)
+    let l = c.loop.invariant.0 x in
+    let more : 0 < c.open-h.result.value / 2 - c.loop.counter = omega (arith, c.loop-test.true) in
+    rw c.caught.ensures (sequence-stopped _ _ _ _ _ _ _ _ _ _ _ _ _ _ _ _ _ l more _ _ _ _ (c.run_command-now.ensures (command-job _ _ _ _ _ _ _ _ _ _ _ _ _ _ l more)) c.if-now-ne-FINISHED.true)
 
-pub run_sequence-loop-left-preserved : goal.run_sequence-loop-left-preserved
-run_sequence-loop-left-preserved t c =
-    let more = c.loop-left-test.true in (
-      λ x. loop_goes_on _ _ _ _ _ _ _ _ _ _ _ _ _ _ (c.loop-left.invariant.0 x) more _ _ _ _ (c.run_command-now.ensures (command-job _ _ _ _ _ _ _ _ _ _ _ _ _ _ (c.loop-left.invariant.0 x) more)) c.if-end-ne-FINISHED.false,
-      λ x. omega (arith, c.loop-left.invariant.1 x, loop_rises _ _ _ _ _ _ _ _ _ _ _ _ _ _ (c.loop-left.invariant.0 x) more _ _ _ _ (c.run_command-now.ensures (command-job _ _ _ _ _ _ _ _ _ _ _ _ _ _ (c.loop-left.invariant.0 x) more)) c.if-end-ne-FINISHED.false),
+pub run_sequence-loop-preserved : goal.run_sequence-loop-preserved
+run_sequence-loop-preserved t c =
+    let more : 0 < c.open-h.result.value / 2 - c.loop.counter = omega (arith, c.loop-test.true) in (
+      λ x. loop_goes_on _ _ _ _ _ _ _ _ _ _ _ _ _ _ (c.loop.invariant.0 x) more _ _ _ _ (c.run_command-now.ensures (command-job _ _ _ _ _ _ _ _ _ _ _ _ _ _ (c.loop.invariant.0 x) more)) c.if-now-ne-FINISHED.false _ (omega arith),
+      λ x. omega (arith, c.loop.invariant.1 x, loop_rises _ _ _ _ _ _ _ _ _ _ _ _ _ _ (c.loop.invariant.0 x) more _ _ _ _ (c.run_command-now.ensures (command-job _ _ _ _ _ _ _ _ _ _ _ _ _ _ (c.loop.invariant.0 x) more)) c.if-now-ne-FINISHED.false),
     )
 
 pub run_sequence-returns : goal.run_sequence-returns
 run_sequence-returns t c =
     λ j.
     let x = commands-job _ _ _ _ _ _ _ _ _ j _ _ (c.open-h.ensures (sequence-head _ _ _ _ _ _ _ _ _ j)) _ in
-    rw c.ended.ensures (sequence-done _ _ _ _ _ _ _ _ _ _ _ _ _ _ _ _ _ (c.loop-left.invariant.0 x) (omega (arith, c.loop-left-test.false)))
+    rw c.ended.ensures (sequence-done _ _ _ _ _ _ _ _ _ _ _ _ _ _ _ _ _ (c.loop.invariant.0 x) (omega (arith, c.loop-test.false)))

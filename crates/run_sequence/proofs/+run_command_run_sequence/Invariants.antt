@@ -23,16 +23,10 @@ invariant-run_command-loop-left l =
     (run_cmd j.ready.env j.place.cmd l.run.index (state_of l.s (length j.ready.env.ids) l.fn.memory l.fn.slots l.fn.trace l.run)) l.slots l.memory l.trace l.p l.left l.now)
     × ((j : CommandJob l.s l.depth l.run l.vendor l.class l.answers l.fn.slots l.fn.memory l.fn.trace) → l.initial.p ≤ l.p)
 
-abbrev pub decreases-run_command-loop-left : goal.decreases-run_command-loop-left
-decreases-run_command-loop-left l = l.left
-
-abbrev pub invariant-run_sequence-loop-left : goal.invariant-run_sequence-loop-left
-invariant-run_sequence-loop-left l =
-    ((x : CommandsJob l.s (l.level.depth - 1) l.initial.left l.initial.now l.vendor l.class l.answers l.fn.slots l.fn.memory l.fn.trace) →
+abbrev pub invariant-run_sequence-loop : goal.invariant-run_sequence-loop
+invariant-run_sequence-loop l =
+    ((x : CommandsJob l.s (l.level.depth - 1) l.commands l.initial.now l.vendor l.class l.answers l.fn.slots l.fn.memory l.fn.trace) →
     Loop l.s l.vendor l.class l.fn.memory l.answers (l.level.depth - 1) l.level.coercible x.ready.env
     (run_seq x.ready.env x.place.cmds l.level.coercible l.initial.now.index (is_true l.initial.now.coerce) (state_of l.s (length x.ready.env.ids) l.fn.memory l.fn.slots l.fn.trace l.initial.now))
-    l.slots l.memory l.trace l.left l.now)
-    × ((x : CommandsJob l.s (l.level.depth - 1) l.initial.left l.initial.now l.vendor l.class l.answers l.fn.slots l.fn.memory l.fn.trace) → l.initial.now.next ≤ l.now.next)
-
-abbrev pub decreases-run_sequence-loop-left : goal.decreases-run_sequence-loop-left
-decreases-run_sequence-loop-left l = l.left
+    l.slots l.memory l.trace (l.commands - l.counter) l.now)
+    × ((x : CommandsJob l.s (l.level.depth - 1) l.commands l.initial.now l.vendor l.class l.answers l.fn.slots l.fn.memory l.fn.trace) → l.initial.now.next ≤ l.now.next)

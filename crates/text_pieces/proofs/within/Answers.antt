@@ -15,4 +15,4 @@ returns-then-to-from c = (
 
 pub returns : goal.returns
 returns c =
-    (omega arith, omega arith, between-least c.args.s.now c.args.from c.args.to c.min.result c.min.ensures)
+    (omega arith, omega arith, between-least c.args.s.now c.args.from c.args.to c.min-to.result c.min-to.ensures)

@@ -1,25 +1,25 @@
 use mathlib.Core.Path.{refl}
 use native.Mathlib.Omega.{arith}
 use borrow.Author.Rules.{rules}
-use Rattle.translate_plan.proofs.PlanLaws.{writing_starts, writing_done, writing_job, writing_on}
+use lib.Seq.{length-take-le}
+use Rattle.translate_plan.proofs.PlanLaws.{walked, writing_starts, writing_done, writing_job, writing_on}
 use Rattle.translate_plan.proofs.write_plan.Goals as goal
 
-pub loop-k-init : goal.loop-k-init
-loop-k-init c = (refl, λ j. writing_starts _ _ _ _ _ _ j)
-
-pub offset_bounds-starts-k : goal.offset_bounds-starts-k
-offset_bounds-starts-k c = omega (arith, c.requires.here.left.inside)
-
-pub bounds-starts-k : goal.bounds-starts-k
-bounds-starts-k c = omega (arith, c.requires.here.left.inside)
+pub loop-start-init : goal.loop-start-init
+loop-start-init c = (refl, λ j. writing_starts _ _ _ _ _ _ j)
 
 pub write_sequence-r-requires : goal.write_sequence-r-requires
 write_sequence-r-requires c =
-    writing_job _ _ _ _ _ _ c.requires _ _ _ _ (c.loop-k.invariant.1 c.requires) c.loop-k-test.true
+    let (l, e) = walked c.args.starts.now c.args.total _ (omega (arith, c.requires.here.left.inside)) c.loop-start-test.true in
+    rw e (writing_job _ _ _ _ _ _ c.requires _ _ _ _ (c.loop-start.invariant.1 c.requires) l)
 
-pub loop-k-preserved : goal.loop-k-preserved
-loop-k-preserved c =
-    (search rules, λ j. writing_on _ _ _ _ _ _ j _ _ _ _ (c.loop-k.invariant.1 j) c.loop-k-test.true _ _ c.write_sequence-r.ensures)
+pub loop-start-preserved : goal.loop-start-preserved
+loop-start-preserved c =
+    let (l, e) = walked c.args.starts.now c.args.total _ (omega (arith, c.requires.here.left.inside)) c.loop-start-test.true in
+    let r = rw e at c.write_sequence-r.ensures in
+    (search rules, λ j. writing_on _ _ _ _ _ _ j _ _ _ _ (c.loop-start.invariant.1 j) l _ _ r)
 
 pub returns : goal.returns
-returns c j = writing_done _ _ _ _ _ _ j _ _ _ _ (c.loop-k.invariant.1 j) c.loop-k-test.false
+returns c j =
+    writing_done _ _ _ _ _ _ j _ _ _ _ (c.loop-start.invariant.1 j)
+    (omega (arith, length-take-le c.args.total c.args.starts.now (omega (arith, c.requires.here.left.inside))))

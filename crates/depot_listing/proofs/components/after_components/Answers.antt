@@ -1,20 +1,22 @@
+use mathlib.Core.Path.{refl, sym}
+use Rattle.depot_argument_lines.proofs.ItemLaws.{sized_none, sized-some, sized_positive}
 use Rattle.depot_listing.specs.Listing.{after_components}
 use Rattle.depot_listing.proofs.ListingLaws.{following_start, following_more, following_missing, following_end}
 use Rattle.depot_listing.proofs.components.after_components.Goals as goal
 
-pub loop-n-init : goal.loop-n-init
-loop-n-init c = following_start _ _ _
+pub loop-init : goal.loop-init
+loop-init c = following_start _ _ _
 
-pub returns-then-size-eq0 : goal.returns-then-size-eq0
+pub returns-in_default : goal.returns-in_default
 unfolding after_components
-returns-then-size-eq0 c =
-    following_missing c.loop-n.invariant c.loop-n-test.true c.size_of-size.ensures.0 c.if-size-eq0.true
+returns-in_default c =
+    following_missing c.loop.invariant c.loop-test.true (sym (sized_none _ c.in_default.ensures.size)) refl
 
-pub loop-n-preserved : goal.loop-n-preserved
-loop-n-preserved c =
-    following_more c.loop-n.invariant c.loop-n-test.true c.size_of-size.ensures.0 c.if-size-eq0.false
+pub loop-preserved : goal.loop-preserved
+loop-preserved c =
+    following_more c.loop.invariant c.loop-test.true (sized-some _ _ c.in-Some.ensures.size) (sized_positive _ _ c.in-Some.ensures.size)
 
 pub returns : goal.returns
 unfolding after_components
 returns c =
-    following_end c.loop-n.invariant c.loop-n-test.false
+    following_end c.loop.invariant c.loop-test.false

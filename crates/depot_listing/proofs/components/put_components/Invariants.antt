@@ -1,4 +1,3 @@
-use Prim.Native.Nat.{◌-◌}
 use Rattle.depot_listing.specs.Listing.{component_size, component_text}
 use Rattle.depot_record_lines.specs.Lines.{missing_text}
 use Rattle.depot_argument_lines.proofs.ItemLaws.{Going}
@@ -6,6 +5,3 @@ use Rattle.depot_listing.proofs.components.put_components.Given as goal
 
 abbrev pub invariant-loop-n : goal.invariant-loop-n
 invariant-loop-n l = Going component_size component_text missing_text l.count l.s l.at l.initial.room l.n l.rest l.to l.room
-
-abbrev pub decreases-loop-n : goal.decreases-loop-n
-decreases-loop-n l = l.count - l.n

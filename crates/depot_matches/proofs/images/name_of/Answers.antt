@@ -1,48 +1,53 @@
-use Prim.Native.Nat.{◌+◌, ◌-◌}
-use mathlib.Core.Path.{◌≡◌, sym, ◌∙◌}
+use Prim.Native.Nat.{ℕ, ◌+◌, ◌-◌}
+use mathlib.Core.Path.{◌≡◌, ◌∙◌}
 use lib.ListN.{length, get_or}
 use native.Mathlib.Omega.{arith}
 use borrow.Author.Tests.{lt-ltb, le-ltb, eq-eqb, ne_eqb}
+use Rattle.std.specs.Prelude.{Some}
+use Rattle.rules.specs.Bytes.{Bytes}
 use Rattle.rules.specs.ProgramFormat.{start_size, length_from, name_size}
 use Rattle.rules.proofs.BytesLaws.{part-rest}
-use Rattle.depot_argument_lines.proofs.ItemLaws.{size_lies}
+use Rattle.depot_argument_lines.specs.Items.{sized}
+use Rattle.depot_argument_lines.proofs.ItemLaws.{size_lies, size-whole, sized_none, sized-some, sized_positive}
 use Rattle.depot_listing.specs.Listing.{component_size}
 use Rattle.depot_matches.specs.Images.{name_of}
 use Rattle.depot_matches.proofs.images.name_of.Goals as goal
+
+component-end : (end : ℕ) (s : Bytes) → Some end ≡ sized (component_size s) → end ≡ name_size + get_or s length_from 0
+unfolding component_size
+component-end end s e =
+    sized-some _ _ e ∙ size-whole s name_size (get_or s length_from 0) (size_lies s name_size (get_or s length_from 0) (sized-some _ _ e) (sized_positive _ _ e))
 
 pub returns-then-p-lt-START_BYTES : goal.returns-then-p-lt-START_BYTES
 unfolding name_of
 returns-then-p-lt-START_BYTES c =
     rw (lt-ltb (length c.args.p.now) start_size c.if-p-lt-START_BYTES.true)
 
-pub returns-then-size_of-eq0 : goal.returns-then-size_of-eq0
+pub returns-in_default : goal.returns-in_default
 unfolding name_of
-returns-then-size_of-eq0 c =
+returns-in_default c =
     rw (
       le-ltb (length c.args.p.now) start_size c.if-p-lt-START_BYTES.false,
       ← part-rest c.args.p.now start_size,
       ← c.after_components-s.ensures,
-      eq-eqb _ 0 (sym c.size_of.ensures.0 ∙ c.if-size_of-eq0.true),
+      eq-eqb _ 0 (sized_none _ c.in_default.ensures.size),
     )
 
-pub bounds-s-3 : goal.bounds-s-3
-unfolding component_size
-bounds-s-3 c =
-    omega (arith, size_lies c.after_components-s.result.now name_size (get_or c.after_components-s.result.now length_from 0) c.size_of.ensures.0 c.if-size_of-eq0.false)
+pub slice_bounds-result-count-2 : goal.slice_bounds-result-count-2
+slice_bounds-result-count-2 c = omega (arith, component-end _ _ c.in-Some.ensures.size)
 
-pub slice_bounds-result-end-2 : goal.slice_bounds-result-end-2
-unfolding component_size
-slice_bounds-result-end-2 c =
-    omega (arith, size_lies c.after_components-s.result.now name_size (get_or c.after_components-s.result.now length_from 0) c.size_of.ensures.0 c.if-size_of-eq0.false, c.wide-end.ensures.0)
+pub slice_bounds-result-start-2 : goal.slice_bounds-result-start-2
+slice_bounds-result-start-2 c = omega (arith, component-end _ _ c.in-Some.ensures.size)
 
 pub returns : goal.returns
 unfolding name_of
 returns c =
-    let e : name_size + c.wide-end.result - name_size ≡ get_or c.after_components-s.result.now length_from 0 = omega (arith, c.wide-end.ensures.0) in
+    let s = c.after_components-s.result.now in
+    let e : c.in-Some.end - name_size ≡ get_or s length_from 0 = omega (arith, component-end _ _ c.in-Some.ensures.size) in
     rw (
       le-ltb (length c.args.p.now) start_size c.if-p-lt-START_BYTES.false,
       ← part-rest c.args.p.now start_size,
       ← c.after_components-s.ensures,
-      ne_eqb _ 0 (λ y. c.if-size_of-eq0.false (c.size_of.ensures.0 ∙ y)),
+      ne_eqb _ 0 (λ y. sized_positive _ _ c.in-Some.ensures.size (sized-some _ _ c.in-Some.ensures.size ∙ y)),
       e,
     )

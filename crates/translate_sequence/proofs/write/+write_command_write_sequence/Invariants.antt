@@ -1,5 +1,5 @@
 -- Remaining depth and bytes fall: a sequence's commands are one less deep, and a command's sequences stand after it.
-use Prim.Native.Nat.{◌-◌}
+use Prim.Native.Nat.{◌+◌, ◌-◌}
 use lib.ListN.{length}
 use mathlib.Core.Path.{◌≡◌}
 use Rattle.rules.specs.Program.{flat_seq}
@@ -16,17 +16,11 @@ decreases-write_command l = remaining l.s.now l.depth l.state.next
 abbrev pub decreases-write_sequence : goal.decreases-write_sequence
 decreases-write_sequence l = remaining l.s.now l.depth l.state.next
 
-abbrev pub invariant-write_command-loop-left : goal.invariant-write_command-loop-left
-invariant-write_command-loop-left l =
-    (length l.room ≡ length l.initial.room) × ((j : CommandJob l.s l.table l.depth l.state l.initial.room) → AltsLoop l.s l.table l.depth j.n j.place.cmd j.place.to l.target l.state l.initial.room l.z l.room l.left l.now)
+abbrev pub invariant-write_command-loop : goal.invariant-write_command-loop
+invariant-write_command-loop l =
+    (length l.room ≡ length l.initial.room) × ((j : CommandJob l.s l.table l.depth l.state l.initial.room) → AltsLoop l.s l.table l.depth j.n j.place.cmd j.place.to l.target l.state l.initial.room l.z l.room (l.end + 1 - l.counter) l.now)
 
-abbrev pub decreases-write_command-loop-left : goal.decreases-write_command-loop-left
-decreases-write_command-loop-left l = l.left
-
-abbrev pub invariant-write_sequence-loop-left : goal.invariant-write_sequence-loop-left
-invariant-write_sequence-loop-left l =
-    (length l.room ≡ length l.initial.room) × ((x : CommandsJob l.s l.table (l.depth - 1) l.initial.left l.initial.now l.initial.room) →
-    Loop l.s l.table (l.depth - 1) l.coercible l.target l.beyond x.n x.place.to (flat_seq x.place.cmds l.coercible l.initial.now.index (is_true l.initial.now.coerce) l.target l.beyond l.initial.now.n) l.initial.now l.initial.room l.room l.left l.now)
-
-abbrev pub decreases-write_sequence-loop-left : goal.decreases-write_sequence-loop-left
-decreases-write_sequence-loop-left l = l.left
+abbrev pub invariant-write_sequence-loop : goal.invariant-write_sequence-loop
+invariant-write_sequence-loop l =
+    (length l.room ≡ length l.initial.room) × ((x : CommandsJob l.s l.table (l.depth - 1) l.end l.initial.now l.initial.room) →
+    Loop l.s l.table (l.depth - 1) l.coercible l.target l.beyond x.n x.place.to (flat_seq x.place.cmds l.coercible l.initial.now.index (is_true l.initial.now.coerce) l.target l.beyond l.initial.now.n) l.initial.now l.initial.room l.room (l.end - l.counter) l.now)

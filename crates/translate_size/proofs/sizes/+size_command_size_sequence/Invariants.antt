@@ -12,14 +12,8 @@ decreases-size_command l = remaining l.s.now l.depth l.at
 abbrev pub decreases-size_sequence : goal.decreases-size_sequence
 decreases-size_sequence l = remaining l.s.now l.depth l.at
 
-abbrev pub invariant-size_command-loop-left : goal.invariant-size_command-loop-left
-invariant-size_command-loop-left l = (j : CommandHere l.s l.table l.depth l.at) → Choices l.s l.table l.depth l.at j.place.cmd j.place.to l.left l.now
+abbrev pub invariant-size_command-loop : goal.invariant-size_command-loop
+invariant-size_command-loop l = (j : CommandHere l.s l.table l.depth l.at) → Choices l.s l.table l.depth l.at j.place.cmd j.place.to (l.end - l.counter) l.now
 
-abbrev pub decreases-size_command-loop-left : goal.decreases-size_command-loop-left
-decreases-size_command-loop-left l = l.left
-
-abbrev pub invariant-size_sequence-loop-left : goal.invariant-size_sequence-loop-left
-invariant-size_sequence-loop-left l = (j : SequenceHere l.s l.table l.depth l.at) → Commands l.s l.table (l.depth - 1) l.at j.place.seq j.place.to l.left l.now
-
-abbrev pub decreases-size_sequence-loop-left : goal.decreases-size_sequence-loop-left
-decreases-size_sequence-loop-left l = l.left
+abbrev pub invariant-size_sequence-loop : goal.invariant-size_sequence-loop
+invariant-size_sequence-loop l = (j : SequenceHere l.s l.table l.depth l.at) → Commands l.s l.table (l.depth - 1) l.at j.place.seq j.place.to (l.end - l.counter) l.now

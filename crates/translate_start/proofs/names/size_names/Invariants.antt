@@ -1,4 +1,4 @@
-use Prim.Native.Nat.{◌+◌, ◌-◌, ◌*◌, ◌≤◌}
+use Prim.Native.Nat.{◌+◌, ◌*◌, ◌≤◌}
 use mathlib.Core.Path.{◌≡◌}
 use lib.ListN.{length}
 use Rattle.rules.specs.Limits.{limits}
@@ -9,7 +9,4 @@ use Rattle.translate_start.proofs.names.size_names.Given as goal
 
 abbrev pub invariant-loop-k : goal.invariant-loop-k
 invariant-loop-k l =
-    (l.k ≤ l.n) × (l.sum ≤ (name_size + limits.envelope) * l.k) × ((s : Bytes) → InBytes l.ids l.n (length s) → l.sum + length (names_left s l.ids l.n l.k) ≡ length (named s l.ids l.n))
-
-abbrev pub decreases-loop-k : goal.decreases-loop-k
-decreases-loop-k l = l.n - l.k
+    (l.sum ≤ (name_size + limits.envelope) * l.k) × ((s : Bytes) → InBytes l.ids l.n (length s) → l.sum + length (names_left s l.ids l.n l.k) ≡ length (named s l.ids l.n))

@@ -9,24 +9,23 @@ use Rattle.translate_start.proofs.names.write_names.Goals as goal
 pub loop-k-init : goal.loop-k-init
 loop-k-init c =
     let e = names-all c.args.s.now c.args.ids.now c.args.n in
-    (omega arith, refl, ap (put c.args.room.now c.args.at) e, omega (arith, ap length e))
+    (refl, ap (put c.args.room.now c.args.at) e, omega (arith, ap length e))
 
 pub overflow_sub-ids : goal.overflow_sub-ids
 overflow_sub-ids c = omega (arith, c.requires.1 _ c.loop-k-test.true)
 
 pub put_name-to-requires : goal.put_name-to-requires
 put_name-to-requires c =
-    (omega (arith, c.requires.1 c.loop-k.k c.loop-k-test.true), c.requires.2 c.loop-k.k c.loop-k-test.true, omega (arith, c.requires.1 c.loop-k.k c.loop-k-test.true, c.requires.3, left-size c.args.s.now c.args.ids.now c.args.n c.loop-k.k c.loop-k-test.true c.requires.1, c.loop-k.invariant.1, c.loop-k.invariant.3))
+    (omega (arith, c.requires.1 c.loop-k.k c.loop-k-test.true), c.requires.2 c.loop-k.k c.loop-k-test.true, omega (arith, c.requires.1 c.loop-k.k c.loop-k-test.true, c.requires.3, left-size c.args.s.now c.args.ids.now c.args.n c.loop-k.k c.loop-k-test.true c.requires.1, c.loop-k.invariant.0, c.loop-k.invariant.2))
 
 pub loop-k-preserved : goal.loop-k-preserved
 loop-k-preserved c = (
-  omega arith,
   search rules,
-  c.loop-k.invariant.2 ∙ left-put _ _ _ _ c.loop-k-test.true c.requires.1 _ _ _ _ c.put_name-to.ensures,
-  left-next _ _ _ _ c.loop-k-test.true c.requires.1 _ _ _ _ c.put_name-to.ensures ∙ c.loop-k.invariant.3,
+  c.loop-k.invariant.1 ∙ left-put _ _ _ _ c.loop-k-test.true c.requires.1 _ _ _ _ c.put_name-to.ensures,
+  left-next _ _ _ _ c.loop-k-test.true c.requires.1 _ _ _ _ c.put_name-to.ensures ∙ c.loop-k.invariant.2,
 )
 
 pub returns : goal.returns
 returns c =
     let e = names-none c.args.s.now c.args.ids.now c.args.n _ c.loop-k-test.false in
-    record { filled = sym (c.loop-k.invariant.2 ∙ ap (put _ _) e); next = omega (arith, c.loop-k.invariant.3, ap length e) }
+    record { filled = sym (c.loop-k.invariant.1 ∙ ap (put _ _) e); next = omega (arith, c.loop-k.invariant.2, ap length e) }

@@ -1,4 +1,4 @@
-use Prim.Native.Nat.{◌+◌, ◌-◌, ◌≤◌}
+use Prim.Native.Nat.{◌+◌}
 use mathlib.Core.Path.{◌≡◌}
 use lib.ListN.{length}
 use Rattle.rules.specs.Bytes.{put}
@@ -7,7 +7,4 @@ use Rattle.translate_start.proofs.names.write_names.Given as goal
 
 abbrev pub invariant-loop-k : goal.invariant-loop-k
 invariant-loop-k l =
-    (l.k ≤ l.n) × (length l.room ≡ length l.initial.room) × (put l.initial.room l.at (named l.s l.ids l.n) ≡ put l.room l.to (names_left l.s l.ids l.n l.k)) × (l.to + length (names_left l.s l.ids l.n l.k) ≡ l.at + length (named l.s l.ids l.n))
-
-abbrev pub decreases-loop-k : goal.decreases-loop-k
-decreases-loop-k l = l.n - l.k
+    (length l.room ≡ length l.initial.room) × (put l.initial.room l.at (named l.s l.ids l.n) ≡ put l.room l.to (names_left l.s l.ids l.n l.k)) × (l.to + length (names_left l.s l.ids l.n l.k) ≡ l.at + length (named l.s l.ids l.n))
