@@ -4,7 +4,8 @@ use mathlib.Core.Path.{◌≡◌, refl, sym, ap, ◌∙◌}
 use mathlib.Core.List.{List}
 use native.Mathlib.Omega.{arith}
 use lib.ListN.{length, get_or, replicate, length-map}
-use Rattle.rules.specs.declared.answers.Refusal.{Refusal}
+use Rattle.std.specs.Prelude.{Ok, Err}
+use Rattle.rules.specs.declared.answers.Fault.{Fault}
 use Rattle.rules.specs.Limits.{limits, places}
 use Rattle.rules.specs.Bytes.{Bytes, span, bytes_at, span_at, InBytes}
 use Rattle.rules.specs.Got.{Got, refused, got}
@@ -13,11 +14,8 @@ use Rattle.rules.specs.Check.{common_weight, components, check}
 use Rattle.rules.proofs.CheckLaws.{in_bytes_law}
 use Rattle.rules.proofs.ManifestParts.{common_parts, common_in_lem, manifest_parts, held}
 use Rattle.rules_theorems.proofs.ManifestLaws.{Sound, sound}
-use Rattle.check_envelope.specs.declared.report.Checked.{Checked}
-use Rattle.check_envelope.specs.declared.report.Checked.TheVariants as The
 use Rattle.check_envelope.specs.declared.report.Report.{Report}
-use Rattle.check_envelope.specs.Report.{report_of}
-use Rattle.check_envelope.proofs.EnvelopeLaws.{differ}
+use Rattle.check_envelope.specs.Report.{report, report_of}
 use Rattle.component_ids.specs.Identifiers.{laid}
 use Rattle.component_ids.proofs.IdentifierLaws.{span-laid, ids-inside}
 use Rattle.run_slot_search.specs.Search.{names_at}
@@ -57,29 +55,26 @@ module _ (s : Bytes) (number n : ℕ) (ids sections : List ℕ) (a : Accepted s 
   named = ap (names_at s ids) a.count ∙ names-laid s a.manifest.ids ids spans
 
 -- what check reported
-module _ (s : Bytes) (r : Report) (e : r ≡ report_of (check s)) where
-  pub accepted : r.answer ≡ The.Accepted → Accepted s r.number r.components r.ids r.sections
-  accepted h = go (check s) refl e
+module _ (s : Bytes) where
+  pub accepted : (r : Report) → Ok r ≡ report_of (check s) → Accepted s r.number r.components r.ids r.sections
+  accepted r e = go (check s) refl e
     where
-      go : (y : Got Manifest) → check s ≡ y → r ≡ report_of y → Accepted s r.number r.components r.ids r.sections
-      go (refused k p) q u = absurd (differ k p (ap (λ (z : Report). z.answer) (sym u) ∙ h))
+      go : (y : Got Manifest) → check s ≡ y → Ok r ≡ report_of y → Accepted s r.number r.components r.ids r.sections
+      go (refused k p) q u = absurd cc
       go (got m) q u =
+          let g : r ≡ report m = cc in
           record {
             manifest = m;
             checks = q;
-            numbered = ap (λ (z : Report). z.number) u;
-            count = ap (λ (z : Report). z.components) u;
-            names = ap (λ (z : Report). z.ids) u;
-            places = ap (λ (z : Report). z.sections) u;
+            numbered = ap (λ (z : Report). z.number) g;
+            count = ap (λ (z : Report). z.components) g;
+            names = ap (λ (z : Report). z.ids) g;
+            places = ap (λ (z : Report). z.sections) g;
           }
 
-  pub refused-by : (k : Refusal) (p : ℕ) → r.answer ≡ The.Refused k p → check s ≡ refused k p
-  refused-by k p h = go (check s) e
+  pub refused-by : (d : Fault) → Err d ≡ report_of (check s) → check s ≡ refused d.refusal d.at
+  refused-by d e = go (check s) e
     where
-      go : (y : Got Manifest) → r ≡ report_of y → y ≡ refused k p
-      go (refused k' p') u =
-          let f : ◌≡◌ {A = Checked} (The.Refused k' p') (The.Refused k p) = ap (λ (z : Report). z.answer) (sym u) ∙ h in
-          let a : k' ≡ k = cc in
-          let b : p' ≡ p = cc in
-          rw (a, b)
-      go (got m) u = absurd (differ k p (sym h ∙ ap (λ (z : Report). z.answer) u))
+      go : (y : Got Manifest) → Err d ≡ report_of y → y ≡ refused d.refusal d.at
+      go (refused k p) u = let g : d ≡ record { refusal = k; at = p } = cc in rw g
+      go (got m) u = absurd cc

@@ -11,10 +11,13 @@ use Rattle.rules.specs.Manifest.{Manifest}
 use Rattle.rules.specs.Newer.{Newer, in_first, in_second}
 use Rattle.rules.specs.Run.{Ran}
 use Rattle.rules.specs.Program.{Program}
-use Rattle.check_newer.specs.declared.Newest.{Newest}
+use Rattle.std.specs.Prelude.{Result}
+use Rattle.rules.specs.declared.answers.Fault.{Fault}
+use Rattle.check_newer.specs.declared.Newest.TheVariants.{First, Second}
+use Rattle.check_envelope.specs.declared.report.Place.{Place}
 use Rattle.check_envelope.specs.declared.report.Report.{Report}
 use Rattle.check_newer.specs.Newer.{newest_of}
-use Rattle.check_envelope.specs.Report.{report_of}
+use Rattle.check_envelope.specs.Report.{place, report_of}
 use Rattle.run_ending.specs.declared.Outcome.{Outcome}
 use Rattle.run_ending.specs.Answer.{outcome_of}
 use Rattle.program_test.specs.declared.test.Tested.{Tested}
@@ -31,13 +34,17 @@ use Rattle.pitvorgas_check_answer.specs.Answer as C
 use Rattle.pitvorgas_run_answer.specs.Answer as R
 use Rattle.pitvorgas.specs.Answers.{checked_of, newer_of, translated_of, room_after, ran_of}
 
-pub checked-answer : (g : Got Manifest) (r : Report) (a : CheckAnswer) → r ≡ report_of g → a ≡ C.answer_of r → a ≡ checked_of g
+pub checked-answer : (g : Got Manifest) (r : Result Report Fault) (a : CheckAnswer) → r ≡ report_of g → a ≡ C.answer_of r → a ≡ checked_of g
 checked-answer (refused k p) r a e h = h ∙ ap C.answer_of e
 checked-answer (got m) r a e h = h ∙ ap C.answer_of e
 
-pub newer-answer : (g : Newer) (r : Newest) → r ≡ newest_of g → ◌≡◌ {A = NewerAnswer} (record { second = r.second; from = r.from; to = r.to }) (newer_of g)
-newer-answer (in_first p) r e = rw e refl
-newer-answer (in_second p) r e = rw e refl
+pub in_first-answer : (g : Newer) (p : Place) → First p ≡ newest_of g → ◌≡◌ {A = NewerAnswer} (record { second = 0; from = p.from; to = p.to }) (newer_of g)
+in_first-answer (in_first q) p e = let h : p ≡ place q = cc in rw h refl
+in_first-answer (in_second q) p e = absurd cc
+
+pub in_second-answer : (g : Newer) (p : Place) → Second p ≡ newest_of g → ◌≡◌ {A = NewerAnswer} (record { second = 1; from = p.from; to = p.to }) (newer_of g)
+in_second-answer (in_first q) p e = absurd cc
+in_second-answer (in_second q) p e = let h : p ≡ place q = cc in rw h refl
 
 pub tested-answer : (p : Bytes) (g : Got Program) (t : Tested) → TestedAs p g t → t.good ≡ accepted g
 tested-answer p (refused k q) t e = ap (λ (x : Tested). x.good) e

@@ -14,7 +14,7 @@ ghost use Rattle.pitvorgas_answers.specs.Inputs.{group_of};
 ghost use Rattle.pitvorgas.specs.Answers.{checked_of, newer_of, Translation, given, Answers};
 
 use check_envelope::check;
-use check_newer::choose;
+use check_newer::{Newest, choose};
 use pitvorgas_answers::{
     CheckAnswer, Device, NewerAnswer, RunAnswer, TranslateAnswer, controller_of, group_of,
 };
@@ -32,11 +32,17 @@ pub fn pitvorgas_check(envelope: &[u8]) -> CheckAnswer
 pub fn pitvorgas_newer(first: &[u8], second: &[u8]) -> NewerAnswer
     ensures { result ≡ newer_of (Newer.newer first.now second.now) }
 {
-    let n = choose(first, second);
-    NewerAnswer {
-        second: n.second,
-        from: n.from,
-        to: n.to,
+    match choose(first, second) {
+        Newest::First(place) => NewerAnswer {
+            second: 0,
+            from: place.from,
+            to: place.to,
+        },
+        Newest::Second(place) => NewerAnswer {
+            second: 1,
+            from: place.from,
+            to: place.to,
+        },
     }
 }
 

@@ -1,15 +1,24 @@
--- Check's report in numbers.
+-- Check's answer in numbers.
+use Rattle.std.specs.Prelude.{Result, Ok, Err, replicate}
+use Rattle.rules.specs.declared.answers.Fault.{Fault}
 use Rattle.rules.specs.Answers.{refusal_number}
-use Rattle.check_envelope.specs.declared.report.Checked.{Checked}
-use Rattle.check_envelope.specs.declared.report.Checked.TheVariants.{Accepted, Refused}
+use Rattle.rules.specs.Limits.{places, section_places}
 use Rattle.check_envelope.specs.declared.report.Report.{Report}
 use Rattle.pitvorgas_answers.specs.declared.CheckAnswer.{CheckAnswer}
 
--- for each case of the answer of report r
-abbrev pub answer_with : Checked → Report → CheckAnswer
-answer_with (Refused k p) r =
-    record { refusal = refusal_number k; place = p; number = 0; components = 0; ids = r.ids; sections = r.sections; from = 0; to = 0 }
-answer_with Accepted r =
+abbrev pub answer_of : Result Report Fault → CheckAnswer
+answer_of (Err f) =
+    record {
+      refusal = refusal_number f.refusal;
+      place = f.at;
+      number = 0;
+      components = 0;
+      ids = replicate places 0;
+      sections = replicate section_places 0;
+      from = 0;
+      to = 0;
+    }
+answer_of (Ok r) =
     record {
       refusal = 0;
       place = 0;
@@ -20,6 +29,3 @@ answer_with Accepted r =
       from = r.manifest.from;
       to = r.manifest.to;
     }
-
-abbrev pub answer_of : Report → CheckAnswer
-answer_of r = answer_with r.answer r

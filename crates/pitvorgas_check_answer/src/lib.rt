@@ -1,39 +1,41 @@
-// Check's report in numbers, for C.
+// Check's answer in numbers, for C.
 #![tactic(auto)]
 
 ghost use Rattle.std.specs.Prelude.{◌≡◌};
 ghost use Rattle.pitvorgas_check_answer.specs.Answer.{answer_of};
 
-use check_envelope::report::{Checked, Report};
+use check_envelope::report::Report;
 use pitvorgas_answers::CheckAnswer;
+use rules::answers::Fault;
+use rules::controller::{PLACES, SECTION_PLACES};
 
-pub fn answer_of(report: Report) -> CheckAnswer
-    ensures { result ≡ answer_of report }
+pub fn answer_of(answer: Result<Report, Fault>) -> CheckAnswer
+    ensures { result ≡ answer_of answer }
 {
-    let answer = report.answer;
-    let manifest = report.manifest;
-    let ids = report.ids;
-    let sections = report.sections;
     match answer {
-        Checked::Refused(refusal, place) => CheckAnswer {
-            refusal: refusal.number(),
-            place,
+        Err(fault) => CheckAnswer {
+            refusal: fault.refusal.number(),
+            place: fault.at,
             number: 0,
             components: 0,
-            ids,
-            sections,
+            ids: [0usize; PLACES],
+            sections: [0usize; SECTION_PLACES],
             from: 0,
             to: 0,
         },
-        Checked::Accepted => CheckAnswer {
-            refusal: 0,
-            place: 0,
-            number: report.number,
-            components: report.components,
-            ids,
-            sections,
-            from: manifest.from,
-            to: manifest.to,
-        },
+        Ok(report) => {
+            let ids = report.ids;
+            let sections = report.sections;
+            CheckAnswer {
+                refusal: 0,
+                place: 0,
+                number: report.number,
+                components: report.components,
+                ids,
+                sections,
+                from: report.manifest.from,
+                to: report.manifest.to,
+            }
+        }
     }
 }

@@ -5,6 +5,7 @@ use mathlib.Core.List.{List}
 use native.Mathlib.Omega.{arith}
 use lib.ListN.{length, replicate}
 use Rattle.std.specs.Prelude.{Result, Ok, Err}
+use Rattle.rules.specs.declared.answers.Fault.{Fault}
 use Rattle.rules.specs.declared.answers.Group.{Group}
 use Rattle.rules.specs.declared.answers.Refusal.{Refusal}
 use Rattle.rules.specs.Answers.{end_of}
@@ -15,8 +16,6 @@ use Rattle.rules.specs.Manifest.{names}
 use Rattle.rules.specs.Check.{check}
 use Rattle.rules.specs.Run.{Input, run_all, plan_of, admit, number_after, report, start_state, env_of, run_of, run_envelope}
 use Rattle.rules_theorems.proofs.Effects.{envelope_effects}
-use Rattle.check_envelope.specs.declared.report.Checked.TheVariants as The
-use Rattle.check_envelope.specs.declared.report.Report.{Report}
 use Rattle.check_envelope.specs.Report.{report_of}
 use Rattle.run_admission.specs.Admission.{tests_of}
 use Rattle.run_ending.specs.declared.Ending.{Ending}
@@ -91,11 +90,11 @@ module _ (s : Bytes) (number n : ℕ) (ids sections : List ℕ) (a : Accepted s 
             Frame.answered group a.manifest.number (names s a.manifest) x _ (run_envelope s group x) is-run t stops z r.end r.events r.used _ slots' trace' goes ending after p
             (rw (← a.numbered) q)
 
-module _ (s : Bytes) (r : Report) (e : r ≡ report_of (check s)) (k : Refusal) (p : ℕ) (h : r.answer ≡ The.Refused k p) where
-  not-run : (group : Group) (x : Input) → run_envelope s group x ≡ refused k p
+module _ (s : Bytes) (d : Fault) (e : Err d ≡ report_of (check s)) where
+  not-run : (group : Group) (x : Input) → run_envelope s group x ≡ refused d.refusal d.at
   unfolding run_envelope
-  not-run group x = rw (refused-by s r e k p h)
+  not-run group x = rw (refused-by s d e)
 
   pub refused-check : (group : Group) (x : Input) →
-      Settles x.device (run_envelope s group x) (record { answer = Err (record { refusal = k; at = p }); number = x.device.number }) x.slots x.slots x.trace x.trace
-  refused-check group x = settles_refused x (run_envelope s group x) k p (not-run group x)
+      Settles x.device (run_envelope s group x) (record { answer = Err d; number = x.device.number }) x.slots x.slots x.trace x.trace
+  refused-check group x = settles_refused x (run_envelope s group x) d.refusal d.at (not-run group x)

@@ -5,7 +5,6 @@ ghost use Rattle.manifest_accessors.specs.Accepted.{Accepted};
 ghost use Rattle.run_envelope.specs.Envelope.{Runs};
 
 use check_envelope::check;
-use check_envelope::report::Checked;
 use manifest_plan::plan;
 use rules::answers::Group;
 use rules::controller::{Controller, MEMORY_NUMBERS, PLAN_SEQUENCES, Places, SectionPlaces};
@@ -65,11 +64,9 @@ pub fn run(
 ) -> Outcome
     ensures { Runs s.now group verdict device slots answers.now trace result }
 {
-    let report = check(s);
-    let answer = report.answer;
-    match answer {
-        Checked::Refused(refusal, at) => refused(refusal, at, device),
-        Checked::Accepted => {
+    match check(s) {
+        Err(fault) => refused(fault.refusal, fault.at, device),
+        Ok(report) => {
             let ids = report.ids;
             let sections = report.sections;
             let request = Request {

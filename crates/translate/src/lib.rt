@@ -7,7 +7,6 @@ ghost use Rattle.manifest_accessors.specs.Accepted.{Accepted};
 ghost use Rattle.translate.specs.Translate.{Translates};
 
 use check_envelope::check;
-use check_envelope::report::Checked;
 use manifest_plan::plan;
 use rules::answers::{Group, Refusal};
 use rules::controller::{PLAN_SEQUENCES, Places, SectionPlaces};
@@ -56,11 +55,9 @@ fn translate_checked(
 pub fn translate(s: &[u8], group: Group, room: &mut [u8]) -> Translated
     ensures { Translates (Rule.translate s.now group (length room.old)) result room.old room.new }
 {
-    let report = check(s);
-    let answer = report.answer;
-    match answer {
-        Checked::Refused(refusal, at) => Translated::Refused(refusal, at),
-        Checked::Accepted => {
+    match check(s) {
+        Err(fault) => Translated::Refused(fault.refusal, fault.at),
+        Ok(report) => {
             let ids = report.ids;
             let sections = report.sections;
             translate_checked(
