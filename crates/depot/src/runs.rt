@@ -159,8 +159,7 @@ fn run_described(
     let mut slots = [0u8; SLOTS_ROOM];
     let mut answers = [0u8; ANSWERS_ROOM];
     let d = describe(description, &mut slots, &mut answers);
-    let refused = d.refused;
-    if refused != 0 {
+    if let Some(refused) = d.refused {
         return fault_in(streams.err, name, description, refused);
     }
     let k = fitted(&slots, d.slots);
