@@ -1,6 +1,7 @@
 -- The answers of the jobs, in numbers.
 use Prim.Native.Nat.{ℕ}
 use mathlib.Core.Path.{◌≡◌, refl, sym, ap, ◌∙◌}
+use Rattle.std.specs.Prelude.{Option, Some, None, is_some}
 use lib.ListN.{length}
 use Rattle.rules.specs.declared.answers.Refusal.{Refusal}
 use Rattle.rules.specs.declared.controller.Controller.{Controller}
@@ -39,9 +40,10 @@ pub newer-answer : (g : Newer) (r : Newest) → r ≡ newest_of g → ◌≡◌ 
 newer-answer (in_first p) r e = rw e refl
 newer-answer (in_second p) r e = rw e refl
 
-pub tested-answer : (p : Bytes) (g : Got Program) (t : Tested) → TestedAs p g t → t.good ≡ accepted g
-tested-answer p (refused k q) t e = ap (λ (x : Tested). x.good) e
-tested-answer p (got y) t e = ap (λ (x : Tested). x.good) e.exact
+pub tested-answer : (p : Bytes) (g : Got Program) (t : Option Tested) → TestedAs p g t → is_some t ≡ accepted g
+tested-answer p (refused k q) t e = ap is_some e
+tested-answer p (got y) None e = absurd e
+tested-answer p (got y) (Some t) e = refl
 
 pub ran-answer : (d : Controller) (g : Got Ran) (o : Outcome) (r : RunAnswer) → o ≡ outcome_of d g → r ≡ R.answer_of o → r ≡ ran_of d g
 ran-answer d (refused k p) o r e h = h ∙ ap R.answer_of e
