@@ -14,12 +14,13 @@ use depot_run_types::Run;
 use depot_runs::run_as;
 use depot_status::{FAULT, run_status};
 use depot_subjects::subject_of;
-use depot_usage::{Asked, asked_group};
+use depot_usage::asked_group;
 use depot_words::{later_words, word_at, word_count};
 use device_description::{ANSWERS_ROOM, SLOTS_ROOM, Scenario, describe};
 use device_writing::put_device;
 use pitvorgas::pitvorgas_translate;
 use pitvorgas_answers::RunAnswer;
+use rules::answers::Group;
 use rules::controller::Controller;
 use std::fs::Files;
 use text::put;
@@ -158,8 +159,7 @@ fn run_described(
     let mut slots = [0u8; SLOTS_ROOM];
     let mut answers = [0u8; ANSWERS_ROOM];
     let d = describe(description, &mut slots, &mut answers);
-    let refused = d.refused;
-    if refused != 0 {
+    if let Some(refused) = d.refused {
         return fault_in(streams.err, name, description, refused);
     }
     let k = fitted(&slots, d.slots);
@@ -232,9 +232,9 @@ pub(crate) fn run_file(rt: &(impl Files + Input), words: &[u8], streams: Streams
     let group = word_at(words, 1);
     let rest = later_words(later_words(words));
     match asked_group(group) {
-        Asked::Install => run_words(rt, Run::Install, rest, streams),
-        Asked::Boot => run_words(rt, Run::Boot, rest, streams),
-        Asked::Unknown => fault(streams.err, Message::Group, group, 0),
+        Some(Group::Install) => run_words(rt, Run::Install, rest, streams),
+        Some(Group::Boot) => run_words(rt, Run::Boot, rest, streams),
+        None => fault(streams.err, Message::Group, group, 0),
     }
 }
 

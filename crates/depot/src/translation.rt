@@ -6,9 +6,10 @@ use depot_messages::Message;
 use depot_refusals::put_refused;
 use depot_report::put_translated;
 use depot_status::{DONE, FAULT, REFUSED};
-use depot_usage::{Asked, asked_group};
+use depot_usage::asked_group;
 use depot_words::word_at;
 use pitvorgas::pitvorgas_translate;
+use rules::answers::Group;
 use std::fs::Files;
 
 const GROUP: usize = 1;
@@ -67,8 +68,8 @@ fn translate_load(rt: &(impl Files + Input), words: &[u8], boot: bool, streams: 
 pub(crate) fn translate_file(rt: &(impl Files + Input), words: &[u8], streams: Streams) -> usize {
     let group = word_at(words, GROUP);
     match asked_group(group) {
-        Asked::Install => translate_load(rt, words, false, streams),
-        Asked::Boot => translate_load(rt, words, true, streams),
-        Asked::Unknown => fault(streams.err, Message::Group, group, 0),
+        Some(Group::Install) => translate_load(rt, words, false, streams),
+        Some(Group::Boot) => translate_load(rt, words, true, streams),
+        None => fault(streams.err, Message::Group, group, 0),
     }
 }

@@ -1,11 +1,11 @@
 // The argument of a program's record, below its line: the parameters, or the bytes in hexadecimal.
 #![tactic(auto)]
 
-ghost use Rattle.std.specs.Prelude.{◌≡◌, ◌+◌, ◌≤◌, IfSome, length, get_or};
+ghost use Rattle.std.specs.Prelude.{◌≡◌, ◌+◌, ◌<◌, ◌≤◌, IfSome, length, get_or};
 ghost use Rattle.rules.specs.ProgramFormat.{entry_length_from, entry_size};
 ghost use Rattle.rules_kinds.specs.Kinds.{kind_of};
 ghost use Rattle.text.specs.Text.{Writes};
-ghost use Rattle.depot_argument_lines.specs.Items.{sized};
+ghost use Rattle.depot_argument_lines.specs.Items.{size_in, sized};
 ghost use Rattle.depot_argument_lines.specs.Arguments.{lists_parameters, parameter_size};
 ghost use Rattle.depot_argument_lines.specs.Arguments.{parameter_text, stray_text, parameters_text, hex_text, argument_text};
 
@@ -24,6 +24,18 @@ const KEYS: usize = Controller::PARAMETERS - 1;
 // The spaces before what stands below a record.
 const INDENT: usize = 12;
 
+// How long an item of `head` bytes and `more` after them is, if it lies at the start of the bytes.
+pub fn size_in(s: &[u8], head: usize, more: usize) -> Option<usize>
+    requires { (0 < head) × (head ≤ length s.now) }
+    ensures size { result ≡ sized (size_in s.now head more) }
+    ensures within { IfSome result (λ size. size ≤ length s.now) }
+{
+    if s.len() - head < more {
+        return None;
+    }
+    Some(head + more)
+}
+
 // How long the parameter at the start of the bytes is, if one lies there.
 pub fn size_of(s: &[u8]) -> Option<usize>
     ensures size { result ≡ sized (parameter_size s.now) }
@@ -32,11 +44,7 @@ pub fn size_of(s: &[u8]) -> Option<usize>
     if s.len() < ENTRY_BYTES {
         return None;
     }
-    let size = ENTRY_BYTES + wide(s[ENTRY_LENGTH]);
-    if s.len() < size {
-        return None;
-    }
-    Some(size)
+    size_in(s, ENTRY_BYTES, wide(s[ENTRY_LENGTH]))
 }
 
 fn put_parameter(room: &mut [u8], at: usize, s: &[u8]) -> usize

@@ -6,6 +6,7 @@ ghost use Rattle.depot_argument_lines.specs.Items.{sized};
 ghost use Rattle.depot_listing.specs.Listing.{component_size, component_text, components_text, after_components};
 
 use byte_buffer::wide;
+use depot_argument_lines::size_in;
 use depot_identifiers::put_identifier;
 use rules::program_format::{NAME_BYTES, NAME_LENGTH};
 use text::put;
@@ -19,11 +20,7 @@ pub fn size_of(s: &[u8]) -> Option<usize>
     if s.len() < NAME_BYTES {
         return None;
     }
-    let size = NAME_BYTES + wide(s[NAME_LENGTH]);
-    if s.len() < size {
-        return None;
-    }
-    Some(size)
+    size_in(s, NAME_BYTES, wide(s[NAME_LENGTH]))
 }
 
 fn put_component(room: &mut [u8], at: usize, n: usize, s: &[u8]) -> usize

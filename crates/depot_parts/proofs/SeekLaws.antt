@@ -2,6 +2,7 @@
 use Prim.Native.Nat.{ℕ, zero, suc, ◌-◌, ◌≤◌, ◌<◌}
 use mathlib.Core.Path.{◌≡◌, refl}
 use mathlib.Core.Logic.{◌⊎◌, inl, inr}
+use Rattle.std.specs.Prelude.{Some, None}
 use mathlib.Core.Bool.{Bool, true, false}
 use lib.Dec.{eqb}
 use borrow.Author.Tests.{le-leb, lt-leb, lt-ltb, le-ltb, eq-eqb, ne_eqb}
@@ -71,27 +72,27 @@ module _ (s : Bytes) where
         unfolding short
         short-leaf l = rw (above d z, ← qh, eq-eqb _ _ l)
 
-        module _ (n : h.kind ≡ LEAF → ⊥) (f : Found) (qf : f ≡ find s place p e at) where
-          pub short_stop : f.stop ≡ true → true ≡ short s place d p e at
+        module _ (n : h.kind ≡ LEAF → ⊥) where
+          pub short_stop : None ≡ find s place p e at → true ≡ short s place d p e at
           unfolding short
-          short_stop t = rw (above d z, ← qh, ne_eqb _ _ n, ← qf, t)
+          short_stop q = rw (above d z, ← qh, ne_eqb _ _ n, ← q)
 
-          module _ (t : f.stop ≡ false) where
+          module _ (f : Found) (qf : Some f ≡ find s place p e at) where
             pub short_past : f.spot.left ≡ 0 → false ≡ short s place d p e at
             unfolding short
-            short_past l = rw (above d z, ← qh, ne_eqb _ _ n, ← qf, t, eq-eqb _ _ l)
+            short_past l = rw (above d z, ← qh, ne_eqb _ _ n, ← qf, eq-eqb _ _ l)
 
             module _ (m : f.spot.left ≡ 0 → ⊥) where
               pub short-more : 1 < f.spot.left → true ≡ short s place d p e at
               unfolding short
-              short-more l = rw (above d z, ← qh, ne_eqb _ _ n, ← qf, t, ne_eqb _ _ m, lt-ltb 1 _ l)
+              short-more l = rw (above d z, ← qh, ne_eqb _ _ n, ← qf, ne_eqb _ _ m, lt-ltb 1 _ l)
 
               module _ (l : f.spot.left ≤ 1) (k : Item) (qk : k ≡ key_at s h.keyed f.end f.spot.at) where
                 pub short-key : at_head place NUMBER k ≡ true → true ≡ short s place d p e at
                 unfolding short
-                short-key a = rw (above d z, ← qh, ne_eqb _ _ n, ← qf, t, ne_eqb _ _ m, le-ltb 1 _ l, ← qk, a)
+                short-key a = rw (above d z, ← qh, ne_eqb _ _ n, ← qf, ne_eqb _ _ m, le-ltb 1 _ l, ← qk, a)
 
                 pub short_on : at_head place NUMBER k ≡ false → (c : Part) → c ≡ child_of p k.num →
                     short s place (d - 1) c f.end k.next ≡ short s place d p e at
                 unfolding short
-                short_on a c qc = rw (above d z, ← qh, ne_eqb _ _ n, ← qf, t, ne_eqb _ _ m, le-ltb 1 _ l, ← qk, a, ← qc, below (d - 1))
+                short_on a c qc = rw (above d z, ← qh, ne_eqb _ _ n, ← qf, ne_eqb _ _ m, le-ltb 1 _ l, ← qk, a, ← qc, below (d - 1))

@@ -1,7 +1,7 @@
 -- The walk to a place, over any bytes: which entry of a part holds it. An item that is not there whole has no kind and ends with its
 -- container. Check reads depth first and refuses at the first fault, so what ends before the place is whole. What ends at the place may
 -- still lack an item there: then the place is that item's, and else it is that of what comes next.
-use Rattle.std.specs.Prelude.{ℕ, zero, suc, ◌-◌, ◌/◌, Bool, true, false, cond, eqb, ltb, leb}
+use Rattle.std.specs.Prelude.{ℕ, zero, suc, ◌-◌, ◌/◌, Bool, true, false, cond, Option, Some, None, eqb, ltb, leb}
 use Rattle.rules.specs.Bytes.{Bytes}
 use Rattle.rules.specs.Cbor.{NUMBER, BYTES, ARRAY, MAP}
 use Rattle.depot_items.specs.declared.Item.{Item}
@@ -19,6 +19,11 @@ empty kind e at = record { kind = kind; num = 0; next = at; after = e }
 -- the place is in a head that should be of this kind, or there is none
 unfoldable pub at_head : ℕ → ℕ → Item → Bool
 at_head place kind i = cond (eqb i.kind kind) (ltb place i.next) true
+
+-- the first where no entry was found, and else what the second says of it
+abbrev pub if_found : {X : Type 0} → X → (Found → X) → Option Found → X
+if_found none some None = none
+if_found none some (Some f) = some f
 
 -- how many entries: a code with its argument is two items
 unfoldable pub entries : Shape → ℕ → ℕ
@@ -56,31 +61,27 @@ module _ (s : Bytes) where
     seek keyed e (suc k) at =
         cond (leb place (entry_end keyed e at)) (record { left = suc k; at = at }) (seek keyed e k (entry_end keyed e at))
 
-    -- that entry in the part at `at`; `stop`: the place is before all entries. `end` is where the part ends, `count` how many entries it has
-    unfoldable pub find : Part → ℕ → ℕ → Found
+    -- that entry in the part at `at`, none where the place is before all entries. `end` is where the part ends, `count` how many entries it has
+    unfoldable pub find : Part → ℕ → ℕ → Option Found
     find p e at =
         let h = shape_of p in
         let b = box_at h.boxed e at in
         let i = item_of s b.after b.next h.kind in
-        record {
-          stop = at_head place h.kind i;
-          end = b.after;
-          count = entries h i.num;
-          spot = seek h.keyed b.after (entries h i.num) i.next;
-        }
+        cond (at_head place h.kind i) None
+        (Some (record { end = b.after; count = entries h i.num; spot = seek h.keyed b.after (entries h i.num) i.next }))
 
     -- the part at `at`, which ends at the place, lacks an item there
     unfoldable pub short : ℕ → Part → ℕ → ℕ → Bool
     short zero p e at = false
     short (suc d) p e at =
-        let f = find p e at in
-        let k = key_at (shape_of p).keyed f.end f.spot.at in
+        let key = λ (f : Found). key_at (shape_of p).keyed f.end f.spot.at in
         cond (eqb (shape_of p).kind LEAF) (eqb (item_at s e at).kind NO_ITEM)
-        (cond f.stop true
-        (cond (eqb f.spot.left 0) false
+        (if_found true
+        (λ f. cond (eqb f.spot.left 0) false
         (cond (ltb 1 f.spot.left) true
-        (cond (at_head place NUMBER k) true
-        (short d (child_of p k.num) f.end k.next)))))
+        (cond (at_head place NUMBER (key f)) true
+        (short d (child_of p (key f).num) f.end (key f).next))))
+        (find p e at))
 
     -- the entry at `at` holds the place
     unfoldable pub holds : ℕ → Part → ℕ → ℕ → Bool

@@ -14,10 +14,9 @@ pub struct Spot {
     pub at: usize,
 }
 
-// An entry of a part: whether the place is before all entries, where the part ends, how many entries it has.
+// An entry of a part: where the part ends, how many entries it has, and the entry.
 #[derive(Clone, Copy)]
 pub struct Found {
-    pub stop: bool,
     pub end: usize,
     pub count: usize,
     pub spot: Spot,
@@ -128,23 +127,23 @@ fn seek(s: &[u8], place: usize, keyed: bool, e: usize, count: usize, at: usize) 
     Spot { left: 0, at: next }
 }
 
-// That entry in the part at `at`.
+// That entry in the part at `at`, or none where the place is before all entries.
 #[tactic(auto, unfolding(crate::specs::Seek::find))]
-pub fn find(s: &[u8], place: usize, part: Part, e: usize, at: usize) -> Found
+pub fn find(s: &[u8], place: usize, part: Part, e: usize, at: usize) -> Option<Found>
     ensures { result ≡ Seek·find s.now place part e at }
 {
     let h = shape_of(part);
     let b = box_at(s, h.boxed, e, at);
     let i = want(s, b.after, b.next, h.kind);
-    let stop = at_head(place, h.kind, i);
+    if at_head(place, h.kind, i) {
+        return None;
+    }
     let count = entries(h, i.num);
-    let spot = seek(s, place, h.keyed, b.after, count, i.next);
-    Found {
-        stop,
+    Some(Found {
         end: b.after,
         count,
-        spot,
-    }
+        spot: seek(s, place, h.keyed, b.after, count, i.next),
+    })
 }
 
 fn missing(s: &[u8], e: usize, at: usize) -> bool
@@ -164,10 +163,9 @@ fn short(s: &[u8], place: usize, depth: usize, part: Part, e: usize, at: usize) 
     if h.kind == LEAF {
         return missing(s, e, at);
     }
-    let f = find(s, place, part, e, at);
-    if f.stop {
+    let Some(f) = find(s, place, part, e, at) else {
         return true;
-    }
+    };
     match f.spot.left {
         0 => return false,
         1 => {}

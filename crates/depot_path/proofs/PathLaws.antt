@@ -1,6 +1,7 @@
 -- The path from a part on, one step of each.
 use Prim.Native.Nat.{ℕ, suc, ◌-◌}
 use mathlib.Core.Path.{◌≡◌}
+use Rattle.std.specs.Prelude.{Some, None}
 use mathlib.Core.Bool.{true, false}
 use mathlib.Core.List.{[], ◌++◌}
 use borrow.Author.Tests.{eq-eqb, ne_eqb}
@@ -26,23 +27,23 @@ module _ (s : Bytes) (place d : ℕ) (p : Part) (e at : ℕ) where
   unfolding within
   within_none z = rw z
 
-  module _ (z : d ≡ 0 → ⊥) (f : Found) (qf : f ≡ find s place p e at) where
-    pub within_stop : f.stop ≡ true → within s place d p e at ≡ name_of p
+  module _ (z : d ≡ 0 → ⊥) where
+    pub within_stop : None ≡ find s place p e at → within s place d p e at ≡ name_of p
     unfolding within
-    within_stop t = rw (above d z, ← qf, t)
+    within_stop q = rw (above d z, ← q)
 
-    module _ (t : f.stop ≡ false) (x : Spot) (qx : x ≡ settle s place (d - 1) p f.end f.spot) where
+    module _ (f : Found) (qf : Some f ≡ find s place p e at) (x : Spot) (qx : x ≡ settle s place (d - 1) p f.end f.spot) where
       pub within-left : x.left ≡ 0 → within s place d p e at ≡ left_over p
       unfolding within
-      within-left l = rw (above d z, ← qf, t, ← qx, eq-eqb _ _ l)
+      within-left l = rw (above d z, ← qf, ← qx, eq-eqb _ _ l)
 
       module _ (l : x.left ≡ 0 → ⊥) (h : Shape) (qh : h ≡ shape_of p) (k : Item) (qk : k ≡ key_at s h.keyed f.end x.at) (n : ℕ)
           (qn : n ≡ f.count - (x.left - 1)) where
         pub within-key : at_head place NUMBER k ≡ true → within s place d p e at ≡ key_text p n k.num
         unfolding within
-        within-key a = rw (above d z, ← qf, t, ← qx, ne_eqb _ _ l, ← qh, ← qk, a, ← qn)
+        within-key a = rw (above d z, ← qf, ← qx, ne_eqb _ _ l, ← qh, ← qk, a, ← qn)
 
         pub within_on : at_head place NUMBER k ≡ false → (c : Part) → c ≡ child_of p k.num →
             within s place d p e at ≡ entry_text p n k.num ++ within s place (d - 1) c f.end k.next
         unfolding within
-        within_on a c qc = rw (above d z, ← qf, t, ← qx, ne_eqb _ _ l, ← qh, ← qk, a, ← qn, ← qc, below (d - 1))
+        within_on a c qc = rw (above d z, ← qf, ← qx, ne_eqb _ _ l, ← qh, ← qk, a, ← qn, ← qc, below (d - 1))

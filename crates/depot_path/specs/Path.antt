@@ -6,7 +6,7 @@ use Rattle.rules.specs.Cbor.{NUMBER}
 use Rattle.depot_parts.specs.declared.parts.Part.{Part}
 use Rattle.depot_parts.specs.declared.parts.Part.TheVariants.{Envelope}
 use Rattle.depot_parts.specs.Parts.{shape_of, child_of}
-use Rattle.depot_parts.specs.Seek.{key_at, at_head, find, settle}
+use Rattle.depot_parts.specs.Seek.{if_found, key_at, at_head, find, settle}
 use Rattle.depot_part_names.specs.Names.{name_of, entry_text, key_text, left_over}
 
 module _ (s : Bytes) (place : ℕ) where
@@ -14,14 +14,15 @@ module _ (s : Bytes) (place : ℕ) where
   unfoldable pub within : ℕ → Part → ℕ → ℕ → Bytes
   within zero p e at = []
   within (suc d) p e at =
-      let f = find s place p e at in
+      if_found (name_of p)
+      (λ f.
       let x = settle s place d p f.end f.spot in
       let k = key_at s (shape_of p).keyed f.end x.at in
       let n = f.count - (x.left - 1) in
-      cond f.stop (name_of p)
-      (cond (eqb x.left 0) (left_over p)
+      cond (eqb x.left 0) (left_over p)
       (cond (at_head place NUMBER k) (key_text p n k.num)
       (entry_text p n k.num ++ within d (child_of p k.num) f.end k.next)))
+      (find s place p e at)
 
 -- the envelope, the manifest, common and its sequence; then alternatives and their sequences
 abbrev pub levels : ℕ

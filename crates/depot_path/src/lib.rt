@@ -28,10 +28,9 @@ fn put_within(
     if depth == 0 {
         return to;
     }
-    let f = find(s, place, part, e, at);
-    if f.stop {
+    let Some(f) = find(s, place, part, e, at) else {
         return put_name(room, to, part);
-    }
+    };
     let x = settle(s, place, depth - 1, part, f.end, f.spot);
     if x.left == 0 {
         return put_left_over(room, to, part);

@@ -1,5 +1,5 @@
 -- 85: what is wrong with the slots, in the order of the rule's `good_slots`.
-use Rattle.std.specs.Prelude.{ℕ, ◌+◌, ◌*◌, ◌/◌, ◌%◌, Bool, cond, not, [], ◌++◌, eqb, ltb, length, get_or}
+use Rattle.std.specs.Prelude.{ℕ, ◌+◌, ◌*◌, ◌/◌, ◌%◌, Bool, cond, not, [], ◌++◌, eqb, ltb, length, get_or, None, Some}
 use Rattle.rules.specs.Limits.{limits}
 use Rattle.rules.specs.Slots.{slot_bytes, slot_at, good_slot}
 use Rattle.text.specs.Text.{Bytes, ascii}
@@ -43,8 +43,10 @@ twice_text b i =
 -- of n slots
 unfoldable pub among_text : Bytes → ℕ → Bytes
 among_text b n =
-    cond (ltb (first (is_bad b) n 0) n) (bad_text b (first (is_bad b) n 0))
-    (cond (ltb (first (is_twice b n) n 0) n) (twice_text b (first (is_twice b n) n 0)) [])
+    elim (first (is_bad b) n 0) [
+      | Some k ↦ bad_text b k
+      | None ↦ elim (first (is_twice b n) n 0) [ Some i ↦ twice_text b i | None ↦ [] ]
+    ]
 
 unfoldable pub bad_slots_text : Bytes → Bytes
 bad_slots_text b =

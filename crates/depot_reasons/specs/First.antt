@@ -1,7 +1,7 @@
 -- The first number that meets a test.
-use Rattle.std.specs.Prelude.{ℕ, zero, suc, Bool, cond}
+use Rattle.std.specs.Prelude.{ℕ, zero, suc, Bool, cond, Option, None, Some}
 
--- of n numbers from k on; the one after them, if none does
-unfoldable pub first : (ℕ → Bool) → ℕ → ℕ → ℕ
-first test zero k = k
-first test (suc n) k = cond (test k) k (first test n (suc k))
+-- of n numbers from k on
+unfoldable pub first : (ℕ → Bool) → ℕ → ℕ → Option ℕ
+first test zero k = None
+first test (suc n) k = cond (test k) (Some k) (first test n (suc k))

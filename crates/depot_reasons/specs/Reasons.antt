@@ -1,5 +1,5 @@
 -- What a refusal of a run is about, on a line below it.
-use Rattle.std.specs.Prelude.{ℕ, ◌/◌, Bool, cond, List, [], ◌++◌, eqb, leb, length}
+use Rattle.std.specs.Prelude.{ℕ, ◌/◌, Bool, cond, List, [], ◌++◌, eqb, length, None, Some}
 use Rattle.rules.specs.declared.answers.Refusal.TheVariants.{WrongNumber, NoSlot, BadSlots}
 use Rattle.rules.specs.Answers.{refusal_number}
 use Rattle.rules.specs.Bytes.{bytes_at, span_at}
@@ -30,7 +30,7 @@ without_text s ids k = labelled (ascii "  component ") k ++ ascii " has no slot:
 -- the first of n
 unfoldable pub no_slot_text : Bytes → List ℕ → ℕ → Bytes → Bytes
 no_slot_text s ids n slots =
-    cond (leb n (first (has_no_slot s ids slots) n 0)) [] (without_text s ids (first (has_no_slot s ids slots) n 0))
+    elim (first (has_no_slot s ids slots) n 0) [ None ↦ [] | Some k ↦ without_text s ids k ]
 
 -- nothing, where the number says it all
 unfoldable pub reason_text : ℕ → Subject → ℕ → Bytes → Bytes → Bytes

@@ -1,7 +1,7 @@
 // What a refusal of a run is about, on a line below it: the numbers, a component, or a slot.
 #![tactic(auto)]
 
-ghost use Rattle.std.specs.Prelude.{◌≡◌, ◌≤◌, ◌<◌};
+ghost use Rattle.std.specs.Prelude.{◌≡◌, ◌≤◌, ◌<◌, IfSome};
 ghost use Rattle.rules.specs.Limits.{limits};
 ghost use Rattle.text.specs.Text.{Writes};
 ghost use Rattle.depot_reasons.specs.Reasons.{group_text, numbers_text, has_no_slot, no_slot_text, reason_text};
@@ -50,18 +50,17 @@ fn has_no_slot(s: &[u8], ids: &Places, slots: &[u8], k: usize) -> bool
     found == slots.len() / SLOT_BYTES
 }
 
-fn first_without(s: &[u8], ids: &Places, n: usize, slots: &[u8]) -> usize
+fn first_without(s: &[u8], ids: &Places, n: usize, slots: &[u8]) -> Option<usize>
     requires { n ≤ limits.components }
-    ensures { result ≡ first (has_no_slot s.now ids.now slots.now) n 0 }
+    ensures which { result ≡ first (has_no_slot s.now ids.now slots.now) n 0 }
+    ensures below { IfSome result (λ k. k < n) }
 {
-    let mut k = 0;
-    while k < n {
+    for k in 0..n {
         if has_no_slot(s, ids, slots, k) {
-            return k;
+            return Some(k);
         }
-        k += 1;
     }
-    k
+    None
 }
 
 // 83.
@@ -69,10 +68,9 @@ fn put_no_slot(room: &mut [u8], at: usize, s: &[u8], ids: &Places, n: usize, slo
     requires { n ≤ limits.components }
     ensures { Writes (no_slot_text s.now ids.now n slots.now) at room result }
 {
-    let k = first_without(s, ids, n, slots);
-    if n <= k {
+    let Some(k) = first_without(s, ids, n, slots) else {
         return at;
-    }
+    };
     let a = put_labelled(room, at, b"  component ", k);
     let b = put(room, a, b" has no slot: ");
     let c = put_identifier_at(room, b, s, ids[2 * k], ids[2 * k + 1]);
@@ -80,6 +78,7 @@ fn put_no_slot(room: &mut [u8], at: usize, s: &[u8], ids: &Places, n: usize, slo
 }
 
 // What the refusal of a run of s is about, whose device had the number `device`.
+#[tactic(auto, using(text::proofs::TextLaws::wrote_none), unfolding(crate::specs::Reasons::reason_text))]
 pub fn put_reason(
     room: &mut [u8],
     at: usize,
@@ -91,16 +90,13 @@ pub fn put_reason(
 ) -> usize
     ensures { Writes (reason_text refusal subject device s.now slots.now) at room result }
 {
-    if refusal == Refusal::WRONG_NUMBER {
-        return put_numbers(room, at, subject.boot, subject.number, device);
+    match refusal {
+        Refusal::WRONG_NUMBER => put_numbers(room, at, subject.boot, subject.number, device),
+        Refusal::NO_SLOT => {
+            let n = least(subject.components, Controller::COMPONENTS);
+            put_no_slot(room, at, s, &subject.ids, n, slots)
+        }
+        Refusal::BAD_SLOTS => put_bad_slots(room, at, slots),
+        _ => at,
     }
-    if refusal == Refusal::NO_SLOT {
-        let ids = subject.ids;
-        let n = least(subject.components, Controller::COMPONENTS);
-        return put_no_slot(room, at, s, &ids, n, slots);
-    }
-    if refusal == Refusal::BAD_SLOTS {
-        return put_bad_slots(room, at, slots);
-    }
-    at
 }

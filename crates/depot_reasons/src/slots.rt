@@ -1,5 +1,5 @@
 // 85: what is wrong with the slots, in the order of the rule.
-ghost use Rattle.std.specs.Prelude.{◌≡◌, ◌+◌, ◌*◌, ◌/◌, ◌≤◌, ◌<◌, length};
+ghost use Rattle.std.specs.Prelude.{◌≡◌, ◌+◌, ◌*◌, ◌/◌, ◌≤◌, ◌<◌, length, IfSome};
 ghost use Rattle.rules.specs.Slots.{slot_bytes};
 ghost use Rattle.run_slots.specs.Slot.{Holds};
 ghost use Rattle.text.specs.Text.{Writes};
@@ -64,18 +64,17 @@ fn put_bad(room: &mut [u8], at: usize, slots: &[u8], k: usize) -> usize
     put_sizes(room, a, slots, k)
 }
 
-fn first_bad(slots: &[u8], n: usize) -> usize
+fn first_bad(slots: &[u8], n: usize) -> Option<usize>
     requires { slot_bytes * n ≤ length slots.now }
-    ensures { result ≡ first (is_bad slots.now) n 0 }
+    ensures which { result ≡ first (is_bad slots.now) n 0 }
+    ensures below { IfSome result (λ k. k < n) }
 {
-    let mut k = 0;
-    while k < n {
+    for k in 0..n {
         if !good_slot(slots, k) {
-            return k;
+            return Some(k);
         }
-        k += 1;
     }
-    k
+    None
 }
 
 // The first slot after number i that has its identifier.
@@ -86,18 +85,17 @@ fn twin(slots: &[u8], i: usize) -> usize
     slot_with(slot_name(slots, i), slots, i + 1)
 }
 
-fn first_twice(slots: &[u8], n: usize) -> usize
+fn first_twice(slots: &[u8], n: usize) -> Option<usize>
     requires { slot_bytes * n ≤ length slots.now }
-    ensures { result ≡ first (is_twice slots.now n) n 0 }
+    ensures which { result ≡ first (is_twice slots.now n) n 0 }
+    ensures below { IfSome result (λ i. i < n) }
 {
-    let mut i = 0;
-    while i < n {
+    for i in 0..n {
         if twin(slots, i) < n {
-            return i;
+            return Some(i);
         }
-        i += 1;
     }
-    i
+    None
 }
 
 fn put_twice(room: &mut [u8], at: usize, slots: &[u8], i: usize) -> usize
@@ -116,12 +114,10 @@ fn put_among(room: &mut [u8], at: usize, slots: &[u8], n: usize) -> usize
     requires { slot_bytes * n ≤ length slots.now }
     ensures { Writes (among_text slots.now n) at room result }
 {
-    let k = first_bad(slots, n);
-    if k < n {
+    if let Some(k) = first_bad(slots, n) {
         return put_bad(room, at, slots, k);
     }
-    let i = first_twice(slots, n);
-    if i < n {
+    if let Some(i) = first_twice(slots, n) {
         return put_twice(room, at, slots, i);
     }
     at

@@ -12,7 +12,7 @@ ghost use Rattle.depot_record_lines.specs.Lines.{column, name_text, line_text, t
 ghost use Rattle.depot_record_lines.specs.Lines.{record_size, command_text, record_text, records_text};
 
 use byte_buffer::{two, wide};
-use depot_argument_lines::put_argument;
+use depot_argument_lines::{put_argument, size_in};
 use rules::program_format::{
     ARGUMENT_LENGTH, CODE, COMPONENT, JUMP, NO_TARGET, PLACE, RECORD_BYTES, TARGET,
 };
@@ -97,11 +97,7 @@ pub fn size_of(s: &[u8]) -> Option<usize>
     if s.len() < RECORD_BYTES {
         return None;
     }
-    let size = RECORD_BYTES + two(s, ARGUMENT_LENGTH);
-    if s.len() < size {
-        return None;
-    }
-    Some(size)
+    size_in(s, RECORD_BYTES, two(s, ARGUMENT_LENGTH))
 }
 
 fn put_command_record(room: &mut [u8], at: usize, total: usize, s: &[u8]) -> usize

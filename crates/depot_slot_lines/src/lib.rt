@@ -100,12 +100,9 @@ pub fn put_slots(
     requires { n ≤ limits.components }
     ensures { Writes (slots_text slots.now s.now ids.now n) at room result }
 {
-    let end = slots.len() / SLOT_BYTES;
     let mut to = at;
-    let mut k = 0;
-    while k < end {
+    for k in 0..slots.len() / SLOT_BYTES {
         to = put_owned(room, to, slots, k, s, ids, n);
-        k += 1;
     }
     to
 }

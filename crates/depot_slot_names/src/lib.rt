@@ -40,14 +40,12 @@ pub fn slot_with(id: &[u8], slots: &[u8], from: usize) -> usize
     ensures { result ≡ slot_with id.now slots.now from }
 {
     let n = slots.len() / SLOT_BYTES;
-    let mut k = from;
-    while k < n {
+    for k in from..n {
         if has_name(id, slots, k) {
             return k;
         }
-        k += 1;
     }
-    k
+    from.max(n)
 }
 
 // Whether component k has that identifier.
@@ -66,12 +64,10 @@ pub fn component_with(id: &[u8], s: &[u8], ids: &Places, n: usize) -> usize
     requires { n ≤ limits.components }
     ensures { result ≡ index_of id.now (names_at s.now ids.now n) }
 {
-    let mut k = 0;
-    while k < n {
+    for k in 0..n {
         if is_component(id, s, ids, k) {
             return k;
         }
-        k += 1;
     }
-    k
+    n
 }

@@ -11,6 +11,7 @@ use depot_run_types::{Run, Subject};
 use pitvorgas::pitvorgas_check;
 use program_test::test::test_program;
 use rules::answers::Group;
+use rules::controller::PLACES;
 
 fn of_envelope(boot: bool, envelope: &[u8]) -> Subject
     ensures { result ≡ of_checked boot (checked_of (check envelope.now)) }
@@ -37,11 +38,17 @@ fn is_boot(group: Group) -> bool
 fn of_program(program: &[u8]) -> Subject
     ensures { result ≡ of_program program.now (program_in program.now) }
 {
-    let t = test_program(program);
-    let group = t.group;
+    let Some(t) = test_program(program) else {
+        return Subject {
+            boot: false,
+            number: 0,
+            components: 0,
+            ids: [0; PLACES],
+        };
+    };
     let ids = t.ids;
     Subject {
-        boot: is_boot(group),
+        boot: is_boot(t.group),
         number: t.number,
         components: t.components,
         ids,

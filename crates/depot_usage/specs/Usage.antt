@@ -1,11 +1,11 @@
 -- The words of the command line.
-use Rattle.std.specs.Prelude.{ℕ, Bool, true, cond, eqb}
+use Rattle.std.specs.Prelude.{ℕ, Bool, true, cond, eqb, Option, None, Some}
+use Rattle.rules.specs.declared.answers.Group.{Group}
+use Rattle.rules.specs.declared.answers.Group.TheVariants as G
 use Rattle.rules.specs.Bytes.{Bytes, same}
 use Rattle.text.specs.Text.{ascii}
 use Rattle.depot_usage.specs.declared.Job.{Job}
 use Rattle.depot_usage.specs.declared.Job.TheVariants as J
-use Rattle.depot_usage.specs.declared.Asked.{Asked}
-use Rattle.depot_usage.specs.declared.Asked.TheVariants as A
 
 -- what is told of the tool itself
 unfoldable pub told_of : Bytes → Job
@@ -60,5 +60,5 @@ unfoldable pub fits : Job → ℕ → Bool
 fits job count = cond (eqb count (words_of job)) true (eqb count (most_of job))
 
 -- the group that a word names
-unfoldable pub asked_of : Bytes → Asked
-asked_of word = cond (same word (ascii "install")) A.Install (cond (same word (ascii "boot")) A.Boot A.Unknown)
+unfoldable pub asked_of : Bytes → Option Group
+asked_of word = cond (same word (ascii "install")) (Some G.Install) (cond (same word (ascii "boot")) (Some G.Boot) None)

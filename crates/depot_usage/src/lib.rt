@@ -5,7 +5,7 @@ ghost use Rattle.std.specs.Prelude.{◌≡◌};
 ghost use Rattle.depot_usage.specs.Usage.{told_of, job_of, words_of, most_of, asked_of};
 ghost use Rattle.depot_usage.specs.Usage.{fits as Usage·fits};
 
-use byte_buffer::is;
+use rules::answers::Group;
 
 #[derive(Clone, Copy)]
 pub enum Job {
@@ -22,62 +22,37 @@ pub enum Job {
     Unknown,
 }
 
-// The group that a job is asked for.
-#[derive(Clone, Copy)]
-pub enum Asked {
-    Install,
-    Boot,
-    Unknown,
-}
-
 // What is told of the tool itself.
-fn told_of(word: &[u8]) -> Job
+#[tactic(auto, using(crate::proofs::WordLaws::not_same), unfolding(crate::specs::Usage::told_of))]
+fn told_of(word: &str) -> Job
     ensures { result ≡ told_of word.now }
 {
-    if is(word, b"help") {
-        return Job::Help;
+    match word {
+        "help" | "--help" | "-h" => Job::Help,
+        "--version" => Job::Version,
+        _ => Job::Unknown,
     }
-    if is(word, b"--help") {
-        return Job::Help;
-    }
-    if is(word, b"-h") {
-        return Job::Help;
-    }
-    if is(word, b"--version") {
-        return Job::Version;
-    }
-    Job::Unknown
 }
 
 // The job that the first word names.
+#[tactic(auto, using(crate::proofs::WordLaws::not_same), unfolding(crate::specs::Usage::job_of))]
 pub fn job_of(word: &[u8]) -> Job
     ensures { result ≡ job_of word.now }
 {
-    if is(word, b"check") {
-        return Job::Check;
+    let Ok(word) = str::from_utf8(word) else {
+        return Job::Unknown;
+    };
+    match word {
+        "check" => Job::Check,
+        "show" => Job::Show,
+        "newer" => Job::Newer,
+        "translate" => Job::Translate,
+        "list" => Job::List,
+        "run" => Job::Run,
+        "run-program" => Job::RunProgram,
+        "batch" => Job::Batch,
+        _ => told_of(word),
     }
-    if is(word, b"show") {
-        return Job::Show;
-    }
-    if is(word, b"newer") {
-        return Job::Newer;
-    }
-    if is(word, b"translate") {
-        return Job::Translate;
-    }
-    if is(word, b"list") {
-        return Job::List;
-    }
-    if is(word, b"run") {
-        return Job::Run;
-    }
-    if is(word, b"run-program") {
-        return Job::RunProgram;
-    }
-    if is(word, b"batch") {
-        return Job::Batch;
-    }
-    told_of(word)
 }
 
 // How many words a job takes, the first among them.
@@ -85,17 +60,10 @@ fn words_of(job: Job) -> usize
     ensures { result ≡ words_of job }
 {
     match job {
-        Job::Check => 2,
-        Job::Show => 2,
-        Job::Newer => 3,
-        Job::Translate => 4,
-        Job::List => 2,
-        Job::Run => 4,
-        Job::RunProgram => 3,
-        Job::Batch => 2,
-        Job::Help => 1,
-        Job::Version => 1,
-        Job::Unknown => 1,
+        Job::Help | Job::Version | Job::Unknown => 1,
+        Job::Check | Job::Show | Job::List | Job::Batch => 2,
+        Job::Newer | Job::RunProgram => 3,
+        Job::Translate | Job::Run => 4,
     }
 }
 
@@ -104,39 +72,31 @@ fn most_of(job: Job) -> usize
     ensures { result ≡ most_of job }
 {
     match job {
-        Job::Check => 2,
-        Job::Show => 2,
-        Job::Newer => 3,
-        Job::Translate => 4,
-        Job::List => 2,
         Job::Run => 6,
         Job::RunProgram => 5,
-        Job::Batch => 2,
-        Job::Help => 1,
-        Job::Version => 1,
-        Job::Unknown => 1,
+        _ => words_of(job),
     }
 }
 
 // Whether a job takes that many words.
+#[tactic(auto, unfolding(crate::specs::Usage::fits))]
 pub fn fits(job: Job, count: usize) -> bool
     ensures { result ≡ Usage·fits job count }
 {
-    if count == words_of(job) {
-        return true;
-    }
-    count == most_of(job)
+    count == words_of(job) || count == most_of(job)
 }
 
 // The group that a word names.
-pub fn asked_group(word: &[u8]) -> Asked
+#[tactic(auto, using(crate::proofs::WordLaws::not_same), unfolding(crate::specs::Usage::asked_of))]
+pub fn asked_group(word: &[u8]) -> Option<Group>
     ensures { result ≡ asked_of word.now }
 {
-    if is(word, b"install") {
-        return Asked::Install;
+    let Ok(word) = str::from_utf8(word) else {
+        return None;
+    };
+    match word {
+        "install" => Some(Group::Install),
+        "boot" => Some(Group::Boot),
+        _ => None,
     }
-    if is(word, b"boot") {
-        return Asked::Boot;
-    }
-    Asked::Unknown
 }

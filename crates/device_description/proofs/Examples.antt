@@ -3,6 +3,8 @@ use Prim.Native.String.{String}
 use mathlib.Core.Path.{◌≡◌, refl}
 use mathlib.Core.List.{List, [], ◌∷◌, ◌++◌, map}
 use mathlib.Core.Bool.{true, false}
+use Rattle.std.specs.Prelude.{None}
+use Rattle.std.specs.Option.{unwrap_or}
 use lib.ListN.{replicate}
 use Rattle.rules.specs.Bytes.{Bytes}
 use Rattle.text.specs.Text.{ascii, position}
@@ -46,7 +48,7 @@ pub gate : says
             event = true;
             slots = 148;
             answers = 37;
-            refused = 0;
+            refused = None;
           };
       slots =
           11 ∷ 130 ∷ 69 ∷ 70 ∷ 108 ∷ 97 ∷ 115 ∷ 104 ∷ 67 ∷ 0 ∷ 52 ∷ 1 ∷ replicate 21 0
@@ -86,7 +88,7 @@ loose_says = refl
 
 -- each of these is refused at the line whose number stands behind it
 pub faults :
-    map (λ ls. (says ls).scenario.refused)
+    map (λ ls. unwrap_or (says ls).scenario.refused 0)
     (("verdict maybe" ∷ [])
     ∷ ("" ∷ "number 4294967296" ∷ [])
     ∷ ("number 1 2" ∷ [])

@@ -3,8 +3,9 @@ use Prim.Native.Nat.{ℕ, suc, ◌+◌, ◌≤◌}
 use mathlib.Core.Path.{◌≡◌, refl, sym, ap, ◌∙◌}
 use mathlib.Core.List.{List, [], ◌∷◌, ◌++◌}
 use mathlib.Core.Bool.{Bool, true, false, ◌&&◌, cond}
-use lib.Dec.{eqb, leb}
-use borrow.Author.Tests.{eq-eqb, ne_eqb, leb-true}
+use Rattle.std.specs.Option.{is_some}
+use lib.Dec.{leb}
+use borrow.Author.Tests.{leb-true}
 use native.Mathlib.Omega.{arith}
 use lib.ListN.{length, length-append}
 use lib.Seq.{length-sets}
@@ -14,15 +15,12 @@ use Rattle.rules.specs.Bytes.{Bytes, same, put}
 use Rattle.rules.specs.Slots.{slot_bytes, answer_bytes}
 use Rattle.text.specs.Text.{ascii}
 use Rattle.rules.proofs.BytesLaws.{put-append}
-use Rattle.device_text.specs.Words.{lines, content, word, rest, is_number, bytes, is_bytes}
+use Rattle.device_text.specs.Words.{lines, content, word, rest, is_number, is_bytes}
 use Rattle.device_slots.specs.SlotText.{is_slot, slot, is_answer, answer}
 use Rattle.device_slots.proofs.LengthLaws.{slot-length, answer-length}
-use Rattle.device_description.specs.Scenario.{passed, says, with_slots, with_answers, refused_at, understood, verdict_line, vendor_line, class_line, number_line, event_line}
+use Rattle.device_description.specs.Scenario.{passed, says, with_slots, with_answers, refused_at, verdict_line, vendor_line, class_line, number_line, event_line}
 use Rattle.device_description.specs.Scenario.{setting, Said, slot_line, answer_line, line, ◌then◌, start, lines_from, described, Describes, Took}
 use Rattle.device_description.specs.declared.Scenario.{Scenario}
-use Rattle.device_description.specs.declared.Flag.{Flag}
-use Rattle.device_description.specs.declared.Name.{Name}
-use Rattle.device_description.specs.Values.{flag_if, name_of}
 
 -- what fits a room does so in numbers
 pub room_for : (good : Bool) (at width m : ℕ) (r : Bool) → r ≡ (good && leb (at + width) m) → r ≡ true → at + width ≤ m
@@ -44,22 +42,6 @@ answer_alone m n d t = go (is_answer t && leb (d.answers + answer_bytes) m)
     go : (x : Bool) → (cond x (record { scenario = with_answers (d.answers + answer_bytes) d; slots = []; answers = answer t }) (says (refused_at n d))).slots ≡ []
     go true = refl
     go false = refl
-
--- a line that says a truth value, or a vendor or class, by what it hands on
-pub flag_line : (n : ℕ) (d : Scenario) (with : Bool → Scenario) (before : Bool) → refused_at n (with before) ≡ refused_at n d → (first second : Bool) (f : Flag) → f ≡ flag_if first second before →
-    understood n f.known (with f.on) ≡ cond first (with true) (cond second (with false) (refused_at n d))
-flag_line n d with before same true second f e = rw e refl
-flag_line n d with before same false true f e = rw e refl
-flag_line n d with before same false false f e = rw e same
-
-pub name-line : (n : ℕ) (d : Scenario) (with : Bytes → Scenario) (before : Bytes) → refused_at n (with before) ≡ refused_at n d → (t : Bytes) (x : Name) → x ≡ name_of t before →
-    understood n x.known (with x.bytes) ≡ cond (is_bytes limits.class t) (with (bytes t)) (refused_at n d)
-name-line n d with before same t x e = go (is_bytes limits.class t) e
-  where
-    go : (b : Bool) → x ≡ cond b (record { known = true; bytes = bytes t }) (record { known = false; bytes = before }) →
-        understood n x.known (with x.bytes) ≡ cond b (with (bytes t)) (refused_at n d)
-    go true u = rw u refl
-    go false u = rw u same
 
 -- what a line counts is what it adds
 counts : Scenario → ℕ × ℕ
@@ -170,17 +152,17 @@ behind : (room : Bytes) (at next : ℕ) (x y : Bytes) (room' : Bytes) → next �
 behind room at next x y room' e h = rw (e, h) (sym (put-append room at x y))
 
 module _ (m k n : ℕ) (d : Scenario) (l : Bytes) (ls : List Bytes) where
-  go_on : (r : Scenario) → r ≡ (line m k n d (content l)).scenario → r.refused ≡ 0 → lines_from m k n d (l ∷ ls) ≡ (line m k n d (content l) then lines_from m k (suc n) r ls)
+  go_on : (r : Scenario) → r ≡ (line m k n d (content l)).scenario → is_some r.refused ≡ false → lines_from m k n d (l ∷ ls) ≡ (line m k n d (content l) then lines_from m k (suc n) r ls)
   unfolding lines_from
-  go_on r e h = rw (← e, eq-eqb r.refused 0 h)
+  go_on r e h = rw (← e, h)
 
-  stay : (r : Scenario) → r ≡ (line m k n d (content l)).scenario → (r.refused ≡ 0 → ⊥) → lines_from m k n d (l ∷ ls) ≡ line m k n d (content l)
+  stay : (r : Scenario) → r ≡ (line m k n d (content l)).scenario → is_some r.refused ≡ true → lines_from m k n d (l ∷ ls) ≡ line m k n d (content l)
   unfolding lines_from
-  stay r e h = rw (← e, ne_eqb r.refused 0 h)
+  stay r e h = rw (← e, h)
 
   module _ (w : Said) (s₀ a₀ s a : Bytes) (r : Scenario) (s₁ a₁ : Bytes) (f : Left w s₀ a₀ (lines_from m k n d (l ∷ ls)) d s a)
       (t : Took (line m k n d (content l)) d s a r s₁ a₁) where
-    pub left-next : r.refused ≡ 0 → Left w s₀ a₀ (lines_from m k (suc n) r ls) r s₁ a₁
+    pub left-next : is_some r.refused ≡ false → Left w s₀ a₀ (lines_from m k (suc n) r ls) r s₁ a₁
     left-next h =
         let g : Left w s₀ a₀ (line m k n d (content l) then lines_from m k (suc n) r ls) d s a = rw (go_on r t.scenario h) at f in
         let e = counted m k n d (content l) in
@@ -193,7 +175,7 @@ module _ (m k n : ℕ) (d : Scenario) (l : Bytes) (ls : List Bytes) where
           answers_are = g.answers_are ∙ behind a d.answers r.answers (line m k n d (content l)).answers rest.answers a₁ answersNext t.answers_are;
         }
 
-    pub left_stop : (r.refused ≡ 0 → ⊥) → Describes w s₀ a₀ r s₁ a₁
+    pub left_stop : is_some r.refused ≡ true → Describes w s₀ a₀ r s₁ a₁
     left_stop h =
         let g : Left w s₀ a₀ (line m k n d (content l)) d s a = rw (stay r t.scenario h) at f in
         record { scenario = t.scenario ∙ sym g.scenario; slots_are = t.slots_are ∙ sym g.slots_are; answers_are = t.answers_are ∙ sym g.answers_are }
@@ -218,7 +200,7 @@ unfolding lines_from counts
 lines-counted m k n d [] = counted_same m k d d refl
 lines-counted m k n d (l ∷ ls) =
     let x = line m k n d (content l) in
-    one_of m k (eqb x.scenario.refused 0) _ _ (λ p. after_line m k d x _ (counted m k n d (content l)) (lines-counted m k (suc n) x.scenario ls)) (λ p. counted m k n d (content l))
+    one_of m k (is_some x.scenario.refused) _ _ (λ p. counted m k n d (content l)) (λ p. after_line m k d x _ (counted m k n d (content l)) (lines-counted m k (suc n) x.scenario ls))
 
 pub described_lengths : (m k : ℕ) (s : Bytes) → ((described m k s).scenario.slots ≡ length (described m k s).slots) × ((described m k s).scenario.answers ≡ length (described m k s).answers)
 unfolding described start

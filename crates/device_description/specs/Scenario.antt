@@ -1,5 +1,5 @@
 -- Device descriptions: the input of a run (01, How a run goes) as a text. docs/DEPOT.md has the format.
-use Rattle.std.specs.Prelude.{ℕ, suc, ◌+◌, ◌*◌, ◌≡◌, Bool, true, false, ◌&&◌, cond, List, [], ◌∷◌, ◌++◌, eqb, leb, length}
+use Rattle.std.specs.Prelude.{ℕ, suc, ◌+◌, ◌*◌, ◌≡◌, Bool, true, false, ◌&&◌, cond, Some, None, is_some, List, [], ◌∷◌, ◌++◌, eqb, leb, length}
 use Rattle.rules.specs.Lent.{Lent, was, left}
 use Rattle.rules.specs.Bytes.{Bytes, same, put}
 use Rattle.rules.specs.Limits.{limits}
@@ -27,7 +27,7 @@ start =
       event = false;
       slots = 0;
       answers = 0;
-      refused = 0;
+      refused = None;
     }
 
 abbrev pub with_verdict : Bool → Scenario → Scenario
@@ -132,12 +132,8 @@ refused_at n d =
       event = d.event;
       slots = d.slots;
       answers = d.answers;
-      refused = n;
+      refused = Some n;
     }
-
--- line n, whether it was understood or not
-abbrev pub understood : ℕ → Bool → Scenario → Scenario
-understood n known d = cond known d (refused_at n d)
 
 -- line n, of one of the five that set a value: the word in front, and what stands behind it
 unfoldable pub verdict_line : ℕ → Scenario → Bytes → Scenario
@@ -210,7 +206,7 @@ unfoldable pub lines_from : ℕ → ℕ → ℕ → Scenario → List Bytes → 
 lines_from m k n d [] = says d
 lines_from m k n d (l ∷ ls) =
     let x = line m k n d (content l) in
-    cond (eqb x.scenario.refused 0) (x then lines_from m k (suc n) x.scenario ls) x
+    cond (is_some x.scenario.refused) x (x then lines_from m k (suc n) x.scenario ls)
 
 -- a whole text
 unfoldable pub described : ℕ → ℕ → Bytes → Said

@@ -1,15 +1,13 @@
--- What a line says of a value, as the code hands it on. Where the line is not understood, the value is as before.
-use Rattle.std.specs.Prelude.{Bool, true, false, cond}
+-- What a line says of a value, as the code hands it on; none where the line is not understood.
+use Rattle.std.specs.Prelude.{Bool, true, false, cond, Option, Some, None}
 use Rattle.rules.specs.Bytes.{Bytes}
 use Rattle.rules.specs.Limits.{limits}
 use Rattle.device_text.specs.Words.{bytes, is_bytes}
-use Rattle.device_description.specs.declared.Flag.{Flag}
-use Rattle.device_description.specs.declared.Name.{Name}
 
 -- on, by the one word; off, by the other
-abbrev pub flag_if : Bool → Bool → Bool → Flag
-flag_if first second before = cond first (record { known = true; on = true }) (cond second (record { known = true; on = false }) (record { known = false; on = before }))
+abbrev pub flag_if : Bool → Bool → Option Bool
+flag_if first second = cond first (Some true) (cond second (Some false) None)
 
 -- a vendor or a class
-abbrev pub name_of : Bytes → Bytes → Name
-name_of t before = cond (is_bytes limits.class t) (record { known = true; bytes = bytes t }) (record { known = false; bytes = before })
+abbrev pub name_of : Bytes → Option Bytes
+name_of t = cond (is_bytes limits.class t) (Some (bytes t)) None

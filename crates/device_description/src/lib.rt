@@ -10,7 +10,7 @@ use byte_buffer::is;
 use device_slots::put::{put_answer, put_slot, sixteen};
 use device_slots::shape::{is_answer, is_slot};
 use device_text::line::{line_at, next_line};
-use device_text::read::{NO_NUMBER, decimal, is_bytes};
+use device_text::read::{decimal, is_bytes};
 use device_text::{rest, word};
 use rules::controller::{Controller, Sixteen};
 use rules::slot_format::{IMAGE_BYTES, SLOT_BYTES};
@@ -34,8 +34,8 @@ pub struct Scenario {
     pub event: bool,
     pub slots: usize,
     pub answers: usize,
-    // 0, or the number of the line that is not understood; the rest is what the lines before it say
-    pub refused: usize,
+    // the number of the line that is not understood; the rest is what the lines before it say
+    pub refused: Option<usize>,
 }
 
 fn start() -> Scenario
@@ -51,122 +51,97 @@ fn start() -> Scenario
         event: false,
         slots: 0,
         answers: 0,
-        refused: 0,
+        refused: None,
     }
 }
 
 fn refuse(mut d: Scenario, n: usize) -> Scenario
     ensures { result ≡ Rule.refused_at n d }
 {
-    d.refused = n;
+    d.refused = Some(n);
     d
 }
 
-// Line n, whether it was understood or not.
-fn understood(d: Scenario, n: usize, known: bool) -> Scenario
-    ensures { result ≡ Rule.understood n known d }
-{
-    if known {
-        return d;
-    }
-    refuse(d, n)
-}
-
-// What a line says of a truth value, and of a vendor or class. Where it is not understood, they are as before.
-#[derive(Clone, Copy)]
-struct Flag {
-    known: bool,
-    on: bool,
-}
-
-#[derive(Clone, Copy)]
-struct Name {
-    known: bool,
-    bytes: Sixteen,
-}
-
-fn read_flag(t: &[u8], yes: &[u8], no: &[u8], before: bool) -> Flag
-    ensures { result ≡ flag_if (same t.now yes.now) (same t.now no.now) before }
+// What a line says of a truth value, and of a vendor or class.
+fn read_flag(t: &[u8], yes: &[u8], no: &[u8]) -> Option<bool>
+    ensures { result ≡ flag_if (same t.now yes.now) (same t.now no.now) }
 {
     if is(t, yes) {
-        return Flag {
-            known: true,
-            on: true,
-        };
-    }
-    if is(t, no) {
-        return Flag {
-            known: true,
-            on: false,
-        };
-    }
-    Flag {
-        known: false,
-        on: before,
+        Some(true)
+    } else if is(t, no) {
+        Some(false)
+    } else {
+        None
     }
 }
 
-fn read_name(t: &[u8], before: Sixteen) -> Name
-    ensures { result ≡ name_of t.now before }
+fn read_name(t: &[u8]) -> Option<Sixteen>
+    ensures { result ≡ name_of t.now }
 {
     if is_bytes(Controller::CLASS_BYTES, t) {
-        let bytes = sixteen(t);
-        return Name { known: true, bytes };
-    }
-    Name {
-        known: false,
-        bytes: before,
+        Some(sixteen(t))
+    } else {
+        None
     }
 }
 
 // The lines that set a value: n is the number of the line, t what stands behind the word in front.
+#[tactic(auto, unfolding(crate::specs::Scenario::verdict_line))]
 fn verdict_line(mut d: Scenario, n: usize, t: &[u8]) -> Scenario
     ensures { result ≡ Rule.verdict_line n d t.now }
 {
-    let f = read_flag(t, b"good", b"bad", d.verdict);
-    d.verdict = f.on;
-    understood(d, n, f.known)
+    let Some(good) = read_flag(t, b"good", b"bad") else {
+        return refuse(d, n);
+    };
+    d.verdict = good;
+    d
 }
 
+#[tactic(auto, unfolding(crate::specs::Scenario::event_line))]
 fn event_line(mut d: Scenario, n: usize, t: &[u8]) -> Scenario
     ensures { result ≡ Rule.event_line n d t.now }
 {
-    let f = read_flag(t, b"open", b"closed", d.event);
-    d.event = f.on;
-    understood(d, n, f.known)
+    let Some(open) = read_flag(t, b"open", b"closed") else {
+        return refuse(d, n);
+    };
+    d.event = open;
+    d
 }
 
+#[tactic(auto, unfolding(crate::specs::Scenario::vendor_line))]
 fn vendor_line(mut d: Scenario, n: usize, t: &[u8]) -> Scenario
     ensures { result ≡ Rule.vendor_line n d t.now }
 {
-    let before = d.vendor;
-    let name = read_name(t, before);
-    let vendor = name.bytes;
+    let Some(vendor) = read_name(t) else {
+        return refuse(d, n);
+    };
     d.vendor = vendor;
-    understood(d, n, name.known)
+    d
 }
 
+#[tactic(auto, unfolding(crate::specs::Scenario::class_line))]
 fn class_line(mut d: Scenario, n: usize, t: &[u8]) -> Scenario
     ensures { result ≡ Rule.class_line n d t.now }
 {
-    let before = d.class;
-    let name = read_name(t, before);
-    let class = name.bytes;
+    let Some(class) = read_name(t) else {
+        return refuse(d, n);
+    };
     d.class = class;
-    understood(d, n, name.known)
+    d
 }
 
+#[tactic(auto, unfolding(crate::specs::Scenario::number_line))]
 fn number_line(mut d: Scenario, n: usize, t: &[u8]) -> Scenario
     ensures { result ≡ Rule.number_line n d t.now }
 {
-    let number = decimal(t);
-    if number < NO_NUMBER {
-        d.number = number;
-        return d;
-    }
-    refuse(d, n)
+    let Some(number) = decimal(t) else {
+        return refuse(d, n);
+    };
+    d.number = number;
+    d
 }
 
+#[tactic(auto, unfolding(crate::specs::Scenario::setting))]
 fn setting(d: Scenario, n: usize, w: &[u8], t: &[u8]) -> Scenario
     ensures { result ≡ Rule.setting n d w.now t.now }
 {
@@ -192,16 +167,7 @@ fn setting(d: Scenario, n: usize, w: &[u8], t: &[u8]) -> Scenario
 fn fits(good: bool, at: usize, width: usize, length: usize) -> bool
     ensures { result ≡ (good && leb (at + width) length) }
 {
-    if !good {
-        return false;
-    }
-    if length < width {
-        return false;
-    }
-    if length - width < at {
-        return false;
-    }
-    true
+    good && width <= length && at <= length - width
 }
 
 fn slot_line(mut d: Scenario, n: usize, t: &[u8], slots: &mut [u8]) -> Scenario
@@ -232,7 +198,7 @@ fn answer_line(mut d: Scenario, n: usize, t: &[u8], answers: &mut [u8]) -> Scena
 fn passed(l: &[u8]) -> bool
     ensures { result ≡ Rule.passed l.now }
 {
-    l.len() == 0
+    l.is_empty()
 }
 
 // One line.
@@ -260,10 +226,10 @@ pub fn describe(text: &[u8], slots: &mut [u8], answers: &mut [u8]) -> Scenario
     let mut d = start();
     let mut n = 1;
     let mut at = 0;
+    // A while: a turn goes on to where the next line starts.
     while at < text.len() {
         d = take_line(d, n, line_at(text, at), slots, answers);
-        let refused = d.refused;
-        if refused != 0 {
+        if d.refused.is_some() {
             return d;
         }
         at = next_line(text, at);

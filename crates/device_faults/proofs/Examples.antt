@@ -3,6 +3,7 @@ use Prim.Native.Nat.{◌*◌}
 use Prim.Native.String.{String}
 use mathlib.Core.Path.{◌≡◌, refl}
 use mathlib.Core.List.{List, [], ◌∷◌, map}
+use Rattle.std.specs.Option.{unwrap_or}
 use lib.ListN.{replicate}
 use Rattle.rules.specs.Bytes.{Bytes}
 use Rattle.rules.specs.Slots.{slot_bytes, answer_bytes}
@@ -20,7 +21,7 @@ unfoldable pub tells : List String → Bytes
 unfolding position digits quoted labelled lines behind_lines first_blank skip trim content line_of word rest one_more number_from number digit all_digits unhex bytes
     is_bytes up_to_bytes is_image image is_state is_slot identifier slot status is_answer answer start verdict_line vendor_line class_line number_line event_line setting
     slot_line answer_line line lines_from described unknown_text sixteen_text setting_fault image_fault state_fault slot_fault answer_fault line_fault fault_text
-tells ls = fault_text (text ls) (described (most_slots * slot_bytes) (most_answers * answer_bytes) (text ls)).scenario.refused
+tells ls = fault_text (text ls) (unwrap_or (described (most_slots * slot_bytes) (most_answers * answer_bytes) (text ls)).scenario.refused 0)
 
 -- each text tells what stands behind it
 pub values :

@@ -4,7 +4,7 @@ ghost use Rattle.device_faults.specs.Faults.{digest_text, too_many, image_fault,
 
 use device_description::MOST_ANSWERS;
 use device_slots::shape::{LARGEST_STATUS, status};
-use device_text::read::{NO_NUMBER, decimal, is_bytes};
+use device_text::read::{decimal, is_bytes};
 use device_text::{rest, word};
 use rules::controller::Controller;
 use text::{put, put_byte};
@@ -29,6 +29,7 @@ fn put_digest(room: &mut [u8], at: usize, name: &[u8]) -> usize
 }
 
 // The size and the digest of a slot or an answer.
+#[tactic(auto, unfolding(crate::specs::Faults::image_fault))]
 pub(crate) fn put_image_fault(
     room: &mut [u8],
     at: usize,
@@ -38,7 +39,7 @@ pub(crate) fn put_image_fault(
 ) -> usize
     ensures { Writes (image_fault name.now most t.now) at room result }
 {
-    if NO_NUMBER <= decimal(word(t)) {
+    if decimal(word(t)).is_none() {
         let a = put(room, at, name);
         return put_labelled(
             room,
@@ -53,10 +54,11 @@ pub(crate) fn put_image_fault(
     put_digest(room, at, name)
 }
 
+#[tactic(auto, unfolding(crate::specs::Faults::answer_fault))]
 pub(crate) fn put_answer_fault(room: &mut [u8], at: usize, t: &[u8]) -> usize
     ensures { Writes (answer_fault t.now) at room result }
 {
-    if status(word(t)) <= LARGEST_STATUS {
+    if status(word(t)).is_some_and(|n| n <= LARGEST_STATUS) {
         return put_image_fault(room, at, b"answer", MOST_ANSWERS, rest(t));
     }
     put_labelled(

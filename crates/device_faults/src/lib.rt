@@ -18,6 +18,7 @@ mod setting;
 mod slot;
 
 // What is wrong in a line: the tests are made in the reader's order.
+#[tactic(auto, unfolding(crate::specs::Faults::line_fault))]
 fn put_line_fault(room: &mut [u8], at: usize, l: &[u8]) -> usize
     ensures { Writes (line_fault l.now) at room result }
 {

@@ -5,13 +5,14 @@ ghost use Rattle.device_faults.specs.Faults.{state_fault, identifier_text, slot_
 use crate::image::{put_image_fault, put_too_many};
 use byte_buffer::is;
 use device_description::MOST_SLOTS;
-use device_text::read::{NO_NUMBER, decimal, up_to_bytes};
+use device_text::read::{decimal, up_to_bytes};
 use device_text::{rest, word};
 use rules::controller::Controller;
 use text::put;
 use text_pieces::put_labelled;
 
 // Whether it is present, and its image.
+#[tactic(auto, unfolding(crate::specs::Faults::state_fault))]
 fn put_state_fault(room: &mut [u8], at: usize, w: &[u8], t: &[u8]) -> usize
     ensures { Writes (state_fault w.now t.now) at room result }
 {
@@ -21,7 +22,7 @@ fn put_state_fault(room: &mut [u8], at: usize, w: &[u8], t: &[u8]) -> usize
     if !is(w, b"absent") {
         return put(room, at, b"slot: neither present nor absent");
     }
-    if t.len() == 0 {
+    if t.is_empty() {
         return put_too_many(room, at, MOST_SLOTS, b"slot");
     }
     put_image_fault(room, at, b"slot", MOST_SLOTS, t)
@@ -39,6 +40,7 @@ fn put_identifier(room: &mut [u8], at: usize) -> usize
     put(room, a, b" bytes in hexadecimal")
 }
 
+#[tactic(auto, unfolding(crate::specs::Faults::slot_fault))]
 pub(crate) fn put_slot_fault(room: &mut [u8], at: usize, t: &[u8]) -> usize
     ensures { Writes (slot_fault t.now) at room result }
 {
@@ -46,7 +48,7 @@ pub(crate) fn put_slot_fault(room: &mut [u8], at: usize, t: &[u8]) -> usize
         return put_identifier(room, at);
     }
     let t2 = rest(t);
-    if NO_NUMBER <= decimal(word(t2)) {
+    if decimal(word(t2)).is_none() {
         return put_labelled(
             room,
             at,

@@ -9,12 +9,15 @@ use native.Mathlib.Omega.{arith}
 use native.Mathlib.Numerals.{add-one}
 use lib.ListN.{length, replicate, length-append, length-replicate}
 use lib.Seq.{sets-eq}
+use Rattle.std.specs.Prelude.{Some, None}
+use Rattle.std.specs.Option.{unwrap_or}
 use Rattle.rules.specs.Limits.{limits}
 use Rattle.rules.specs.Slots.{answer_bytes, slot_bytes, capacity_from}
 use Rattle.rules.specs.Bytes.{Bytes, be4, same, put}
 use Rattle.text.specs.Text.{ascii}
-use Rattle.device_text.specs.Words.{word, rest, number, is_number, unhex, bytes, is_bytes, up_to_bytes}
-use Rattle.device_slots.specs.SlotText.{content_bytes, zeros, is_image, image, is_state, is_slot, identifier, slot, is_answer, answer, status, largest_status}
+use Rattle.device_text.specs.Words.{word, rest, number, no_number, decimal, is_number, unhex, bytes, is_bytes, up_to_bytes}
+use Rattle.device_text.proofs.WordLaws.{number-le}
+use Rattle.device_slots.specs.SlotText.{content_bytes, zeros, is_image, image, is_state, is_slot, identifier, slot, is_answer, answer, status, a_status, largest_status}
 
 -- two tests that both pass
 both : (x y : Bool) → cond x y false ≡ true → (x ≡ true) × (y ≡ true)
@@ -94,3 +97,31 @@ slot-length t h =
 pub answer-length : (t : Bytes) → is_answer t ≡ true → length (answer t) ≡ answer_bytes
 unfolding is_answer answer
 answer-length t h = rw (given (rest t) (both (leb (status (word t)) largest_status) _ h).1)
+
+-- what no number and no status are written as
+pub four-or : (w : Bytes) → be4 (unwrap_or (decimal w) 0) ≡ be4 (number w)
+four-or w = go (ltb (number w) no_number) refl
+  where
+    go : (t : Bool) → ltb (number w) no_number ≡ t → be4 (unwrap_or (cond t (Some (number w)) None) 0) ≡ be4 (number w)
+    go true e = refl
+    go false e =
+        let n : number w ≡ no_number = omega (arith, number-le w, ltb-false _ _ e) in
+        rw n
+
+status-le : (w : Bytes) → status w ≤ no_number
+unfolding status
+status-le w = go (same w (ascii "good")) (same w (ascii "bad"))
+  where
+    go : (x y : Bool) → cond x 0 (cond y 1 (number w)) ≤ no_number
+    go true y = omega arith
+    go false true = omega arith
+    go false false = number-le w
+
+pub status-or : (w : Bytes) → unwrap_or (a_status w) 0 % 256 ≡ status w % 256
+status-or w = go (ltb (status w) no_number) refl
+  where
+    go : (t : Bool) → ltb (status w) no_number ≡ t → unwrap_or (cond t (Some (status w)) None) 0 % 256 ≡ status w % 256
+    go true e = refl
+    go false e =
+        let n : status w ≡ no_number = omega (arith, status-le w, ltb-false _ _ e) in
+        rw n

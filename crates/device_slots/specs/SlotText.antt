@@ -1,10 +1,10 @@
 -- Slots and answers as words of a text, and their bytes. docs/DEPOT.md has the format.
-use Rattle.std.specs.Prelude.{ℕ, ◌-◌, ◌/◌, ◌%◌, Bool, true, false, cond, [], ◌∷◌, ◌++◌, eqb, leb, length, replicate}
+use Rattle.std.specs.Prelude.{ℕ, ◌-◌, ◌/◌, ◌%◌, Bool, true, false, cond, Option, Some, None, [], ◌∷◌, ◌++◌, eqb, ltb, leb, length, replicate}
 use Rattle.rules.specs.Bytes.{Bytes, be4, same}
 use Rattle.rules.specs.Limits.{limits}
 use Rattle.rules.specs.Slots.{answer_bytes, size_from}
 use Rattle.text.specs.Text.{ascii}
-use Rattle.device_text.specs.Words.{word, rest, number, is_number, bytes, is_bytes, up_to_bytes}
+use Rattle.device_text.specs.Words.{word, rest, number, no_number, is_number, bytes, is_bytes, up_to_bytes}
 
 abbrev pub zeros : ℕ → Bytes
 zeros n = replicate n 0
@@ -53,6 +53,10 @@ largest_status = 255
 
 unfoldable pub status : Bytes → ℕ
 status w = cond (same w (ascii "good")) 0 (cond (same w (ascii "bad")) 1 (number w))
+
+-- the same as the code has it
+abbrev pub a_status : Bytes → Option ℕ
+a_status w = cond (ltb (status w) no_number) (Some (status w)) None
 
 unfoldable pub is_answer : Bytes → Bool
 is_answer t = cond (leb (status (word t)) largest_status) (is_image (rest t)) false

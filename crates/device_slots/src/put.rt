@@ -38,19 +38,16 @@ fn put_four(room: &mut [u8], at: usize, n: usize) -> usize
 fn pair(a: u8, b: u8) -> u8
     ensures { result ≡ Words.pair a b }
 {
-    (digit(a) % 16 * 16 + digit(b) % 16) as u8
+    digit(a).unwrap_or(0) * 16 + digit(b).unwrap_or(0)
 }
 
 // The bytes that a word writes in hexadecimal.
 fn put_bytes(room: &mut [u8], at: usize, w: &[u8]) -> usize
     ensures { Writes (Words.bytes w.now) at room result }
 {
-    let n = w.len() / 2;
     let mut to = at;
-    let mut i = 0;
-    while i < n {
+    for i in 0..w.len() / 2 {
         to = put_byte(room, to, pair(w[i * 2], w[i * 2 + 1]));
-        i += 1;
     }
     to
 }
@@ -68,10 +65,10 @@ pub fn sixteen(w: &[u8]) -> Sixteen
 fn put_image(room: &mut [u8], at: usize, t: &[u8]) -> usize
     ensures { Writes (Rule.image t.now) at room result }
 {
-    if t.len() == 0 {
+    if t.is_empty() {
         return put_times(room, at, 0, CONTENT);
     }
-    let a = put_four(room, at, decimal(word(t)));
+    let a = put_four(room, at, decimal(word(t)).unwrap_or(0));
     put_bytes(room, a, rest(t))
 }
 
@@ -91,10 +88,7 @@ fn put_identifier(room: &mut [u8], at: usize, w: &[u8]) -> usize
 fn presence(w: &[u8]) -> u8
     ensures { result ≡ Rule.presence w.now }
 {
-    if is(w, b"present") {
-        return 1;
-    }
-    0
+    u8::from(is(w, b"present"))
 }
 
 pub fn put_slot(room: &mut [u8], at: usize, t: &[u8]) -> usize
@@ -102,7 +96,7 @@ pub fn put_slot(room: &mut [u8], at: usize, t: &[u8]) -> usize
 {
     let a = put_identifier(room, at, word(t));
     let t2 = rest(t);
-    let b = put_four(room, a, decimal(word(t2)));
+    let b = put_four(room, a, decimal(word(t2)).unwrap_or(0));
     let t3 = rest(t2);
     let c = put_byte(room, b, presence(word(t3)));
     put_image(room, c, rest(t3))
@@ -111,6 +105,6 @@ pub fn put_slot(room: &mut [u8], at: usize, t: &[u8]) -> usize
 pub fn put_answer(room: &mut [u8], at: usize, t: &[u8]) -> usize
     ensures { Writes (Rule.answer t.now) at room result }
 {
-    let a = put_byte(room, at, low(status(word(t))));
+    let a = put_byte(room, at, low(status(word(t)).unwrap_or(0)));
     put_image(room, a, rest(t))
 }

@@ -1,5 +1,5 @@
 -- Lines, words, and what a word gives: a number, or bytes.
-use Rattle.std.specs.Prelude.{ℕ, zero, suc, ◌+◌, ◌-◌, ◌*◌, ◌/◌, ◌%◌, Bool, true, false, cond, List, [], ◌∷◌, ◌++◌, eqb, ltb, leb, length, take, drop, get_or}
+use Rattle.std.specs.Prelude.{ℕ, zero, suc, ◌+◌, ◌-◌, ◌*◌, ◌/◌, ◌%◌, Bool, true, false, cond, Option, Some, None, List, [], ◌∷◌, ◌++◌, eqb, ltb, leb, length, take, drop, get_or}
 use Rattle.rules.specs.Bytes.{Bytes}
 use Rattle.rules.specs.Limits.{limits}
 use Rattle.text.specs.Text.{position}
@@ -94,6 +94,10 @@ number w = cond (eqb (length w) 0) no_number (number_from 0 w)
 abbrev pub is_number : Bytes → Bool
 is_number w = ltb (number w) no_number
 
+-- the same as the code has it
+abbrev pub decimal : Bytes → Option ℕ
+decimal w = cond (is_number w) (Some (number w)) None
+
 -- the value of a digit in hexadecimal; 16 is none
 unfoldable pub digit : ℕ → ℕ
 digit b =
@@ -104,6 +108,10 @@ digit b =
     (cond (ltb b 97) 16
     (cond (leb b 102) (b - 87)
     16)))))
+
+-- the same as the code has it
+abbrev pub value : ℕ → Option ℕ
+value b = cond (ltb (digit b) 16) (Some (digit b)) None
 
 unfoldable pub all_digits : Bytes → Bool
 all_digits [] = true

@@ -13,11 +13,7 @@ const COMMENT: usize = 35;
 fn behind(text: &[u8], at: usize) -> &[u8]
     ensures { result.now ≡ drop at text.now }
 {
-    if at < text.len() {
-        return &text[at..];
-    }
-    let end = text.len();
-    &text[end..]
+    &text[at.min(text.len())..]
 }
 
 // What a line says: it has no comment, and no blanks at its start and its end.
@@ -54,10 +50,8 @@ fn line_start(text: &[u8], n: usize) -> usize
     ensures { drop result text.now ≡ Words.behind_lines (n - 1) text.now }
 {
     let mut at = 0;
-    let mut i = 1;
-    while i < n {
+    for _ in 1..n {
         at = next_line(text, at);
-        i += 1;
     }
     at
 }

@@ -3,8 +3,9 @@ use Prim.Native.Nat.{ℕ, zero, suc, ◌+◌, ◌*◌, ◌/◌, ◌≤◌, ◌<�
 use mathlib.Core.Path.{◌≡◌, refl, sym, ap, ◌∙◌}
 use mathlib.Core.List.{List, [], ◌∷◌, ◌++◌, append_assoc, append-nil}
 use mathlib.Core.Bool.{true}
-use borrow.Author.Tests.{eq-eqb, ne_eqb, le-leb}
+use borrow.Author.Tests.{ne_eqb, le-leb}
 use native.Mathlib.Omega.{arith}
+use Rattle.std.specs.Prelude.{None}
 use lib.ListN.{length, take, drop, get_or, length-drop, take-append-drop}
 use lib.Seq.{drop-drop}
 use Rattle.rules.specs.Bytes.{Bytes, part}
@@ -23,10 +24,10 @@ use Rattle.device_writing.proofs.SettingLaws.{fresh, settings_again}
 use Rattle.device_writing.proofs.GoodSlots.{Good, own, own-words, line-words, read-good, read-bytes, id-length}
 
 -- what a line says, then the lines behind it
-step : (m k n : ℕ) (d : Scenario) (x : Said) (w : Bytes) (ws : List Bytes) (t : Bytes) → are_words (w ∷ ws) ≡ true → line m k n d (joined w ws) ≡ x → x.scenario.refused ≡ 0 →
+step : (m k n : ℕ) (d : Scenario) (x : Said) (w : Bytes) (ws : List Bytes) (t : Bytes) → are_words (w ∷ ws) ≡ true → line m k n d (joined w ws) ≡ x → x.scenario.refused ≡ None →
     lines_from m k n d (lines (joined w ws ++ (10 ∷ t))) ≡ (x then lines_from m k (suc n) x.scenario (lines t))
 unfolding lines_from
-step m k n d x w ws t h q r = rw (lines-joined w ws t h, content-joined w ws h, q, eq-eqb x.scenario.refused 0 r)
+step m k n d x w ws t h q r = rw (lines-joined w ws t h, content-joined w ws h, q, r)
 
 -- one slot
 abbrev with_slot : Scenario → Bytes → Said
@@ -46,7 +47,7 @@ slot_read m k n d x g f =
       read-bytes x g,
     )
 
-slot_step : (m k n : ℕ) (d : Scenario) (x : Bytes) (g : Good x) (t : Bytes) → d.slots + slot_bytes ≤ m → d.refused ≡ 0 →
+slot_step : (m k n : ℕ) (d : Scenario) (x : Bytes) (g : Good x) (t : Bytes) → d.slots + slot_bytes ≤ m → d.refused ≡ None →
     lines_from m k n d (lines (slot_line x ++ t)) ≡ (with_slot d x then lines_from m k (suc n) (with_slots (d.slots + slot_bytes) d) (lines t))
 slot_step m k n d x g t f r =
     ap (λ (s : Bytes). lines_from m k n d (lines s)) (line-words x g t) ∙ step m k n d (with_slot d x) (ascii "slot") (own x g) t (own-words x g) (slot_read m k n d x g f) r
@@ -90,7 +91,7 @@ one_more_lem d s h =
 abbrev pub Slots : ℕ → Bytes → Type 0
 Slots q s = (length s ≡ slot_bytes * q) × ((i : ℕ) → i < q → Good (part s (slot_bytes * i) slot_bytes))
 
-slots-again : (q : ℕ) (s : Bytes) (m k n : ℕ) (d : Scenario) → Slots q s → d.slots + length s ≤ m → d.refused ≡ 0 → lines_from m k n d (lines (repeated (slot_of s) q)) ≡ with_all d s
+slots-again : (q : ℕ) (s : Bytes) (m k n : ℕ) (d : Scenario) → Slots q s → d.slots + length s ≤ m → d.refused ≡ None → lines_from m k n d (lines (repeated (slot_of s) q)) ≡ with_all d s
 unfolding repeated lines lines_from slot_of
 slots-again zero s m k n d g f r = no_slots s d g.0
 slots-again (suc q) s m k n d g f r =

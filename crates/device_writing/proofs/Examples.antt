@@ -3,6 +3,7 @@ use Prim.Native.Nat.{ℕ}
 use mathlib.Core.Path.{◌≡◌, refl}
 use mathlib.Core.List.{[], ◌∷◌, ◌++◌}
 use mathlib.Core.Bool.{true, false}
+use Rattle.std.specs.Prelude.{None}
 use lib.ListN.{replicate}
 use Rattle.rules.specs.Bytes.{Bytes}
 use Rattle.text.specs.Text.{ascii, position, digits, hex}
@@ -41,7 +42,7 @@ gate =
       event = true;
       slots = 148;
       answers = 37;
-      refused = 0;
+      refused = None;
     }
 
 -- one slot with an image, and one that holds nothing and yet has a size and a digest
@@ -76,7 +77,7 @@ pub gate-again : read_again gate 4294967295 slots
             event = true;
             slots = 148;
             answers = 0;
-            refused = 0;
+            refused = None;
           };
       slots = slots;
       answers = [];

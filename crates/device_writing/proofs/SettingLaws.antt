@@ -3,8 +3,9 @@ use Prim.Native.Nat.{ℕ, suc, ◌<◌}
 use mathlib.Core.Path.{◌≡◌, refl, ap, ◌∙◌}
 use mathlib.Core.List.{List, [], ◌∷◌, ◌++◌, append_assoc}
 use mathlib.Core.Bool.{Bool, true, false, cond}
-use borrow.Author.Tests.{eq-eqb, ne_eqb, lt-ltb}
+use borrow.Author.Tests.{ne_eqb, lt-ltb}
 use native.Mathlib.Omega.{arith}
+use Rattle.std.specs.Prelude.{None}
 use lib.ListN.{length}
 use Rattle.rules.specs.Bytes.{Bytes, same}
 use Rattle.rules.specs.Limits.{limits}
@@ -19,10 +20,10 @@ use Rattle.device_writing.proofs.DigitLaws.{Small, number-again, decimal-word, h
 use Rattle.device_writing.proofs.LineLaws.{plain, is_word, are_words, joined, word-plain, word-joined, rest-joined, joined-some, content-joined, lines-joined}
 
 -- a line that is understood, and the lines behind it
-pub step : (m k n : ℕ) (d e : Scenario) (w : Bytes) (ws : List Bytes) (t : Bytes) → are_words (w ∷ ws) ≡ true → line m k n d (joined w ws) ≡ says e → e.refused ≡ 0 →
+pub step : (m k n : ℕ) (d e : Scenario) (w : Bytes) (ws : List Bytes) (t : Bytes) → are_words (w ∷ ws) ≡ true → line m k n d (joined w ws) ≡ says e → e.refused ≡ None →
     lines_from m k n d (lines (joined w ws ++ (10 ∷ t))) ≡ lines_from m k (suc n) e (lines t)
 unfolding lines_from
-step m k n d e w ws t h q r = rw (lines-joined w ws t h, content-joined w ws h, q, eq-eqb e.refused 0 r)
+step m k n d e w ws t h q r = rw (lines-joined w ws t h, content-joined w ws h, q, r)
 
 one : (v : Bytes) → joined v [] ≡ v
 unfolding joined
@@ -65,11 +66,11 @@ fresh d n =
       event = d.event;
       slots = 0;
       answers = 0;
-      refused = 0;
+      refused = None;
     }
 
 -- each line, with what stands behind it
-module _ (m k n : ℕ) (d : Scenario) (r : d.refused ≡ 0) (t : Bytes) where
+module _ (m k n : ℕ) (d : Scenario) (r : d.refused ≡ None) (t : Bytes) where
   verdict-step : (b : Bool) → lines_from m k n d (lines (cond b (ascii "verdict good\n") (ascii "verdict bad\n") ++ t)) ≡ lines_from m k (suc n) (with_verdict b d) (lines t)
   unfolding are_words is_word plain joined setting verdict_line
   verdict-step true = step m k n d (with_verdict true d) (ascii "verdict") (ascii "good" ∷ []) t refl (two m k n d (ascii "verdict") (ascii "good") refl refl refl refl) r

@@ -67,12 +67,9 @@ fn put_slot_of(room: &mut [u8], at: usize, slots: &[u8], k: usize) -> usize
 pub(crate) fn put_slots(room: &mut [u8], at: usize, slots: &[u8]) -> usize
     ensures { Writes (slot_lines slots.now) at room result }
 {
-    let n = slots.len() / SLOT_BYTES;
     let mut to = at;
-    let mut k = 0;
-    while k < n {
+    for k in 0..slots.len() / SLOT_BYTES {
         to = put_slot_of(room, to, slots, k);
-        k += 1;
     }
     to
 }

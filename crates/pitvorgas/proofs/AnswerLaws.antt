@@ -1,6 +1,7 @@
 -- The answers of the jobs, in numbers.
 use Prim.Native.Nat.{ℕ}
 use mathlib.Core.Path.{◌≡◌, refl, sym, ap, ◌∙◌}
+use Rattle.std.specs.Prelude.{Option, Some, None, is_some}
 use lib.ListN.{length}
 use Rattle.rules.specs.declared.answers.Refusal.{Refusal}
 use Rattle.rules.specs.declared.controller.Controller.{Controller}
@@ -46,9 +47,10 @@ pub in_second-answer : (g : Newer) (p : Place) → Second p ≡ newest_of g → 
 in_second-answer (in_first q) p e = absurd cc
 in_second-answer (in_second q) p e = let h : p ≡ place q = cc in rw h refl
 
-pub tested-answer : (p : Bytes) (g : Got Program) (t : Tested) → TestedAs p g t → t.good ≡ accepted g
-tested-answer p (refused k q) t e = ap (λ (x : Tested). x.good) e
-tested-answer p (got y) t e = ap (λ (x : Tested). x.good) e.exact
+pub tested-answer : (p : Bytes) (g : Got Program) (t : Option Tested) → TestedAs p g t → is_some t ≡ accepted g
+tested-answer p (refused k q) t e = ap is_some e
+tested-answer p (got y) None e = absurd e
+tested-answer p (got y) (Some t) e = refl
 
 pub ran-answer : (d : Controller) (g : Got Ran) (o : Outcome) (r : RunAnswer) → o ≡ outcome_of d g → r ≡ R.answer_of o → r ≡ ran_of d g
 ran-answer d (refused k p) o r e h = h ∙ ap R.answer_of e

@@ -67,8 +67,7 @@ pub fn pitvorgas_translate(envelope: &[u8], boot: bool, room: &mut [u8]) -> Tran
 pub fn pitvorgas_test_program(program: &[u8]) -> bool
     ensures { result ≡ accepted (program_in program.now) }
 {
-    let t = test_program(program);
-    t.good
+    test_program(program).is_some()
 }
 
 pub fn pitvorgas_run(

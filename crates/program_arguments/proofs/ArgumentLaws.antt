@@ -7,7 +7,7 @@ use mathlib.Core.Option.{some}
 use native.Mathlib.Omega.{arith}
 use lib.Dec.{eqb, ltb, leb}
 use lib.ListN.{length}
-use borrow.Author.Tests.{eq-eqb, ne_eqb, le-ltb, lt-ltb, le-leb, lt-leb, eqb-true, eqb-false}
+use borrow.Author.Tests.{eq-eqb, ne_eqb, le-leb, lt-leb, eqb-true, eqb-false}
 use Rattle.rules.specs.declared.answers.Group.{Group}
 use Rattle.rules.specs.declared.answers.Group.TheVariants.{Install, Boot}
 use Rattle.rules.specs.declared.tables.Argument.TheVariants.{Sixteen, Index, Parameters}
@@ -27,20 +27,6 @@ use Rattle.program_parameters.proofs.PartLaws.{length_to}
 pub row_allows : (c : ℕ) (row : Row) (g : Group) → row_of c commands ≡ some row → allows_in g (set_of row.allowed) ≡ group_allows g row.allowed
 row_allows c row Install r = rows_agree (λ x. allows_in Install (set_of x.allowed)) (λ x. group_allows Install x.allowed) c row refl r
 row_allows c row Boot r = rows_agree (λ x. allows_in Boot (set_of x.allowed)) (λ x. group_allows Boot x.allowed) c row refl r
-
-module _ (b : Bool) (target n total : ℕ) where
-  pub no_target : target ≡ NONE → true ≡ target_fits b target n total
-  no_target h = rw (eq-eqb target NONE h)
-
-  module _ (h : target ≡ NONE → ⊥) where
-    pub not-condition : b ≡ false → false ≡ target_fits b target n total
-    not-condition l = rw (ne_eqb target NONE h, l)
-
-    pub not-forward : b ≡ true → target ≤ n → false ≡ target_fits b target n total
-    not-forward l u = rw (ne_eqb target NONE h, l, le-ltb n target u)
-
-    pub forward : b ≡ true → n < target → leb target total ≡ target_fits b target n total
-    forward l u = rw (ne_eqb target NONE h, l, lt-ltb n target u)
 
 -- the rule's test of a target, by the table's column
 pub targeted : (op : Op) (b : Bool) (target n total : ℕ) → is_condition op ≡ b →
@@ -92,9 +78,9 @@ empty [] = refl
 empty (x ∷ q) = sym (ne_eqb (length (x ∷ q)) 0 (λ e. omega arith))
 
 -- by places
-module _ (p : Bytes) (from to n : ℕ) (pre : (0 < from) × (from ≤ to) × (to ≤ length p)) (k : ℕ) where
+module _ (p : Bytes) (from to n : ℕ) (pre : (from ≤ to) × (to ≤ length p)) (k : ℕ) where
   size : length (part p from (to - from)) ≡ to - from
-  size = length_to p from to pre.1 pre.2
+  size = length_to p from to pre.0 pre.1
 
   abbrev pub Right : Bool → Type 0
   Right b = (f : Form) (i : ℕ) → argument_number (kind_of f) ≡ k → b ≡ accepted (op_in n i f (part p from (to - from)))
@@ -102,18 +88,19 @@ module _ (p : Bytes) (from to n : ℕ) (pre : (0 < from) × (from ≤ to) × (to
   pub sixteen_right : k ≡ argument_number Sixteen → Right (eqb (to - from) limits.class)
   sixteen_right h f i e = kind-tested n i _ f k _ e (rw (eq-eqb _ _ h, size))
 
-  module _ (d : k ≡ argument_number Sixteen → ⊥) where
-    pub none_right : k ≤ argument_number Index → Right (eqb to from)
-    none_right h f i e =
-        kind-tested n i _ f k _ e (rw (ne_eqb _ _ d, le-leb _ _ h, empty (part p from (to - from)), size) (go (eqb to from) refl))
-      where
-        go : (b : Bool) → eqb to from ≡ b → b ≡ eqb (to - from) 0
-        go true q = sym (eq-eqb (to - from) 0 (omega (arith, eqb-true to from q)))
-        go false q = sym (ne_eqb (to - from) 0 (λ z. eqb-false to from q (omega arith)))
+  pub none_right : 0 < k → k ≤ argument_number Index → Right (eqb to from)
+  none_right d h f i e =
+      let z : k ≡ argument_number Sixteen → ⊥ = λ q. omega arith in
+      kind-tested n i _ f k _ e (rw (ne_eqb _ _ z, le-leb _ _ h, empty (part p from (to - from)), size) (go (eqb to from) refl))
+    where
+      go : (b : Bool) → eqb to from ≡ b → b ≡ eqb (to - from) 0
+      go true q = sym (eq-eqb (to - from) 0 (omega (arith, eqb-true to from q)))
+      go false q = sym (ne_eqb (to - from) 0 (λ z. eqb-false to from q (omega arith)))
 
-    module _ (o : argument_number Index < k) where
-      pub parameters_right : k ≡ argument_number Parameters → (b : Bool) → b ≡ accepted (params_in n (part p from (to - from))) → Right b
-      parameters_right h b t f i e = kind-tested n i _ f k _ e (rw (ne_eqb _ _ d, lt-leb _ _ o, eq-eqb _ _ h) t)
+  pub parameters_right : k ≡ argument_number Parameters → (b : Bool) → b ≡ accepted (params_in n (part p from (to - from))) → Right b
+  parameters_right h b t f i e = kind-tested n i _ f k _ e (rw h t)
 
-      pub other_right : (k ≡ argument_number Parameters → ⊥) → Right false
-      other_right h f i e = kind-tested n i _ f k _ e (rw (ne_eqb _ _ d, lt-leb _ _ o, ne_eqb _ _ h))
+  pub other_right : argument_number Index < k → (k ≡ argument_number Parameters → ⊥) → Right false
+  other_right o d f i e =
+      let z : k ≡ argument_number Sixteen → ⊥ = λ q. omega arith in
+      kind-tested n i _ f k _ e (rw (ne_eqb _ _ z, lt-leb _ _ o, ne_eqb _ _ d))

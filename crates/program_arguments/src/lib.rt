@@ -22,20 +22,15 @@ const BOOT_SECTIONS: u8 = COMMON + VALIDATE + LOAD + RUN;
 
 // Whether the bytes from `from` to `to` are an argument of the kind with that number, for n components.
 pub fn argument_fits(p: &[u8], kind: u16, from: usize, to: usize, n: usize) -> bool
-    requires { (0 < from) × (from ≤ to) × (to ≤ length p.now) }
+    requires { (from ≤ to) × (to ≤ length p.now) }
     ensures { (form : Form) (i : ℕ) → argument_number (kind_of form) ≡ kind → result ≡ accepted (Rule.op_in n i form (part p.now from (to - from))) }
 {
-    if kind == kinds::SIXTEEN {
-        return to - from == Controller::CLASS_BYTES;
+    match kind {
+        kinds::SIXTEEN => to - from == Controller::CLASS_BYTES,
+        kinds::NIL | kinds::INDEX => to == from,
+        kinds::PARAMETERS => params_fit(p, from, to, n),
+        _ => false,
     }
-    // nil and index
-    if kind <= kinds::INDEX {
-        return to == from;
-    }
-    if kind == kinds::PARAMETERS {
-        return params_fit(p, from, to, n);
-    }
-    false
 }
 
 // Whether a command that is allowed in the set of sections may stand in a program of the group.
@@ -52,14 +47,5 @@ pub fn allows(sections: u8, group: Group) -> bool
 pub fn target_fits(condition: bool, target: usize, n: usize, total: usize) -> bool
     ensures { result ≡ target_fits condition target n total }
 {
-    if target == NO_TARGET {
-        return true;
-    }
-    if !condition {
-        return false;
-    }
-    if target <= n {
-        return false;
-    }
-    target <= total
+    target == NO_TARGET || condition && target > n && target <= total
 }

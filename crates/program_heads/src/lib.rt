@@ -10,26 +10,18 @@ use rules::program_format::{
     ARGUMENT_LENGTH, CODE, COMPONENT, JUMP, MARK, MARK_2, PLACE, RECORD_BYTES, TARGET,
 };
 
-// The place after the record at `at`; 0 if its bytes do not lie in p or its mark is not there.
-pub fn record_end(p: &[u8], at: usize) -> usize
+// The place after the record at `at`; none if its bytes do not lie in p or its mark is not there.
+#[tactic(auto, unfolding(crate::specs::Heads::record_end))]
+pub fn record_end(p: &[u8], at: usize) -> Option<usize>
     requires { at ≤ length p.now }
     ensures { result ≡ record_end p.now at }
 {
     let from = at + RECORD_BYTES;
-    if p.len() < from {
-        return 0;
-    }
-    if p[at] != MARK {
-        return 0;
-    }
-    if p[at + 1] != MARK_2 {
-        return 0;
+    if p.len() < from || p[at] != MARK || p[at + 1] != MARK_2 {
+        return None;
     }
     let next = from + two(p, at + ARGUMENT_LENGTH);
-    if p.len() < next {
-        return 0;
-    }
-    next
+    (next <= p.len()).then_some(next)
 }
 
 // Whether record n of `total`, from `at` to `next`, is a jump that is well formed.
@@ -37,21 +29,11 @@ pub fn jump_fits(p: &[u8], at: usize, next: usize, total: usize, n: usize) -> bo
     requires { at + record_size ≤ length p.now }
     ensures { result ≡ jump_fits p.now at next total n }
 {
-    if wide(p[at + CODE]) != JUMP {
-        return false;
-    }
-    if p[at + COMPONENT] != 0 {
-        return false;
-    }
-    if two(p, at + PLACE) != 0 {
-        return false;
-    }
-    if next != at + RECORD_BYTES {
-        return false;
-    }
     let target = two(p, at + TARGET);
-    if target <= n {
-        return false;
-    }
-    target <= total
+    wide(p[at + CODE]) == JUMP
+        && p[at + COMPONENT] == 0
+        && two(p, at + PLACE) == 0
+        && next == at + RECORD_BYTES
+        && target > n
+        && target <= total
 }

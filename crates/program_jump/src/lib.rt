@@ -19,10 +19,8 @@ pub fn advance(p: &[u8], at: usize, n: usize, t: usize) -> usize
     ensures { (j : AdvanceJob p.now at n t) → Advanced p.now j.group j.components j.total n at j.place t result }
 {
     let mut next = at;
-    let mut k = n;
-    while k < t {
-        next = next + RECORD_BYTES + two(p, next + ARGUMENT_LENGTH);
-        k += 1;
+    for _ in n..t {
+        next += RECORD_BYTES + two(p, next + ARGUMENT_LENGTH);
     }
     next
 }

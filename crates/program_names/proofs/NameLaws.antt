@@ -2,14 +2,16 @@
 use Prim.Native.Nat.{ℕ, zero, suc, ◌+◌, ◌-◌, ◌*◌, ◌≤◌, ◌<◌}
 use mathlib.Core.Path.{◌≡◌, refl, sym, ap, subst, ◌∙◌}
 use mathlib.Core.List.{List, [], ◌∷◌, ◌++◌, append-nil}
-use mathlib.Core.Bool.{Bool, true, false, ◌&&◌}
+use mathlib.Core.Bool.{Bool, true, false, ◌&&◌, cond}
+use Rattle.std.proofs.Common as Code
+use Rattle.std.proofs.Common.{Some, None}
 use native.Mathlib.Omega.{arith}
 use native.Mathlib.Nat.{add-zero}
 use borrow.Author.Count.{below_more}
 use lib.Dec.{leb, eqb}
 use lib.ListN.{length, get_or, drop, replicate, set, length-drop, length-set, length-append, get_or-append}
 use lib.Seq.{get_or-drop, drop-drop, ext_get_or, get_or_at, get_or-set_same, get_or-set_other}
-use borrow.Author.Tests.{eqb-true, eqb-false, leb-true, le-leb, lt-leb, eq-eqb, ne_eqb}
+use borrow.Author.Tests.{eqb-true, eqb-false, leb-true}
 use Rattle.rules.specs.declared.answers.Refusal.{Refusal}
 use Rattle.rules.specs.declared.answers.Refusal.TheVariants.{BadProgram}
 use Rattle.rules.specs.Limits.{limits}
@@ -22,7 +24,7 @@ use Rattle.rules.proofs.GotLaws.{and-true, passed, split₂, both, after, after_
 use Rattle.run_slot_search.specs.Search.{names_at}
 use Rattle.run_slot_search.proofs.SearchLaws.{name-at, names-count}
 use Rattle.program_parameters.proofs.PartLaws.{rest_at, same_3}
-use Rattle.program_parameters.specs.Entries.{next_in}
+use Rattle.program_parameters.specs.Entries.{ended_at}
 use Rattle.program_heads.specs.Heads.{mark₁, mark₂}
 use Rattle.program_names.specs.Names.{name_end, places_from, NamesAre}
 
@@ -49,80 +51,68 @@ module _ (p : Bytes) (at : ℕ) where
   abbrev one : Got (List Bytes × Bytes)
   one = ids_in 1 (drop at p)
 
-  bad-one : tests ≡ false → 0 ≡ name_end p at
-  bad-one e = let g : one ≡ bad = ids-turn 0 ∙ rw e in sym (ap (next_in (length p)) g)
+  bad-one : tests ≡ false → None ≡ name_end p at
+  bad-one e = let g : one ≡ bad = ids-turn 0 ∙ rw e in sym (ap (ended_at (length p)) g)
 
-  good-one : tests ≡ true → at + name_size + size ≤ length p → at + name_size + size ≡ name_end p at
+  good-one : tests ≡ true → at + name_size + size ≤ length p → Some (at + name_size + size) ≡ name_end p at
   unfolding ids_in
   good-one e h =
       let g : one ≡ got (part p (at + name_size) size ∷ [], drop (at + name_size + size) p) = ids-turn 0 ∙ rw e in
-      sym (ap (next_in (length p)) g ∙ rest_at p (at + name_size + size) h)
+      sym (ap (ended_at (length p)) g ∙ ap Some (rest_at p (at + name_size + size) h))
 
   fits : tests ≡ true → at + name_size + size ≤ length p
   fits e = omega (arith, leb-true (name_size + size) (length p - at) (and-true (leb name_size (length p - at) && marked NAME (drop at p) && leb 1 size && leb size limits.identifier) _ e).1)
 
   -- an identifier, as the code reads it
-  pub name-short : length p - at < name_size → 0 ≡ name_end p at
-  name-short l = bad-one (rw (lt-leb _ _ l))
+  abbrev marks : Bool
+  marks =
+      eqb (get_or p at 0) mark₁ && (eqb (get_or p (at + 1) 0) mark₂ && (eqb (get_or p (at + code_from) 0) NAME
+      && (leb 1 size && (leb size limits.identifier && leb (name_size + size) (length p - at)))))
 
-  module _ (h : name_size ≤ length p - at) where
-    tests_are : tests
-        ≡ ((eqb (get_or p at 0) mark₁ && (eqb (get_or p (at + 1) 0) mark₂ && (eqb (get_or p (at + code_from) 0) NAME && true))) && leb 1 size && leb size
-        limits.identifier && leb (name_size + size) (length p - at))
-    tests_are = rw (le-leb _ _ h, marked-at p at NAME (omega arith))
+  tests_are : tests ≡ (leb name_size (length p - at) && marks)
+  tests_are = go (leb name_size (length p - at)) refl
+    where
+      turn : (a b c d e f : Bool) → ((a && (b && (c && true))) && d && e && f) ≡ (a && (b && (c && (d && (e && f)))))
+      turn true true true true e f = refl
+      turn true true true false e f = refl
+      turn true true false d e f = refl
+      turn true false c d e f = refl
+      turn false b c d e f = refl
 
-    pub name-first : (get_or p at 0 ≡ mark₁ → ⊥) → 0 ≡ name_end p at
-    name-first d = bad-one (tests_are ∙ rw (ne_eqb _ _ d))
+      go : (t : Bool) → leb name_size (length p - at) ≡ t → tests ≡ (leb name_size (length p - at) && marks)
+      go true e = rw (e, marked-at p at NAME (omega (arith, leb-true name_size (length p - at) e))) (turn
+          (eqb (get_or p at 0) mark₁) (eqb (get_or p (at + 1) 0) mark₂) (eqb (get_or p (at + code_from) 0) NAME)
+          (leb 1 size) (leb size limits.identifier) (leb (name_size + size) (length p - at)))
+      go false e = rw e
 
-    module _ (a : get_or p at 0 ≡ mark₁) where
-      pub name_second : (get_or p (at + 1) 0 ≡ mark₂ → ⊥) → 0 ≡ name_end p at
-      name_second d = bad-one (tests_are ∙ rw (eq-eqb _ _ a, ne_eqb _ _ d))
-
-      module _ (b : get_or p (at + 1) 0 ≡ mark₂) where
-        pub name_third : (get_or p (at + code_from) 0 ≡ NAME → ⊥) → 0 ≡ name_end p at
-        name_third d = bad-one (tests_are ∙ rw (eq-eqb _ _ a, eq-eqb _ _ b, ne_eqb _ _ d))
-
-        module _ (c : get_or p (at + code_from) 0 ≡ NAME) where
-          tests_left : tests ≡ (leb 1 size && leb size limits.identifier && leb (name_size + size) (length p - at))
-          tests_left = tests_are ∙ rw (eq-eqb _ _ a, eq-eqb _ _ b, eq-eqb _ _ c)
-
-          module _ (n : ℕ) (q : n ≡ size) where
-            pub name-empty : n < 1 → 0 ≡ name_end p at
-            name-empty l = bad-one (tests_left ∙ rw (lt-leb 1 size (omega arith)))
-
-            module _ (m : 1 ≤ n) where
-              pub name-long : limits.identifier < n → 0 ≡ name_end p at
-              name-long l = bad-one (tests_left ∙ rw (le-leb 1 size (omega arith), lt-leb size limits.identifier (omega arith)))
-
-              module _ (s : n ≤ limits.identifier) where
-                pub name-cut : length p - at - name_size < n → 0 ≡ name_end p at
-                name-cut l =
-                    bad-one (tests_left ∙ rw (le-leb 1 size (omega arith), le-leb size limits.identifier (omega arith), lt-leb (name_size + size) (length p - at) (omega arith)))
-
-                pub name-good : n ≤ length p - at - name_size → at + name_size + n ≡ name_end p at
-                name-good l =
-                    let t : tests ≡ true = tests_left ∙ rw (le-leb 1 size (omega arith), le-leb size limits.identifier (omega arith), le-leb (name_size + size) (length p - at) (omega arith)) in
-                    ap (λ (x : ℕ). at + name_size + x) q ∙ good-one t (fits t)
+  pub name-read : name_end p at ≡ cond (leb name_size (length p - at) && marks) (Some (at + name_size + size)) None
+  name-read = from tests refl ∙ ap (λ (b : Bool). cond b (Some (at + name_size + size)) None) tests_are
+    where
+      from : (t : Bool) → tests ≡ t → name_end p at ≡ cond t (Some (at + name_size + size)) None
+      from true e = sym (good-one e (fits e))
+      from false e = sym (bad-one e)
 
   -- the identifiers after it
-  module _ (k r : ℕ) (q : r ≡ name_end p at) where
-    pub names_stop : r ≡ 0 → ids_in (suc k) (drop at p) ≡ bad
-    names_stop z = go tests refl
+  module _ (k : ℕ) where
+    pub names_stop : None ≡ name_end p at → ids_in (suc k) (drop at p) ≡ bad
+    names_stop q = go tests refl
       where
         go : (b : Bool) → tests ≡ b → ids_in (suc k) (drop at p) ≡ bad
-        go true e = absurd (omega (arith, good-one e (fits e)))
+        go true e = let n = good-one e (fits e) in cc
         go false e = ids-turn k ∙ rw e
 
-    pub names-on : (r ≡ 0 → ⊥) → (at + name_size ≤ r) × (r ≤ length p) × (ids_in (suc k) (drop at p) ≡ onto (part p (at + name_size) (r - (at + name_size))) (ids_in k (drop r p)))
-    names-on d = go tests refl
-      where
-        go : (b : Bool) → tests ≡ b → (at + name_size ≤ r) × (r ≤ length p) × (ids_in (suc k) (drop at p) ≡ onto (part p (at + name_size) (r - (at + name_size))) (ids_in k (drop r p)))
-        go true e =
-            let f : at + name_size + size ≤ length p = fits e in
-            let g : r ≡ at + name_size + size = q ∙ sym (good-one e f) in
-            let n : r - (at + name_size) ≡ size = omega arith in
-            (omega arith, omega arith, ids-turn k ∙ rw (e, n, g))
-        go false e = absurd (d (q ∙ sym (bad-one e)))
+    module _ (r : ℕ) (q : Some r ≡ name_end p at) where
+      pub names-on : (at + name_size ≤ r) × (r ≤ length p) × (ids_in (suc k) (drop at p) ≡ onto (part p (at + name_size) (r - (at + name_size))) (ids_in k (drop r p)))
+      names-on = go tests refl
+        where
+          go : (b : Bool) → tests ≡ b → (at + name_size ≤ r) × (r ≤ length p) × (ids_in (suc k) (drop at p) ≡ onto (part p (at + name_size) (r - (at + name_size))) (ids_in k (drop r p)))
+          go true e =
+              let f : at + name_size + size ≤ length p = fits e in
+              let s = good-one e f in
+              let g : r ≡ at + name_size + size = cc in
+              let n : r - (at + name_size) ≡ size = omega arith in
+              (omega arith, omega arith, ids-turn k ∙ rw (e, n, g))
+          go false e = let n = bad-one e in cc
 
 -- what they leave starts at a place after them
 pub record Leaves (p : Bytes) (at : ℕ) (q : Bytes) : Type 0 where
@@ -164,14 +154,14 @@ Lies p x = (x.from ≤ x.to) × (x.to ≤ length p)
 abbrev zeros : List ℕ
 zeros = replicate Limits.places 0
 
-module _ (p : Bytes) (m k at r : ℕ) (a : List ℕ) (e : r ≡ name_end p at) where
-  places_stop : r ≡ 0 → a ≡ places_from p (suc m) k at a
+module _ (p : Bytes) (m k at : ℕ) (a : List ℕ) where
+  places_stop : None ≡ name_end p at → a ≡ places_from p (suc m) k at a
   unfolding places_from
-  places_stop z = rw (← e, eq-eqb r 0 z)
+  places_stop e = rw (places_from, ← e)
 
-  places-turn : (r ≡ 0 → ⊥) → places_from p m (k + 1) r (set (set a (2 * k) (at + name_size)) (2 * k + 1) r) ≡ places_from p (suc m) k at a
+  places-turn : (r : ℕ) → Some r ≡ name_end p at → places_from p m (k + 1) r (set (set a (2 * k) (at + name_size)) (2 * k + 1) r) ≡ places_from p (suc m) k at a
   unfolding places_from
-  places-turn d = rw (← e, ne_eqb r 0 d)
+  places-turn r e = rw (places_from, ← e)
 
 -- k of the n identifiers from `at` on were read, and `next` is the place after them
 pub record Sofar (p : Bytes) (at n : ℕ) (places : List ℕ) (next k : ℕ) : Type 0 where
@@ -182,8 +172,8 @@ pub record Sofar (p : Bytes) (at n : ℕ) (places : List ℕ) (next k : ℕ) : T
 
 module _ (p : Bytes) (at n : ℕ) (places : List ℕ) where
   -- as the code answers
-  abbrev Answers : ℕ → List ℕ → Type 0
-  Answers r a = (r ≡ next_in (length p) (ids_in n (drop at p))) × NamesAre p at n (ids_in n (drop at p)) a
+  abbrev Answers : Code.Option ℕ → List ℕ → Type 0
+  Answers r a = (r ≡ ended_at (length p) (ids_in n (drop at p))) × NamesAre p at n (ids_in n (drop at p)) a
 
   pub sofar_start : places ≡ zeros → at ≤ length p → Sofar p at n places at 0
   sofar_start q h =
@@ -191,28 +181,28 @@ module _ (p : Bytes) (at n : ℕ) (places : List ℕ) where
       record { all = rw z (sym (after_none (ids_in n (drop at p)))); left = rw (z, q); here = h; within = λ j l. absurd (omega arith) }
 
   module _ (next k : ℕ) (f : Sofar p at n places next k) where
-    pub sofar_end : k ≡ n → Answers next places
+    pub sofar_end : k ≡ n → Answers (Some next) places
     unfolding ids_in places_from
     sofar_end q =
         let z : n - k ≡ 0 = omega arith in
         let g : ids_in n (drop at p) ≡ got (names_at p places n, drop next p) = f.all ∙ rw (z, q, append-nil) in
-        rw g (sym (rest_at p next f.here), (rw z at f.left, refl, rw (← q) f.within))
+        rw g (ap Some (sym (rest_at p next f.here)), (rw z at f.left, refl, rw (← q) f.within))
 
-    module _ (l : k < n) (r : ℕ) (q : r ≡ name_end p next) where
+    module _ (l : k < n) where
       left : n - k ≡ suc (n - (k + 1))
       left = omega arith
 
       rest : places_from p (suc (n - (k + 1))) k next places ≡ places_from p n 0 at zeros
       rest = ap (λ (x : ℕ). places_from p x k next places) (sym left) ∙ f.left
 
-      pub sofar_stop : r ≡ 0 → Answers 0 places
-      sofar_stop z =
-          let g : ids_in n (drop at p) ≡ bad = f.all ∙ rw (left, names_stop p next (n - (k + 1)) r q z) in
-          rw g (refl, places_stop p (n - (k + 1)) k next r places q z ∙ rest)
+      pub sofar_stop : None ≡ name_end p next → Answers None places
+      sofar_stop q =
+          let g : ids_in n (drop at p) ≡ bad = f.all ∙ rw (left, names_stop p next (n - (k + 1)) q) in
+          rw g (refl, places_stop p (n - (k + 1)) k next places q ∙ rest)
 
-      pub sofar_next : (r ≡ 0 → ⊥) → 2 * k + 1 < length places → Sofar p at n (set (set places (2 * k) (next + name_size)) (2 * k + 1) r) r (k + 1)
-      sofar_next d room =
-          let (u, v, g) = names-on p next (n - (k + 1)) r q d in
+      pub sofar_next : (r : ℕ) → Some r ≡ name_end p next → 2 * k + 1 < length places → Sofar p at n (set (set places (2 * k) (next + name_size)) (2 * k + 1) r) r (k + 1)
+      sofar_next r q room =
+          let (u, v, g) = names-on p next (n - (k + 1)) r q in
           let inner : List ℕ = set places (2 * k) (next + name_size) in
           let new : List ℕ = set inner (2 * k + 1) r in
           let w : length inner ≡ length places = length-set places (2 * k) (next + name_size) in
@@ -226,7 +216,7 @@ module _ (p : Bytes) (at n : ℕ) (places : List ℕ) where
           ∙ ap (λ (x : Span). names_at p places k ++ (bytes_at p x ∷ [])) here in
           record {
             all = f.all ∙ rw (left, g, names) (after_more (names_at p places k) (part p (next + name_size) (r - (next + name_size))) (ids_in (n - (k + 1)) (drop r p)));
-            left = places-turn p (n - (k + 1)) k next r places q d ∙ rest;
+            left = places-turn p (n - (k + 1)) k next places r q ∙ rest;
             here = v;
             within =
                 below_more (λ j. Lies p (span_at new j)) k (λ j h. subst (Lies p) (sym (kept j h)) (f.within j h)) (omega arith, omega arith);
@@ -239,22 +229,23 @@ pub record Named (p : Bytes) (at n from : ℕ) (places : List ℕ) : Type 0 wher
   pub here : from ≤ length p
   pub within : (j : ℕ) → j < n → Lies p (span_at places j)
 
-module _ (p : Bytes) (at n from : ℕ) (places : List ℕ) (h : at ≤ length p) (f : Answers p at n places from places) where
-  pub none_named : 0 < at → from ≡ 0 → (r : Refusal) × (k : ℕ) × (ids_in n (drop at p) ≡ refused r k)
-  none_named l z = go (ids_in n (drop at p)) refl
+module _ (p : Bytes) (at n : ℕ) (places : List ℕ) (h : at ≤ length p) where
+  pub none_named : Answers p at n places None places → (r : Refusal) × (k : ℕ) × (ids_in n (drop at p) ≡ refused r k)
+  none_named f = go (ids_in n (drop at p)) refl
     where
       go : (x : Got (List Bytes × Bytes)) → ids_in n (drop at p) ≡ x → (r : Refusal) × (k : ℕ) × (ids_in n (drop at p) ≡ refused r k)
       go (refused r k) e = (r, k, e)
-      go (got a) e = absurd (omega (arith, ap (next_in (length p)) e, f.0, (ids_leave p n at a.0 a.1 h e).up))
+      go (got a) e = let z : None ≡ Some (length p - length a.1) = f.0 ∙ ap (ended_at (length p)) e in cc
 
-  pub all_named : (from ≡ 0 → ⊥) → Named p at n from places
-  all_named d = go (ids_in n (drop at p)) refl
+  pub all_named : (from : ℕ) → Answers p at n places (Some from) places → Named p at n from places
+  all_named from f = go (ids_in n (drop at p)) refl
     where
       go : (x : Got (List Bytes × Bytes)) → ids_in n (drop at p) ≡ x → Named p at n from places
-      go (refused r k) e = absurd (d (f.0 ∙ ap (next_in (length p)) e))
+      go (refused r k) e = let z : Some from ≡ None = f.0 ∙ ap (ended_at (length p)) e in cc
       go (got a) e =
           let l : Leaves p at a.1 = ids_leave p n at a.0 a.1 h e in
-          let q : from ≡ length p - length a.1 = f.0 ∙ ap (next_in (length p)) e in
+          let w : Some from ≡ Some (length p - length a.1) = f.0 ∙ ap (ended_at (length p)) e in
+          let q : from ≡ length p - length a.1 = cc in
           let (exact, names, within) = rw e at f.1 in
           record {
             reads = e ∙ rw (names, q) (ap (λ (x : Bytes). got (a.0, x)) l.rest);

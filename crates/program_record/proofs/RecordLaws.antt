@@ -3,6 +3,7 @@ use Prim.Native.Nat.{ℕ, ◌+◌, ◌-◌, ◌≤◌, ◌<◌}
 use mathlib.Core.Path.{◌≡◌, refl, sym, ap, ◌∙◌}
 use mathlib.Core.Bool.{Bool, true, false, ◌&&◌, ◌||◌, true≢false}
 use mathlib.Core.Option.{Option, some, none}
+use Rattle.std.proofs.Common.{Some, None}
 use native.Mathlib.Omega.{arith}
 use native.Mathlib.Nat.{add-zero}
 use lib.Dec.{eqb, ltb, leb}
@@ -260,18 +261,18 @@ not-accepted (refused r p) f e = refl
 not-accepted (got a) f e = absurd (true≢false e)
 
 -- a record that ends at r
-module _ (p : Bytes) (at r : ℕ) (q : r ≡ record_end p at) (d : r ≡ 0 → ⊥) where
+module _ (p : Bytes) (at r : ℕ) (q : Some r ≡ record_end p at) where
   lies : record_fits p at ≡ true
   unfolding record_end
   lies = go (record_fits p at) refl
     where
       go : (b : Bool) → record_fits p at ≡ b → b ≡ true
-      go false e = absurd (d (q ∙ rw e))
+      go false e = let n : Some r ≡ None = q ∙ rw e in cc
       go true e = refl
 
   ends : next_at p at ≡ r
   unfolding record_end
-  ends = sym (q ∙ rw lies)
+  ends = let e : Some r ≡ Some (next_at p at) = q ∙ rw lies in cc
 
   pub end-room : (at + record_size ≤ r) × (r ≤ length p)
   end-room =
@@ -279,27 +280,27 @@ module _ (p : Bytes) (at r : ℕ) (q : r ≡ record_end p at) (d : r ≡ 0 → �
       let (_, h) = and-true marks (leb (next_at p at) (length p)) lies in
       (omega (arith, ends), omega (arith, ends, leb-true (next_at p at) (length p) h))
 
-module _ (g : Group) (comps total n : ℕ) (p : Bytes) (at r : ℕ) (q : r ≡ record_end p at) where
+module _ (g : Group) (comps total n : ℕ) (p : Bytes) (at : ℕ) where
   abbrev pub one : Got (Rec × Bytes)
   one = record_in g comps total n (drop at p)
 
   refuses : accepted (record_at g comps total n p at) ≡ false → accepted one ≡ false
   refuses = rw (record_at_lem g comps total n p at) (λ h. h)
 
-  pub no_end : r ≡ 0 → accepted one ≡ false
+  pub no_end : None ≡ record_end p at → accepted one ≡ false
   unfolding record_at record_end
-  no_end z = refuses (go (record_fits p at) refl)
+  no_end q = refuses (go (record_fits p at) refl)
     where
       go : (b : Bool) → record_fits p at ≡ b → accepted (record_at g comps total n p at) ≡ false
       go false e = rw e
-      go true e = let k : r ≡ next_at p at = q ∙ rw e in absurd (omega arith)
+      go true e = let k : None ≡ Some (next_at p at) = q ∙ rw e in cc
 
-  module _ (d : r ≡ 0 → ⊥) (c : ℕ) (ec : c ≡ get_or p (at + code_from) 0) where
+  module _ (r : ℕ) (q : Some r ≡ record_end p at) (c : ℕ) (ec : c ≡ get_or p (at + code_from) 0) where
     module _ (l : c < codes) (t : Bool) (e : t ≡ accepted (command_at g comps total n p at r)) where
       pub no_command : t ≡ false → accepted one ≡ false
       unfolding record_at
       no_command h =
-          refuses (rw (lies p at r q d, ← ec, lt-ltb _ _ l, ends p at r q d) (not-accepted (command_at g comps total n p at r) _ (sym e ∙ h)))
+          refuses (rw (lies p at r q, ← ec, lt-ltb _ _ l, ends p at r q) (not-accepted (command_at g comps total n p at r) _ (sym e ∙ h)))
 
       pub is-command : t ≡ true → (op : Op) × (one ≡ got (does op (get_or p (at + component_from) 0) (num (part p (at + place_from) 2)) (num (part p (at + target_from) 2)), drop r p))
       unfolding record_at
@@ -308,13 +309,13 @@ module _ (g : Group) (comps total n : ℕ) (p : Bytes) (at r : ℕ) (q : r ≡ r
           go : (x : Got Op) → command_at g comps total n p at r ≡ x →
               (op : Op) × (one ≡ got (does op (get_or p (at + component_from) 0) (num (part p (at + place_from) 2)) (num (part p (at + target_from) 2)), drop r p))
           go (refused k m) w = absurd (true≢false (sym h ∙ e ∙ ap accepted w))
-          go (got op) w = (op, rw (record_at_lem g comps total n p at, lies p at r q d, ← ec, lt-ltb _ _ l, ends p at r q d, w))
+          go (got op) w = (op, rw (record_at_lem g comps total n p at, lies p at r q, ← ec, lt-ltb _ _ l, ends p at r q, w))
 
     module _ (l : codes ≤ c) (t : Bool) (e : t ≡ jump_fits p at r total n) where
       pub no_jump : t ≡ false → accepted one ≡ false
       unfolding record_at
-      no_jump h = refuses (rw (lies p at r q d, ← ec, le-ltb _ _ l, ends p at r q d, ← e, h))
+      no_jump h = refuses (rw (lies p at r q, ← ec, le-ltb _ _ l, ends p at r q, ← e, h))
 
       pub is-jump : t ≡ true → one ≡ got (jump (num (part p (at + target_from) 2)), drop r p)
       unfolding record_at
-      is-jump h = rw (record_at_lem g comps total n p at, lies p at r q d, ← ec, le-ltb _ _ l, ends p at r q d, ← e, h)
+      is-jump h = rw (record_at_lem g comps total n p at, lies p at r q, ← ec, le-ltb _ _ l, ends p at r q, ← e, h)

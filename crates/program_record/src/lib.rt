@@ -29,16 +29,8 @@ pub fn command_fits(
     ensures { result ≡ accepted (command_at group components total n p.now at next) }
 {
     let entry = entry_at(table, wide(p[at + CODE]));
-    let sections = entry.sections;
-    if !allows(sections, group) {
-        return false;
-    }
-    if components <= wide(p[at + COMPONENT]) {
-        return false;
-    }
-    let kind = entry.kind;
-    if !argument_fits(p, kind, at + RECORD_BYTES, next, components) {
-        return false;
-    }
-    target_fits(entry.condition, two(p, at + TARGET), n, total)
+    allows(entry.sections, group)
+        && wide(p[at + COMPONENT]) < components
+        && argument_fits(p, entry.kind, at + RECORD_BYTES, next, components)
+        && target_fits(entry.condition, two(p, at + TARGET), n, total)
 }

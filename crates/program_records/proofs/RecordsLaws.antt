@@ -3,6 +3,7 @@ use Prim.Native.Nat.{ℕ, suc, ◌+◌, ◌-◌, ◌≤◌, ◌<◌}
 use mathlib.Core.Path.{◌≡◌, refl, sym, ap, ◌∙◌}
 use mathlib.Core.List.{List, [], ◌∷◌, ◌++◌, append-nil}
 use mathlib.Core.Bool.{false, true≢false}
+use Rattle.std.proofs.Common.{Some, None}
 use native.Mathlib.Omega.{arith}
 use lib.ListN.{length, drop}
 use Rattle.rules.specs.declared.answers.Group.{Group}
@@ -12,7 +13,7 @@ use Rattle.rules.specs.Got.{Got, refused, got, ◌>>=◌, accepted}
 use Rattle.rules.specs.Program.{Rec, does, jump}
 use Rattle.rules.specs.ProgramTest.{record_in, records_in, non_jumps}
 use Rattle.rules.proofs.GotLaws.{after, after_more, after_none}
-use Rattle.program_records.specs.Records.{no_records, records_are}
+use Rattle.program_records.specs.Records.{records_are}
 use Rattle.program_parameters.proofs.PartLaws.{rest_at}
 
 count-more : (rs : List Rec) (r : Rec) → non_jumps (rs ++ (r ∷ [])) ≡ non_jumps rs + non_jumps (r ∷ [])
@@ -37,7 +38,7 @@ module _ (g : Group) (comps total : ℕ) (p : Bytes) (at : ℕ) where
       record { records = []; reads = rw z (sym (after_none all)); here = h; count = refl }
 
   module _ (next jumps n : ℕ) (f : Sofar next jumps n) where
-    pub sofar_end : n ≡ total → record { next = next; commands = total - jumps } ≡ records_are (length p) all
+    pub sofar_end : n ≡ total → Some (record { next = next; commands = total - jumps }) ≡ records_are (length p) all
     unfolding records_in
     sofar_end q =
         let z : total - n ≡ 0 = omega arith in
@@ -53,10 +54,10 @@ module _ (g : Group) (comps total : ℕ) (p : Bytes) (at : ℕ) where
       unfolding records_in
       turn = let k : total - n ≡ suc (total - (n + 1)) = omega arith in f.reads ∙ rw k
 
-      pub sofar_stop : accepted here ≡ false → no_records ≡ records_are (length p) all
+      pub sofar_stop : accepted here ≡ false → None ≡ records_are (length p) all
       sofar_stop h = go here refl
         where
-          go : (x : Got (Rec × Bytes)) → here ≡ x → no_records ≡ records_are (length p) all
+          go : (x : Got (Rec × Bytes)) → here ≡ x → None ≡ records_are (length p) all
           go (refused k m) e = let b : all ≡ refused k m = turn ∙ rw e in rw b
           go (got a) e = absurd (true≢false (ap accepted (sym e) ∙ h))
 

@@ -2,7 +2,7 @@
 use Prim.Native.Nat.{ℕ, ◌-◌, ◌≤◌}
 use mathlib.Core.Path.{◌≡◌, refl, sym, ap, ◌∙◌}
 use mathlib.Core.List.{List}
-use mathlib.Core.Bool.{Bool, true, false}
+use Rattle.std.proofs.Common.{Some, None}
 use native.Mathlib.Omega.{arith}
 use lib.ListN.{length, replicate}
 use Rattle.std.specs.Prelude.{Result, Ok, Err}
@@ -113,22 +113,22 @@ module _ (p : Bytes) (t : Tested) (a : Known p t) where
             (rw (← group, ← number) w)
 
 -- what the test answered
-module _ (p : Bytes) (t : Tested) (e : TestedAs p (program_in p) t) where
-  no_program_lem : t.good ≡ false → program_in p ≡ refused BadProgram 0
-  no_program_lem h = go (program_in p) refl e (program97 p)
+module _ (p : Bytes) where
+  no_program_lem : TestedAs p (program_in p) None → program_in p ≡ refused BadProgram 0
+  no_program_lem e = go (program_in p) refl e (program97 p)
     where
-      go : (y : Got Program) → program_in p ≡ y → TestedAs p y t → Only97 y → program_in p ≡ refused BadProgram 0
+      go : (y : Got Program) → program_in p ≡ y → TestedAs p y None → Only97 y → program_in p ≡ refused BadProgram 0
       go (refused r k) u v w = rw (← w.0, ← w.1) u
-      go (got x) u v w = let z : ◌≡◌ {A = Bool} true false = sym (ap (λ (s : Tested). s.good) v.exact) ∙ h in let y : ◌≡◌ {A = ℕ} 0 1 = cc in absurd (omega arith)
+      go (got x) u v w = absurd v
 
-  pub refused-program : t.good ≡ false → (x : Input) →
+  pub refused-program : TestedAs p (program_in p) None → (x : Input) →
       Settles x.device (run_program p x) (record { answer = Err (record { refusal = BadProgram; at = 0 }); number = x.device.number }) x.slots x.slots x.trace x.trace
   unfolding run_program
   refused-program h x = settles_refused x (run_program p x) BadProgram 0 (rw (no_program_lem h))
 
-  pub known : t.good ≡ true → Known p t
-  known h = go (program_in p) refl e
+  pub known : (t : Tested) → TestedAs p (program_in p) (Some t) → Known p t
+  known t e = go (program_in p) refl e
     where
-      go : (y : Got Program) → program_in p ≡ y → TestedAs p y t → Known p t
-      go (refused r k) u v = let z : ◌≡◌ {A = Bool} false true = sym (ap (λ (s : Tested). s.good) v) ∙ h in let y : ◌≡◌ {A = ℕ} 0 1 = cc in absurd (omega arith)
+      go : (y : Got Program) → program_in p ≡ y → TestedAs p y (Some t) → Known p t
+      go (refused r k) u v = cc
       go (got x) u v = record { program = x; tests = u; stands = v }

@@ -14,26 +14,33 @@ use run_ending::{Outcome, ended, number_after, refused};
 // The run of a program that the test has accepted, by what the test found.
 fn run_tested(
     p: &[u8],
-    t: Tested,
+    t: &Tested,
     verdict: bool,
     device: Controller,
     slots: &mut [u8],
     answers: &[u8],
     trace: &mut [u8],
 ) -> Outcome
-    requires { Known p.now t }
+    requires { Known p.now t.now }
     ensures { Runs p.now verdict device slots answers.now trace result }
 {
-    let group = t.group;
     let request = Request {
-        group,
+        group: t.group,
         number: t.number,
         components: t.components,
         verdict,
     };
-    let ids = t.ids;
     let mut memory = [0usize; MEMORY_NUMBERS];
-    if let Err(refusal) = admit(p, request, &ids, device, slots, answers, trace, &mut memory) {
+    if let Err(refusal) = admit(
+        p,
+        request,
+        &t.ids,
+        device,
+        slots,
+        answers,
+        trace,
+        &mut memory,
+    ) {
         return refused(refusal, 0, device);
     }
     let vendor = device.vendor;
@@ -51,7 +58,7 @@ fn run_tested(
     );
     Outcome {
         answer: Ok(ended(done.end, done.events, done.used, trace)),
-        number: number_after(group, done.end, t.number, device.number),
+        number: number_after(t.group, done.end, t.number, device.number),
     }
 }
 
@@ -67,10 +74,8 @@ pub fn run_program(
 ) -> Outcome
     ensures { Runs p.now verdict device slots answers.now trace result }
 {
-    let t = test_program(p);
-    let good = t.good;
-    if !good {
+    let Some(t) = test_program(p) else {
         return refused(Refusal::BadProgram, 0, device);
-    }
-    run_tested(p, t, verdict, device, slots, answers, trace)
+    };
+    run_tested(p, &t, verdict, device, slots, answers, trace)
 }

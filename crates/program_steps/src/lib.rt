@@ -28,24 +28,21 @@ fn onward(p: &[u8], at: usize, n: usize, target: usize, done: Progress) -> Progr
     requires { OnwardJob p.now at n target }
     ensures { (j : OnwardJob p.now at n target) → Onward p.now j.group j.components j.total n at j.place target done result }
 {
-    let end = done.end;
-    if end == End::CONDITION_FAILED {
-        if target != NO_TARGET {
-            return ProgramState {
-                at: advance(p, at, n, target),
-                n: target,
-                events: done.events,
-                used: done.used,
-                end: End::FINISHED,
-            };
-        }
+    if done.end == End::CONDITION_FAILED && target != NO_TARGET {
+        return ProgramState {
+            at: advance(p, at, n, target),
+            n: target,
+            events: done.events,
+            used: done.used,
+            end: End::FINISHED,
+        };
     }
     ProgramState {
         at,
         n,
         events: done.events,
         used: done.used,
-        end,
+        end: done.end,
     }
 }
 
@@ -131,12 +128,12 @@ pub fn run_records(
         used: 0,
         end: End::FINISHED,
     };
+    // no `for`: a step may lead past several records
     while current.n < records {
         current = step(
             p, records, current, vendor, class, answers, slots, memory, trace,
         );
-        let end = current.end;
-        if end != End::FINISHED {
+        if current.end != End::FINISHED {
             return current;
         }
     }

@@ -21,15 +21,15 @@ use Rattle.rules.proofs.BytesLaws.{num_2, num_4}
 use Rattle.rules.proofs.GotLaws.{and-true}
 use Rattle.rules.proofs.SameLaws.{same_lengths}
 use Rattle.run_slot_search.specs.Search.{names_at}
-use Rattle.std.specs.Prelude.{Option, is_some}
+use Rattle.std.specs.Prelude.{Option, Some, None, is_some}
 use Rattle.component_ids.specs.Identifiers.{repeated}
 use Rattle.program_records.specs.declared.Records.{Records}
 use Rattle.program_test.specs.declared.test.Tested.{Tested}
-use Rattle.program_parameters.specs.Entries.{next_in}
+use Rattle.program_parameters.specs.Entries.{ended_at}
 use Rattle.program_heads.specs.Heads.{mark₁, mark₂}
 use Rattle.program_records.specs.Records.{records_are}
 use Rattle.program_names.specs.Names.{NamesAre}
-use Rattle.program_test.specs.Test.{start_fits, no_program, TestedAs}
+use Rattle.program_test.specs.Test.{start_fits, TestedAs}
 use Rattle.program_names.proofs.NameLaws.{Named, none_named, all_named}
 use Rattle.program_parameters.proofs.PartLaws.{same_3}
 use Rattle.program_test.proofs.RepeatLaws.{repeated_law}
@@ -56,50 +56,34 @@ module _ (p : Bytes) where
   counts = leb 1 (get_or p components_from 0) && leb (get_or p components_from 0) limits.components && leb (num (part p records_from 2)) limits.records
 
   -- the start's tests, as the code makes them
-  pub start-long : limits.program < length p → false ≡ start_fits p
+  pub start-read : start_fits p
+      ≡ (leb (length p) limits.program
+      && (leb start_size (length p)
+      && (eqb (get_or p 0 0) mark₁ && (eqb (get_or p 1 0) mark₂ && (eqb (get_or p code_from 0) START
+      && (leb (get_or p group_from 0) 1 && (leb 1 (get_or p components_from 0) && (leb (get_or p components_from 0) limits.components && leb (num (part p records_from 2)) limits.records))))))))
   unfolding start_fits
-  start-long l = rw (lt-leb _ _ l)
+  start-read = go (leb start_size (length p)) refl (leb (length p) limits.program)
+    where
+      turn : (a b c d : Bool) (e f g : Bool) → ((a && (b && (c && true))) && d && (e && f && g)) ≡ (a && (b && (c && (d && (e && (f && g))))))
+      turn true true true true true f g = refl
+      turn true true true true false f g = refl
+      turn true true true false e f g = refl
+      turn true true false d e f g = refl
+      turn true false c d e f g = refl
+      turn false b c d e f g = refl
 
-  module _ (s : length p ≤ limits.program) where
-    pub start-short : length p < start_size → false ≡ start_fits p
-    unfolding start_fits
-    start-short l = rw (le-leb _ _ s, lt-leb _ _ l)
-
-    module _ (h : start_size ≤ length p) where
-      start_are : start_fits p ≡ ((eqb (get_or p 0 0) mark₁ && (eqb (get_or p 1 0) mark₂ && (eqb (get_or p code_from 0) START && true))) && leb (get_or p group_from 0) 1 && counts)
-      unfolding start_fits
-      start_are = rw (le-leb _ _ s, le-leb _ _ h, same_3 p mark₁ mark₂ START (omega arith))
-
-      pub start_first : (get_or p 0 0 ≡ mark₁ → ⊥) → false ≡ start_fits p
-      start_first d = sym (start_are ∙ rw (ne_eqb _ _ d))
-
-      module _ (a : get_or p 0 0 ≡ mark₁) where
-        pub start_second : (get_or p 1 0 ≡ mark₂ → ⊥) → false ≡ start_fits p
-        start_second d = sym (start_are ∙ rw (eq-eqb _ _ a, ne_eqb _ _ d))
-
-        module _ (b : get_or p 1 0 ≡ mark₂) where
-          pub start_third : (get_or p code_from 0 ≡ START → ⊥) → false ≡ start_fits p
-          start_third d = sym (start_are ∙ rw (eq-eqb _ _ a, eq-eqb _ _ b, ne_eqb _ _ d))
-
-          module _ (c : get_or p code_from 0 ≡ START) where
-            pub start-group : 1 < get_or p group_from 0 → false ≡ start_fits p
-            start-group l = sym (start_are ∙ rw (eq-eqb _ _ a, eq-eqb _ _ b, eq-eqb _ _ c, lt-leb _ _ l))
-
-            module _ (g : get_or p group_from 0 ≤ 1) (n : ℕ) (q : n ≡ get_or p components_from 0) where
-              start_left : start_fits p ≡ counts
-              start_left = start_are ∙ rw (eq-eqb _ _ a, eq-eqb _ _ b, eq-eqb _ _ c, le-leb _ _ g)
-
-              pub start_none : n < 1 → false ≡ start_fits p
-              start_none l = sym (start_left ∙ rw (lt-leb 1 (get_or p components_from 0) (omega arith)))
-
-              module _ (u : 1 ≤ n) where
-                pub start_many : limits.components < n → false ≡ start_fits p
-                start_many l = sym (start_left ∙ rw (le-leb 1 (get_or p components_from 0) (omega arith), lt-leb (get_or p components_from 0) limits.components (omega arith)))
-
-                pub start-last : n ≤ limits.components → (m : ℕ) → m ≡ two_at p records_from → leb m limits.records ≡ start_fits p
-                start-last l m e =
-                    let k : m ≡ num (part p records_from 2) = e ∙ sym (num_2 p records_from (omega arith)) in
-                    sym (start_left ∙ rw (le-leb 1 (get_or p components_from 0) (omega arith), le-leb (get_or p components_from 0) limits.components (omega arith), k))
+      go : (t : Bool) → leb start_size (length p) ≡ t → (b : Bool) →
+          (b && leb start_size (length p) && marked START p && leb (get_or p group_from 0) 1 && counts)
+          ≡ (b && (leb start_size (length p)
+          && (eqb (get_or p 0 0) mark₁ && (eqb (get_or p 1 0) mark₂ && (eqb (get_or p code_from 0) START
+          && (leb (get_or p group_from 0) 1 && (leb 1 (get_or p components_from 0) && (leb (get_or p components_from 0) limits.components && leb (num (part p records_from 2)) limits.records))))))))
+      go t e false = refl
+      go true e true =
+          rw (e, same_3 p mark₁ mark₂ START (omega (arith, leb-true start_size (length p) e)))
+          (turn
+          (eqb (get_or p 0 0) mark₁) (eqb (get_or p 1 0) mark₂) (eqb (get_or p code_from 0) START) (leb (get_or p group_from 0) 1)
+          (leb 1 (get_or p components_from 0)) (leb (get_or p components_from 0) limits.components) (leb (num (part p records_from 2)) limits.records))
+      go false e true = rw e
 
   abbrev first : Bool
   first = leb (length p) limits.program && leb start_size (length p) && marked START p
@@ -163,10 +147,10 @@ module _ (p : Bytes) where
   unfolding program_in
   program-on g s e = rw (s.mark, e, s.numbers)
 
-reject : (p : Bytes) (x : Tested) (r : Refusal) (k : ℕ) → program_in p ≡ refused r k → x ≡ no_program → TestedAs p (program_in p) x
+reject : (p : Bytes) (x : Option Tested) (r : Refusal) (k : ℕ) → program_in p ≡ refused r k → x ≡ None → TestedAs p (program_in p) x
 reject p x r k e h = rw e h
 
-pub start-refused : (p : Bytes) (x : Tested) → start_fits p ≡ false → x ≡ no_program → TestedAs p (program_in p) x
+pub start-refused : (p : Bytes) (x : Option Tested) → start_fits p ≡ false → x ≡ None → TestedAs p (program_in p) x
 start-refused p x e h = rw (start-bad p e) h
 
 empty : (q : Bytes) → length q ≡ 0 → q ≡ []
@@ -187,89 +171,101 @@ module _ (p : Bytes) (g : Group) (n m : ℕ) (h : Front p g n m) where
       let t : m ≡ num (part p records_from 2) = h.records ∙ sym (num_2 p records_from (omega (arith, h.start.room))) in
       program-on p g h.start h.group ∙ rw (h.components, t)
 
-  module _ (from : ℕ) (a : List ℕ) (f : (from ≡ next_in (length p) (ids_in n (drop start_size p))) × NamesAre p start_size n (ids_in n (drop start_size p)) a) where
-    pub names-refused : (x : Tested) → from ≡ 0 → x ≡ no_program → TestedAs p (program_in p) x
-    names-refused x z b =
-        let (r, k, u) = none_named p start_size n from a h.start.room f (omega arith) z in
-        reject p x r k (on ∙ rw u) b
+  abbrev pub Names : Option ℕ → List ℕ → Type 0
+  Names r a = (r ≡ ended_at (length p) (ids_in n (drop start_size p))) × NamesAre p start_size n (ids_in n (drop start_size p)) a
 
-    module _ (d : from ≡ 0 → ⊥) where
-      pub read : Named p start_size n from a
-      read = all_named p start_size n from a h.start.room f d
+  pub names-refused : (a : List ℕ) → Names None a → (x : Option Tested) → x ≡ None → TestedAs p (program_in p) x
+  names-refused a f x b = let (r, k, u) = none_named p start_size n a h.start.room f in reject p x r k (on ∙ rw u) b
 
-      abbrev ids : List Bytes
-      ids = names_at p a n
+  module _ (from : ℕ) (a : List ℕ) (f : Names (Some from) a) where
+    pub read : Named p start_size n from a
+    read = all_named p start_size n a h.start.room from f
 
-      abbrev records : Got (List Rec × Bytes)
-      records = records_in g n m m 0 (drop from p)
+    abbrev ids : List Bytes
+    ids = names_at p a n
 
-      on-names : program_in p ≡ (need (not (repeats ids)) >>= λ _. records >>= finish p g ids)
-      on-names = on ∙ rw read.reads
+    abbrev records : Got (List Rec × Bytes)
+    records = records_in g n m m 0 (drop from p)
 
-      module _ (w : Option ℕ) (v : w ≡ repeated p a n) where
-        repeats-is : (b : Bool) → is_some w ≡ b → repeats ids ≡ b
-        repeats-is b o = sym (repeated_law p a n) ∙ ap is_some (sym v) ∙ o
+    on-names : program_in p ≡ (need (not (repeats ids)) >>= λ _. records >>= finish p g ids)
+    on-names = on ∙ rw read.reads
 
-        pub repeat_refused : (x : Tested) → is_some w ≡ true → x ≡ no_program → TestedAs p (program_in p) x
-        repeat_refused x o b = rw (on-names, repeats-is true o) b
+    module _ (w : Option ℕ) (v : w ≡ repeated p a n) where
+      repeats-is : (b : Bool) → is_some w ≡ b → repeats ids ≡ b
+      repeats-is b o = sym (repeated_law p a n) ∙ ap is_some (sym v) ∙ o
 
-        module _ (o : is_some w ≡ false) where
-          on-records : program_in p ≡ (records >>= finish p g ids)
-          on-records = on-names ∙ rw (repeats-is false o)
+      pub repeat_refused : (x : Option Tested) → is_some w ≡ true → x ≡ None → TestedAs p (program_in p) x
+      repeat_refused x o b = rw (on-names, repeats-is true o) b
 
-          module _ (r : Records) (u : r ≡ records_are (length p) records) where
-            abbrev Answer : Tested → Type 0
-            Answer x = TestedAs p (program_in p) x
+      module _ (o : is_some w ≡ false) where
+        on-records : program_in p ≡ (records >>= finish p g ids)
+        on-records = on-names ∙ rw (repeats-is false o)
 
-            -- with records that are refused, and with others
-            either : (x : Tested) → x ≡ no_program → ((y : List Rec × Bytes) → records ≡ got y → r ≡ record { next = length p - length y.1; commands = non_jumps y.0 } →
-                finish p g ids y ≡ bad) → Answer x
-            either x b k = go records refl
-              where
-                go : (z : Got (List Rec × Bytes)) → records ≡ z → Answer x
-                go (refused i j) l = reject p x i j (on-records ∙ rw l) b
-                go (got y) l = rw (on-records, l, k y l (u ∙ ap (records_are (length p)) l)) b
+        abbrev Answer : Option Tested → Type 0
+        Answer x = TestedAs p (program_in p) x
 
-            pub records-refused : (x : Tested) → (r.next ≡ length p → ⊥) → x ≡ no_program → Answer x
-            records-refused x c b =
-                either x b λ y l i.
-                let nonempty : length y.1 ≡ 0 → ⊥ = λ z. c (ap (λ (y : Records). y.next) i ∙ omega arith) in
-                go y (leb (non_jumps y.0) limits.commands) refl (same_lengths y.1 [] nonempty)
-              where
-                go : (y : List Rec × Bytes) (b : Bool) → leb (non_jumps y.0) limits.commands ≡ b → same y.1 [] ≡ false → finish p g ids y ≡ bad
-                go y true f₁ f₂ = rw (f₁, f₂)
-                go y false f₁ f₂ = rw f₁
+        pub none-read : None ≡ records_are (length p) records → (x : Option Tested) → x ≡ None → Answer x
+        none-read u x b = go records refl
+          where
+            go : (z : Got (List Rec × Bytes)) → records ≡ z → Answer x
+            go (refused i j) l = reject p x i j (on-records ∙ rw l) b
+            go (got y) l =
+                let k : Records = record { next = length p - length y.1; commands = non_jumps y.0 } in
+                let z : None ≡ Some k = u ∙ ap (records_are (length p)) l in cc
 
-            pub commands-refused : (x : Tested) → limits.commands < r.commands → x ≡ no_program → Answer x
-            commands-refused x c b =
-                either x b λ y l i.
-                let f₁ : leb (non_jumps y.0) limits.commands ≡ false =
-                lt-leb (non_jumps y.0) limits.commands (omega (arith, ap (λ (y : Records). y.commands) i)) in
-                rw f₁
+        module _ (r : Records) (u : Some r ≡ records_are (length p) records) where
+          read-as : (y : List Rec × Bytes) → records ≡ got y → r ≡ record { next = length p - length y.1; commands = non_jumps y.0 }
+          read-as y l = let z : Some r ≡ Some (record { next = length p - length y.1; commands = non_jumps y.0 }) = u ∙ ap (records_are (length p)) l in cc
 
-            pub program-good : (k : ℕ) → (k ≡ four_at p number_from) × (k < 4294967296) → r.next ≡ length p → r.commands ≤ limits.commands →
-                Answer (record { good = true; group = g; number = k; components = n; records = m; from = from; ids = a })
-            program-good k b c few = go records refl
-              where
-                go : (z : Got (List Rec × Bytes)) → records ≡ z → Answer (record { good = true; group = g; number = k; components = n; records = m; from = from; ids = a })
-                go (refused i j) l = absurd (omega (arith, h.start.room, ap (λ (y : Records). y.next) (u ∙ ap (records_are (length p)) l)))
-                go (got y) l =
-                    let i : r ≡ record { next = length p - length y.1; commands = non_jumps y.0 } = u ∙ ap (records_are (length p)) l in
-                    let none_left : y.1 ≡ [] = empty y.1 (omega (arith, h.start.room, ap (λ (y : Records). y.next) i)) in
-                    let fewer : non_jumps y.0 ≤ limits.commands = omega (arith, ap (λ (y : Records). y.commands) i) in
-                    let number : k ≡ num (part p number_from 4) = b.0 ∙ sym (num_4 p number_from (omega (arith, h.start.room))) in
-                    let whole : program_in p ≡ got (record { group = g; number = num (part p number_from 4); ids = ids; records = y.0 }) =
-                    on-records ∙ rw (l, le-leb (non_jumps y.0) limits.commands fewer, none_left) in
-                    let counted : m ≡ num (part p records_from 2) = h.records ∙ sym (num_2 p records_from (omega (arith, h.start.room))) in
-                    rw whole
-                    (record {
-                      exact = rw (number, counted, read.exact, f.0, h.components);
-                      small = omega (arith, b.1);
-                      some-ids = (omega (arith, h.start.least, h.components), omega (arith, h.start.most, h.components));
-                      names = refl;
-                      places = read.within;
-                      from = read.here;
-                      size = omega (arith, h.start.records, h.records);
-                      reads = l ∙ ap (λ (z : Bytes). got (y.0, z)) none_left;
-                      few = fewer;
-                    })
+          -- with records that are refused, and with others
+          either : (x : Option Tested) → x ≡ None → ((y : List Rec × Bytes) → records ≡ got y → r ≡ record { next = length p - length y.1; commands = non_jumps y.0 } →
+              finish p g ids y ≡ bad) → Answer x
+          either x b k = go records refl
+            where
+              go : (z : Got (List Rec × Bytes)) → records ≡ z → Answer x
+              go (refused i j) l = reject p x i j (on-records ∙ rw l) b
+              go (got y) l = rw (on-records, l, k y l (read-as y l)) b
+
+          pub records-refused : (x : Option Tested) → (r.next ≡ length p → ⊥) → x ≡ None → Answer x
+          records-refused x c b =
+              either x b λ y l i.
+              let nonempty : length y.1 ≡ 0 → ⊥ = λ z. c (ap (λ (y : Records). y.next) i ∙ omega arith) in
+              go y (leb (non_jumps y.0) limits.commands) refl (same_lengths y.1 [] nonempty)
+            where
+              go : (y : List Rec × Bytes) (b : Bool) → leb (non_jumps y.0) limits.commands ≡ b → same y.1 [] ≡ false → finish p g ids y ≡ bad
+              go y true f₁ f₂ = rw (f₁, f₂)
+              go y false f₁ f₂ = rw f₁
+
+          pub commands-refused : (x : Option Tested) → limits.commands < r.commands → x ≡ None → Answer x
+          commands-refused x c b =
+              either x b λ y l i.
+              let f₁ : leb (non_jumps y.0) limits.commands ≡ false =
+              lt-leb (non_jumps y.0) limits.commands (omega (arith, ap (λ (y : Records). y.commands) i)) in
+              rw f₁
+
+          pub program-good : (k : ℕ) → (k ≡ four_at p number_from) × (k < 4294967296) → r.next ≡ length p → r.commands ≤ limits.commands →
+              Answer (Some (record { group = g; number = k; components = n; records = m; from = from; ids = a }))
+          program-good k b c few = go records refl
+            where
+              go : (z : Got (List Rec × Bytes)) → records ≡ z → Answer (Some (record { group = g; number = k; components = n; records = m; from = from; ids = a }))
+              go (refused i j) l = let z : Some r ≡ None = u ∙ ap (records_are (length p)) l in cc
+              go (got y) l =
+                  let i = read-as y l in
+                  let none_left : y.1 ≡ [] = empty y.1 (omega (arith, h.start.room, ap (λ (y : Records). y.next) i)) in
+                  let fewer : non_jumps y.0 ≤ limits.commands = omega (arith, ap (λ (y : Records). y.commands) i) in
+                  let number : k ≡ num (part p number_from 4) = b.0 ∙ sym (num_4 p number_from (omega (arith, h.start.room))) in
+                  let whole : program_in p ≡ got (record { group = g; number = num (part p number_from 4); ids = ids; records = y.0 }) =
+                  on-records ∙ rw (l, le-leb (non_jumps y.0) limits.commands fewer, none_left) in
+                  let counted : m ≡ num (part p records_from 2) = h.records ∙ sym (num_2 p records_from (omega (arith, h.start.room))) in
+                  rw whole
+                  (record {
+                    exact = rw (number, counted, read.exact, ← h.components, ← f.0);
+                    small = omega (arith, b.1);
+                    some-ids = (omega (arith, h.start.least, h.components), omega (arith, h.start.most, h.components));
+                    names = refl;
+                    places = read.within;
+                    from = read.here;
+                    size = omega (arith, h.start.records, h.records);
+                    reads = l ∙ ap (λ (z : Bytes). got (y.0, z)) none_left;
+                    few = fewer;
+                  })

@@ -2,7 +2,7 @@
 ghost use Rattle.std.specs.Prelude.{◌≡◌, ◌≤◌};
 ghost use Rattle.std.proofs.Math.Option.{some};
 ghost use Rattle.rules.specs.ProgramTest as Rule;
-ghost use Rattle.program_test.specs.Test.{start_fits, no_program, TestedAs};
+ghost use Rattle.program_test.specs.Test.{start_fits, TestedAs};
 
 use byte_buffer::{four, two, wide};
 use component_ids::repeated_one;
@@ -19,10 +19,9 @@ use rules_tables::tables;
 const START_CODE: u8 = START as u8;
 
 // The group and the number, how many components and records there are, where the first record is, and the places of the components'
-// identifiers; all 0 where the program is refused.
+// identifiers.
 #[derive(Clone, Copy)]
 pub struct Tested {
-    pub good: bool,
     pub group: Group,
     pub number: usize,
     pub components: usize,
@@ -31,50 +30,21 @@ pub struct Tested {
     pub ids: Places,
 }
 
-fn bad() -> Tested
-    ensures { result ≡ no_program }
-{
-    Tested {
-        good: false,
-        group: Group::Install,
-        number: 0,
-        components: 0,
-        records: 0,
-        from: 0,
-        ids: [0usize; PLACES],
-    }
-}
-
 // Whether the start is well formed: its mark, the group, and how many components and records it names.
 fn start_fits(p: &[u8]) -> bool
     ensures { result ≡ start_fits p.now }
 {
-    if Controller::PROGRAM_BYTES < p.len() {
-        return false;
-    }
-    if p.len() < START_BYTES {
-        return false;
-    }
-    if p[0] != MARK {
-        return false;
-    }
-    if p[1] != MARK_2 {
-        return false;
-    }
-    if p[CODE] != START_CODE {
-        return false;
-    }
-    if 1 < p[START_GROUP] {
+    if Controller::PROGRAM_BYTES < p.len() || p.len() < START_BYTES {
         return false;
     }
     let components = wide(p[START_COMPONENTS]);
-    if components < 1 {
-        return false;
-    }
-    if Controller::COMPONENTS < components {
-        return false;
-    }
-    two(p, START_RECORDS) <= Controller::RECORDS
+    p[0] == MARK
+        && p[1] == MARK_2
+        && p[CODE] == START_CODE
+        && p[START_GROUP] <= 1
+        && 1 <= components
+        && components <= Controller::COMPONENTS
+        && two(p, START_RECORDS) <= Controller::RECORDS
 }
 
 fn group_of(mark: u8) -> Group
@@ -82,45 +52,38 @@ fn group_of(mark: u8) -> Group
     ensures { Rule.group_in mark ≡ some result }
 {
     if mark == 0 {
-        return Group::Install;
+        Group::Install
+    } else {
+        Group::Boot
     }
-    Group::Boot
 }
 
-pub fn test_program(p: &[u8]) -> Tested
+// None where the program is refused.
+pub fn test_program(p: &[u8]) -> Option<Tested>
     ensures { TestedAs p.now (Rule.program_in p.now) result }
 {
     if !start_fits(p) {
-        return bad();
+        return None;
     }
     let group = group_of(p[START_GROUP]);
     let components = wide(p[START_COMPONENTS]);
     let records = two(p, START_RECORDS);
     let mut ids = [0usize; PLACES];
-    let from = test_names(p, START_BYTES, components, &mut ids);
-    if from == 0 {
-        return bad();
-    }
+    let from = test_names(p, START_BYTES, components, &mut ids)?;
     if repeated_one(p, &ids, components).is_some() {
-        return bad();
+        return None;
     }
     let table = tables();
-    let r = test_records(p, &table, from, group, components, records);
-    let next = r.next;
-    if next != p.len() {
-        return bad();
+    let read = test_records(p, &table, from, group, components, records)?;
+    if read.next != p.len() || Controller::COMMANDS < read.commands {
+        return None;
     }
-    let commands = r.commands;
-    if Controller::COMMANDS < commands {
-        return bad();
-    }
-    Tested {
-        good: true,
+    Some(Tested {
         group,
         number: four(p, START_NUMBER),
         components,
         records,
         from,
         ids,
-    }
+    })
 }

@@ -89,21 +89,10 @@ pub fn run_at(holder: Run, at: usize, now: Progress, end: usize) -> Run
 pub fn caught(run: Run, coercible: bool, coerce: usize) -> Progress
     ensures { result ≡ caught_by coercible coerce run }
 {
-    let end = run.end;
-    if coercible {
-        if coerce == COERCE_TRUE {
-            if end == End::CONDITION_FAILED {
-                return Progress {
-                    events: run.events,
-                    used: run.used,
-                    end: End::FINISHED,
-                };
-            }
-        }
-    }
+    let success = coercible && coerce == COERCE_TRUE && run.end == End::CONDITION_FAILED;
     Progress {
         events: run.events,
         used: run.used,
-        end,
+        end: if success { End::FINISHED } else { run.end },
     }
 }

@@ -24,16 +24,11 @@ pub fn perform(
     requires { Commanded s.now command given answers.now slots.old memory.old × RoomFor command.events trace.old }
     ensures { Performs s.now command given vendor.now class.now answers.now slots memory trace result }
 {
-    let events = command.events;
-    let place = command.place;
-    let index = command.index;
-    let code = command.code;
     let d = act(s, command, given, vendor, class, answers, slots, memory);
-    let end = d.end;
-    put_event(trace, events, code, index, place, end);
+    put_event(trace, command.events, command.code, command.index, command.place, d.end);
     Progress {
-        events: events + 1,
+        events: command.events + 1,
         used: d.used,
-        end,
+        end: d.end,
     }
 }

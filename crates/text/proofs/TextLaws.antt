@@ -85,14 +85,15 @@ wrote-again x n f g = rw (add-one n, ← more x n) (wrote_then f g)
     more x zero = refl
     more x (suc n) = ap (λ (l : Bytes). x ∷ l) (more x n)
 
+-- a first place, or the length where there is none
+pub first_within : (Yes No : ℕ → Type 0) (s : Bytes) (r : Option ℕ) → MatchOption r (AllWithin No s 0 (length s)) (λ i. (i < length s) × HoldsAt Yes s i × AllWithin No s 0 i) →
+    unwrap_or r (length s) ≤ length s
+first_within Yes No s None h = omega arith
+first_within Yes No s (Some i) h = omega (arith, h.0)
+
 -- what `position` followed by `unwrap_or` gives
 pub position_is : (n : ℕ) (s : Bytes) (r : Option ℕ) →
     MatchOption r (AllWithin (λ b. b ≢ n) s 0 (length s)) (λ i. (i < length s) × HoldsAt (λ b. b ≡ n) s i × AllWithin (λ b. b ≢ n) s 0 i) →
     (unwrap_or r (length s) ≡ position n s) × (unwrap_or r (length s) ≤ length s)
 unfolding position
-position_is n s r h = (sym (index_from_first (position n) (λ b. b ≡ n) (λ b. b ≢ n) refl (λ x xs e. rw (eq-eqb x n e)) (λ x xs e. rw (ne_eqb x n e, add-one (position n xs))) s r h), within r h)
-  where
-    within : (r : Option ℕ) → MatchOption r (AllWithin (λ b. b ≢ n) s 0 (length s)) (λ i. (i < length s) × HoldsAt (λ b. b ≡ n) s i × AllWithin (λ b. b ≢ n) s 0 i) →
-        unwrap_or r (length s) ≤ length s
-    within None h = omega arith
-    within (Some i) h = omega (arith, h.0)
+position_is n s r h = (sym (index_from_first (position n) _ _ refl (λ x xs e. rw (eq-eqb x n e)) (λ x xs e. rw (ne_eqb x n e, add-one (position n xs))) s r h), first_within (λ b. b ≡ n) (λ b. b ≢ n) s r h)

@@ -6,6 +6,3 @@ use Rattle.depot_reasons.proofs.first_without.Given as goal
 
 abbrev pub invariant-loop-k : goal.invariant-loop-k
 invariant-loop-k l = first (has_no_slot l.s l.ids l.slots) l.n 0 ≡ first (has_no_slot l.s l.ids l.slots) (l.n - l.k) l.k
-
-abbrev pub decreases-loop-k : goal.decreases-loop-k
-decreases-loop-k l = l.n - l.k

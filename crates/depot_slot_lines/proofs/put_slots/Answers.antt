@@ -6,18 +6,18 @@ use Rattle.depot_slot_lines.specs.SlotLines.{slots_text}
 use Rattle.depot_slot_lines.proofs.put_slots.Goals as goal
 
 pub loop-k-init : goal.loop-k-init
-loop-k-init c = (search rules, lines_none _ _ _)
+loop-k-init c = lines_none _ _ _
 
 pub put_owned-to-requires : goal.put_owned-to-requires
 put_owned-to-requires c = (omega (arith, c.loop-k-test.true), search rules)
 
 pub loop-k-preserved : goal.loop-k-preserved
 loop-k-preserved c =
-    (search rules, lines_next _ _ c.loop-k.invariant.1 c.put_owned-to.ensures)
+    lines_next _ _ c.loop-k.invariant c.put_owned-to.ensures
 
 pub shape_of-room : goal.shape_of-room
-shape_of-room c = wrote-length c.loop-k.invariant.1
+shape_of-room c = wrote-length c.loop-k.invariant
 
 pub returns : goal.returns
 unfolding slots_text
-returns c = lines-all _ _ _ (search rules) (search rules) c.loop-k.invariant.1
+returns c = lines-all _ _ _ (search rules) (search rules) c.loop-k.invariant

@@ -1,4 +1,5 @@
-use mathlib.Core.Path.{sym, ◌∙◌}
+use mathlib.Core.Path.{◌≡◌, sym, ◌∙◌}
+use native.Mathlib.Omega.{arith}
 use Rattle.depot_slot_names.proofs.NameLaws.{component-start, component_hit, component-next, component-end}
 use Rattle.depot_slot_names.proofs.component_with.Goals as goal
 
@@ -14,4 +15,6 @@ loop-k-preserved c =
     component-next _ _ _ _ _ _ c.loop-k.invariant c.loop-k-test.true (sym c.is_component.ensures ∙ c.if-is_component.false)
 
 pub returns : goal.returns
-returns c = component-end _ _ _ _ _ _ c.loop-k.invariant c.loop-k-test.false
+returns c =
+    let e : c.args.n ≡ c.loop-k.k = omega arith in
+    e ∙ component-end _ _ _ _ _ _ c.loop-k.invariant c.loop-k-test.false

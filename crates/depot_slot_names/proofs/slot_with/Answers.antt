@@ -6,18 +6,18 @@ use Rattle.depot_slot_names.proofs.slot_with.Goals as goal
 
 pub loop-k-init : goal.loop-k-init
 unfolding slot_with
-loop-k-init c = refl
+loop-k-init c = (omega arith, refl)
 
 pub has_name-requires : goal.has_name-requires
 has_name-requires c = omega (arith, c.loop-k-test.true)
 
 pub returns-then-has_name : goal.returns-then-has_name
 returns-then-has_name c =
-    sym (find_hit _ _ _ _ _ c.loop-k.invariant c.loop-k-test.true (sym c.has_name.ensures ∙ c.if-has_name.true))
+    sym (find_hit _ _ _ _ _ c.loop-k.invariant.1 c.loop-k-test.true (sym c.has_name.ensures ∙ c.if-has_name.true))
 
 pub loop-k-preserved : goal.loop-k-preserved
 loop-k-preserved c =
-    find-next _ _ _ _ _ c.loop-k.invariant c.loop-k-test.true (sym c.has_name.ensures ∙ c.if-has_name.false)
+    (omega arith, find-next _ _ _ _ _ c.loop-k.invariant.1 c.loop-k-test.true (sym c.has_name.ensures ∙ c.if-has_name.false))
 
 pub returns : goal.returns
-returns c = sym (find-end _ _ _ _ _ c.loop-k.invariant c.loop-k-test.false)
+returns c = omega (arith, find-end _ _ _ _ _ c.loop-k.invariant.1 c.loop-k-test.false)

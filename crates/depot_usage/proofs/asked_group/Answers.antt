@@ -1,24 +1,12 @@
-use mathlib.Core.Path.{sym, ◌∙◌}
+use mathlib.Core.Path.{refl}
+use Rattle.text.specs.Text.{ascii}
 use Rattle.depot_usage.specs.Usage.{asked_of}
+use Rattle.depot_usage.proofs.WordLaws.{not_text}
 use Rattle.depot_usage.proofs.asked_group.Goals as goal
 
-pub returns-then-is : goal.returns-then-is
+pub returns-in_default : goal.returns-in_default
 unfolding asked_of
-returns-then-is c =
-    rw (sym c.is.ensures ∙ c.if-is.true)
-
-pub returns-then-is-2 : goal.returns-then-is-2
-unfolding asked_of
-returns-then-is-2 c =
-    rw (
-      sym c.is.ensures ∙ c.if-is.false,
-      sym c.is-2.ensures ∙ c.if-is-2.true,
-    )
-
-pub returns : goal.returns
-unfolding asked_of
-returns c =
-    rw (
-      sym c.is.ensures ∙ c.if-is.false,
-      sym c.is-2.ensures ∙ c.if-is-2.false,
-    )
+returns-in_default c =
+    let no = not_text c.args.word.now in
+    let h = c.in_default.ensures.cases.0 in
+    rw (no (ascii "install") h refl, no (ascii "boot") h refl)

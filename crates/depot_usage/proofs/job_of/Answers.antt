@@ -1,99 +1,25 @@
-use mathlib.Core.Path.{sym, ◌∙◌}
-use Rattle.depot_usage.specs.Usage.{job_of}
+use mathlib.Core.Path.{refl}
+use Rattle.text.specs.Text.{ascii}
+use Rattle.depot_usage.specs.Usage.{told_of, job_of}
+use Rattle.depot_usage.proofs.WordLaws.{not_text}
 use Rattle.depot_usage.proofs.job_of.Goals as goal
 
-pub returns-then-is : goal.returns-then-is
-unfolding job_of
-returns-then-is c =
-    rw (sym c.is.ensures ∙ c.if-is.true)
-
-pub returns-then-is-2 : goal.returns-then-is-2
-unfolding job_of
-returns-then-is-2 c =
+pub returns-in_default : goal.returns-in_default
+unfolding told_of job_of
+returns-in_default c =
+    let no = not_text c.args.word.now in
+    let h = c.in_default.ensures.cases.0 in
     rw (
-      sym c.is.ensures ∙ c.if-is.false,
-      sym c.is-2.ensures ∙ c.if-is-2.true,
+      no (ascii "check") h refl,
+      no (ascii "show") h refl,
+      no (ascii "newer") h refl,
+      no (ascii "translate") h refl,
+      no (ascii "list") h refl,
+      no (ascii "run") h refl,
+      no (ascii "run-program") h refl,
+      no (ascii "batch") h refl,
+      no (ascii "help") h refl,
+      no (ascii "--help") h refl,
+      no (ascii "-h") h refl,
+      no (ascii "--version") h refl,
     )
-
-pub returns-then-is-3 : goal.returns-then-is-3
-unfolding job_of
-returns-then-is-3 c =
-    rw (
-      sym c.is.ensures ∙ c.if-is.false,
-      sym c.is-2.ensures ∙ c.if-is-2.false,
-      sym c.is-3.ensures ∙ c.if-is-3.true,
-    )
-
-pub returns-then-is-4 : goal.returns-then-is-4
-unfolding job_of
-returns-then-is-4 c =
-    rw (
-      sym c.is.ensures ∙ c.if-is.false,
-      sym c.is-2.ensures ∙ c.if-is-2.false,
-      sym c.is-3.ensures ∙ c.if-is-3.false,
-      sym c.is-4.ensures ∙ c.if-is-4.true,
-    )
-
-pub returns-then-is-5 : goal.returns-then-is-5
-unfolding job_of
-returns-then-is-5 c =
-    rw (
-      sym c.is.ensures ∙ c.if-is.false,
-      sym c.is-2.ensures ∙ c.if-is-2.false,
-      sym c.is-3.ensures ∙ c.if-is-3.false,
-      sym c.is-4.ensures ∙ c.if-is-4.false,
-      sym c.is-5.ensures ∙ c.if-is-5.true,
-    )
-
-pub returns-then-is-6 : goal.returns-then-is-6
-unfolding job_of
-returns-then-is-6 c =
-    rw (
-      sym c.is.ensures ∙ c.if-is.false,
-      sym c.is-2.ensures ∙ c.if-is-2.false,
-      sym c.is-3.ensures ∙ c.if-is-3.false,
-      sym c.is-4.ensures ∙ c.if-is-4.false,
-      sym c.is-5.ensures ∙ c.if-is-5.false,
-      sym c.is-6.ensures ∙ c.if-is-6.true,
-    )
-
-pub returns-then-is-7 : goal.returns-then-is-7
-unfolding job_of
-returns-then-is-7 c =
-    rw (
-      sym c.is.ensures ∙ c.if-is.false,
-      sym c.is-2.ensures ∙ c.if-is-2.false,
-      sym c.is-3.ensures ∙ c.if-is-3.false,
-      sym c.is-4.ensures ∙ c.if-is-4.false,
-      sym c.is-5.ensures ∙ c.if-is-5.false,
-      sym c.is-6.ensures ∙ c.if-is-6.false,
-      sym c.is-7.ensures ∙ c.if-is-7.true,
-    )
-
-pub returns-then-is-8 : goal.returns-then-is-8
-unfolding job_of
-returns-then-is-8 c =
-    rw (
-      sym c.is.ensures ∙ c.if-is.false,
-      sym c.is-2.ensures ∙ c.if-is-2.false,
-      sym c.is-3.ensures ∙ c.if-is-3.false,
-      sym c.is-4.ensures ∙ c.if-is-4.false,
-      sym c.is-5.ensures ∙ c.if-is-5.false,
-      sym c.is-6.ensures ∙ c.if-is-6.false,
-      sym c.is-7.ensures ∙ c.if-is-7.false,
-      sym c.is-8.ensures ∙ c.if-is-8.true,
-    )
-
-pub returns : goal.returns
-unfolding job_of
-returns c =
-    rw (
-      sym c.is.ensures ∙ c.if-is.false,
-      sym c.is-2.ensures ∙ c.if-is-2.false,
-      sym c.is-3.ensures ∙ c.if-is-3.false,
-      sym c.is-4.ensures ∙ c.if-is-4.false,
-      sym c.is-5.ensures ∙ c.if-is-5.false,
-      sym c.is-6.ensures ∙ c.if-is-6.false,
-      sym c.is-7.ensures ∙ c.if-is-7.false,
-      sym c.is-8.ensures ∙ c.if-is-8.false,
-    ) c.told_of.ensures

@@ -1,4 +1,4 @@
-use mathlib.Core.Path.{refl, ◌∙◌}
+use mathlib.Core.Path.{refl, sym, ◌∙◌}
 use native.Mathlib.Omega.{arith}
 use native.Mathlib.Numerals.{add-one}
 use lib.ListN.{length}
@@ -10,17 +10,17 @@ pub loop-at-init : goal.loop-at-init
 loop-at-init c =
     (omega arith, omega arith, refl, refl, rw c.start-d.ensures (left-start (length c.args.slots.now) (length c.args.answers.now) c.args.text.now c.args.slots.now c.args.answers.now))
 
-pub shape_of-slots-then-refused-ne0 : goal.shape_of-slots-then-refused-ne0
-shape_of-slots-then-refused-ne0 c = took_slots c.take_line-d.ensures ∙ c.loop-at.invariant.2
+pub shape_of-slots-then-is_some : goal.shape_of-slots-then-is_some
+shape_of-slots-then-is_some c = took_slots c.take_line-d.ensures ∙ c.loop-at.invariant.2
 
-pub shape_of-answers-then-refused-ne0 : goal.shape_of-answers-then-refused-ne0
-shape_of-answers-then-refused-ne0 c = took_answers c.take_line-d.ensures ∙ c.loop-at.invariant.3
+pub shape_of-answers-then-is_some : goal.shape_of-answers-then-is_some
+shape_of-answers-then-is_some c = took_answers c.take_line-d.ensures ∙ c.loop-at.invariant.3
 
-pub returns-then-refused-ne0 : goal.returns-then-refused-ne0
-returns-then-refused-ne0 c =
+pub returns-then-is_some : goal.returns-then-is_some
+returns-then-is_some c =
     let f = rw (lines_next c.args.text.now c.loop-at.at c.loop-at-test.true) at c.loop-at.invariant.4 in
     let t = rw (c.loop-at.invariant.2, c.loop-at.invariant.3, c.line_at.ensures) at c.take_line-d.ensures in
-    left_stop _ _ _ _ _ _ _ _ _ _ _ _ _ _ f t c.if-refused-ne0.true
+    left_stop _ _ _ _ _ _ _ _ _ _ _ _ _ _ f t (sym c.is_some.ensures ∙ c.if-is_some.true)
 
 pub loop-at-smaller : goal.loop-at-smaller
 loop-at-smaller c = omega (arith, c.next_line-at.ensures.2 (omega arith))
@@ -35,7 +35,7 @@ loop-at-preserved c =
       omega (arith, c.loop-at.invariant.1, c.next_line-at.ensures.2 c.loop-at-test.true),
       took_slots c.take_line-d.ensures ∙ c.loop-at.invariant.2,
       took_answers c.take_line-d.ensures ∙ c.loop-at.invariant.3,
-      rw (c.next_line-at.ensures.0, add-one c.loop-at.n) (left-next _ _ _ _ _ _ _ _ _ _ _ _ _ _ f t c.if-refused-ne0.false),
+      rw (c.next_line-at.ensures.0, add-one c.loop-at.n) (left-next _ _ _ _ _ _ _ _ _ _ _ _ _ _ f t (sym c.is_some.ensures ∙ c.if-is_some.false)),
     )
 
 pub shape_of-slots : goal.shape_of-slots

@@ -1,6 +1,16 @@
-use mathlib.Core.Path.{◌∙◌}
-use Rattle.rules.proofs.BytesLaws.{part-rest}
+use borrow.Author.Tests.{ltb-true}
+use native.Mathlib.Omega.{arith}
+use mathlib.Core.Path.{sym, ◌∙◌}
+use Rattle.device_text.proofs.WordLaws.{skip-none, skip-here, skip-next}
 use Rattle.device_text.proofs.skip.Goals as goal
 
-pub returns : goal.returns
-returns c = part-rest c.args.s.now c.in_front-n.result ∙ c.in_front-n.ensures.1
+pub loop-kept-preserved : goal.loop-kept-preserved
+loop-kept-preserved c =
+    c.loop-kept.invariant ∙ skip-next c.loop-kept.kept.now c.in-len1-up.len_at_least (sym c.blank.ensures ∙ c.if-blank.true)
+
+pub returns-then-kept-lt1 : goal.returns-then-kept-lt1
+returns-then-kept-lt1 c = sym (c.loop-kept.invariant ∙ skip-none c.loop-kept.kept.now (omega (arith, ltb-true)))
+
+pub returns-else-blank : goal.returns-else-blank
+returns-else-blank c =
+    sym (c.loop-kept.invariant ∙ skip-here c.loop-kept.kept.now c.in-len1-up.len_at_least (sym c.blank.ensures ∙ c.if-blank.false))

@@ -1,32 +1,34 @@
+use Prim.Native.Nat.{◌+◌}
+use mathlib.Core.Path.{◌≡◌}
 use native.Mathlib.Omega.{arith}
+use Rattle.rules.specs.Bytes.{two_at}
+use Rattle.rules.specs.ProgramFormat.{argument_from, record_size}
 use Rattle.program_jump.proofs.JumpLaws.{advance_start, advance_room, advance_next, advance_done}
 use Rattle.program_jump.proofs.advance.Goals as goal
 
-pub loop-k-init : goal.loop-k-init
-loop-k-init c = (omega arith, c.requires.forward, λ j. advance_start _ _ _ _ _ _ j.place)
+pub loop-init : goal.loop-init
+loop-init c = λ j. advance_start _ _ _ _ _ _ j.place
 
 -- the record that is passed over lies in the bytes
 pub overflow_add-next : goal.overflow_add-next
 overflow_add-next c =
-    omega (arith, advance_room _ _ _ _ _ _ _ _ _ (c.loop-k.invariant.2 c.requires) (omega (arith, c.loop-k-test.true, c.requires.within)))
-
-pub overflow_add-next-in-loop-k : goal.overflow_add-next-in-loop-k
-overflow_add-next-in-loop-k c =
-    omega (arith, advance_room _ _ _ _ _ _ _ _ _ (c.loop-k.invariant.2 c.requires) (omega (arith, c.loop-k-test.true, c.requires.within)))
+    omega (arith, advance_room _ _ _ _ _ _ _ _ _ (c.loop.invariant c.requires) (omega (arith, c.loop-test.true, c.requires.within)))
 
 pub two-requires : goal.two-requires
 two-requires c =
-    omega (arith, advance_room _ _ _ _ _ _ _ _ _ (c.loop-k.invariant.2 c.requires) (omega (arith, c.loop-k-test.true, c.requires.within)))
+    omega (arith, advance_room _ _ _ _ _ _ _ _ _ (c.loop.invariant c.requires) (omega (arith, c.loop-test.true, c.requires.within)))
 
-pub overflow_add-next-in-loop-k-2 : goal.overflow_add-next-in-loop-k-2
-overflow_add-next-in-loop-k-2 c =
+pub overflow_add-next-in-loop-2 : goal.overflow_add-next-in-loop-2
+overflow_add-next-in-loop-2 c =
     omega
-    (arith, c.two.ensures.0, advance_room _ _ _ _ _ _ _ _ _ (c.loop-k.invariant.2 c.requires) (omega (arith, c.loop-k-test.true, c.requires.within)))
+    (arith, c.two.ensures.0, advance_room _ _ _ _ _ _ _ _ _ (c.loop.invariant c.requires) (omega (arith, c.loop-test.true, c.requires.within)))
 
-pub loop-k-preserved : goal.loop-k-preserved
-loop-k-preserved c =
-    let (low, high, at) = c.loop-k.invariant in
-    (omega (arith, low), omega (arith, c.loop-k-test.true), λ j. rw c.two.ensures.0 (advance_next _ _ _ _ _ _ _ _ _ (at j) (omega (arith, c.loop-k-test.true, j.within)) low))
+pub loop-preserved : goal.loop-preserved
+loop-preserved c = λ j.
+    let p = c.args.p.now in
+    let e : c.loop.next + (record_size + c.two.result) ≡ c.loop.next + record_size + two_at p (c.loop.next + argument_from) = omega (arith, c.two.ensures.0) in
+    rw e (advance_next _ _ _ _ _ _ _ _ _ (c.loop.invariant j) (omega (arith, c.loop-test.true, j.within)) c.loop.auto.counter)
 
 pub returns : goal.returns
-returns c = λ j. advance_done _ _ _ _ _ _ _ _ _ (c.loop-k.invariant.2 j) _ (omega (arith, c.loop-k.invariant.1, c.loop-k-test.false))
+returns c = λ j.
+    advance_done _ _ _ _ _ _ _ _ _ (c.loop.invariant j) _ (omega (arith, c.loop.auto.counter-end, j.forward, c.loop-test.false))

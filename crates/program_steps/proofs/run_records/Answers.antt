@@ -11,10 +11,10 @@ pub step-current-requires : goal.step-current-requires
 step-current-requires c =
     loop_job _ _ _ _ _ _ _ _ _ c.requires _ _ _ _ (c.loop-current.invariant.2 c.requires) c.loop-current-test.true
 
-pub returns-then-end-ne-FINISHED : goal.returns-then-end-ne-FINISHED
-returns-then-end-ne-FINISHED c = λ j.
+pub returns-then-current-ne-FINISHED : goal.returns-then-current-ne-FINISHED
+returns-then-current-ne-FINISHED c = λ j.
     let l = c.loop-current.invariant.2 j in
-    loop_stops _ _ _ _ _ _ _ _ _ j _ _ _ _ l c.loop-current-test.true _ _ _ _ (c.step-current.ensures (loop_job _ _ _ _ _ _ _ _ _ j _ _ _ _ l c.loop-current-test.true)) c.if-end-ne-FINISHED.true
+    loop_stops _ _ _ _ _ _ _ _ _ j _ _ _ _ l c.loop-current-test.true _ _ _ _ (c.step-current.ensures (loop_job _ _ _ _ _ _ _ _ _ j _ _ _ _ l c.loop-current-test.true)) c.if-current-ne-FINISHED.true
 
 pub loop-current-smaller : goal.loop-current-smaller
 loop-current-smaller c =
@@ -27,7 +27,7 @@ loop-current-preserved c = (
   search rules,
   λ j.
       let l = c.loop-current.invariant.2 j in
-      loop_goes_on _ _ _ _ _ _ _ _ _ j _ _ _ _ l c.loop-current-test.true _ _ _ _ (c.step-current.ensures (loop_job _ _ _ _ _ _ _ _ _ j _ _ _ _ l c.loop-current-test.true)) c.if-end-ne-FINISHED.false,
+      loop_goes_on _ _ _ _ _ _ _ _ _ j _ _ _ _ l c.loop-current-test.true _ _ _ _ (c.step-current.ensures (loop_job _ _ _ _ _ _ _ _ _ j _ _ _ _ l c.loop-current-test.true)) c.if-current-ne-FINISHED.false,
 )
 
 pub returns : goal.returns

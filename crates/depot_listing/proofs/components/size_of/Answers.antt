@@ -1,8 +1,7 @@
 use lib.ListN.{get_or}
 use Rattle.rules.specs.ProgramFormat.{length_from, name_size}
-use native.Mathlib.Omega.{arith}
 use Rattle.depot_listing.specs.Listing.{component_size}
-use Rattle.depot_argument_lines.proofs.ItemLaws.{size-short, size_past, size-whole, sized-of, sized-zero}
+use Rattle.depot_argument_lines.proofs.ItemLaws.{size-short, sized-zero}
 use Rattle.depot_listing.proofs.components.size_of.Goals as goal
 
 pub returns-then-s-lt-NAME_BYTES-clause-size : goal.returns-then-s-lt-NAME_BYTES-clause-size
@@ -10,12 +9,6 @@ unfolding component_size
 returns-then-s-lt-NAME_BYTES-clause-size c =
     sized-zero _ (size-short c.args.s.now name_size (get_or c.args.s.now length_from 0) c.if-s-lt-NAME_BYTES.true)
 
-pub returns-then-s-size-clause-size : goal.returns-then-s-size-clause-size
-unfolding component_size
-returns-then-s-size-clause-size c =
-    sized-zero _ (size_past c.args.s.now name_size (get_or c.args.s.now length_from 0) c.if-s-lt-NAME_BYTES.false (rw c.wide-size.ensures.0 at c.if-s-size.true))
-
 pub returns-clause-size : goal.returns-clause-size
 unfolding component_size
-returns-clause-size c =
-    rw c.wide-size.ensures.0 (sized-of _ _ (size-whole c.args.s.now name_size (get_or c.args.s.now length_from 0) (rw c.wide-size.ensures.0 at c.if-s-size.false)) (omega arith))
+returns-clause-size c = rw (← c.wide.ensures.0) c.size_in.ensures.size

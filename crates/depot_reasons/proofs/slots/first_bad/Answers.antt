@@ -10,13 +10,13 @@ loop-k-init c = first-start _ _
 pub good_slot-requires : goal.good_slot-requires
 good_slot-requires c = omega (arith, c.loop-k-test.true, c.requires)
 
-pub returns-then-not-good_slot : goal.returns-then-not-good_slot
-returns-then-not-good_slot c =
+pub returns-then-not-good_slot-clause-which : goal.returns-then-not-good_slot-clause-which
+returns-then-not-good_slot-clause-which c =
     first_hit _ _ _ c.loop-k.invariant c.loop-k-test.true (ap not (sym c.good_slot.ensures ∙ c.if-not-good_slot.true))
 
 pub loop-k-preserved : goal.loop-k-preserved
 loop-k-preserved c =
     first_next _ _ _ c.loop-k.invariant c.loop-k-test.true (ap not (sym c.good_slot.ensures ∙ c.if-not-good_slot.false))
 
-pub returns : goal.returns
-returns c = first-end _ _ _ c.loop-k.invariant c.loop-k-test.false
+pub returns-clause-which : goal.returns-clause-which
+returns-clause-which c = first-end _ _ _ c.loop-k.invariant c.loop-k-test.false

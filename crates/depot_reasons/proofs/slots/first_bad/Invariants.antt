@@ -6,6 +6,3 @@ use Rattle.depot_reasons.proofs.slots.first_bad.Given as goal
 
 abbrev pub invariant-loop-k : goal.invariant-loop-k
 invariant-loop-k l = first (is_bad l.slots) l.n 0 ≡ first (is_bad l.slots) (l.n - l.k) l.k
-
-abbrev pub decreases-loop-k : goal.decreases-loop-k
-decreases-loop-k l = l.n - l.k

@@ -6,6 +6,3 @@ use Rattle.depot_reasons.proofs.slots.first_twice.Given as goal
 
 abbrev pub invariant-loop-i : goal.invariant-loop-i
 invariant-loop-i l = first (is_twice l.slots l.n) l.n 0 ≡ first (is_twice l.slots l.n) (l.n - l.i) l.i
-
-abbrev pub decreases-loop-i : goal.decreases-loop-i
-decreases-loop-i l = l.n - l.i

@@ -1,30 +1,14 @@
-use mathlib.Core.Path.{ap, ◌∙◌}
-use borrow.Author.Tests.{lt-ltb, le-ltb}
+use mathlib.Core.Path.{◌≡◌, ap, ◌∙◌}
+use mathlib.Core.Bool.{false, not}
 use Rattle.rules.specs.Limits.{limits}
 use Rattle.device_text.specs.Words as Words
+use Rattle.device_text.proofs.WordLaws.{decimal-none}
 use Rattle.device_faults.specs.Faults.{slot_fault}
 use Rattle.device_faults.proofs.slot.put_slot_fault.Goals as goal
 
-pub returns-then-not-up_to_bytes : goal.returns-then-not-up_to_bytes
+pub returns-then-is_none : goal.returns-then-is_none
 unfolding slot_fault
-returns-then-not-up_to_bytes c =
-    let e = c.up_to_bytes.ensures ∙ ap (Words.up_to_bytes limits.identifier) c.word.ensures in
-    rw (← e, c.if-not-up_to_bytes.true) c.put_identifier.ensures
-
-pub returns-then-decimal-ge-NO_NUMBER : goal.returns-then-decimal-ge-NO_NUMBER
-unfolding slot_fault
-returns-then-decimal-ge-NO_NUMBER c =
-    let e = c.up_to_bytes.ensures ∙ ap (Words.up_to_bytes limits.identifier) c.word.ensures in
-    let n = c.decimal.ensures ∙ ap Words.number (c.word-2.ensures ∙ ap Words.word c.rest-t2.ensures) in
-    rw (← e, c.if-not-up_to_bytes.false, ← n, le-ltb c.decimal.result Words.no_number c.if-decimal-ge-NO_NUMBER.true) c.put_labelled.ensures
-
-pub returns : goal.returns
-unfolding slot_fault
-returns c =
-    let e = c.up_to_bytes.ensures ∙ ap (Words.up_to_bytes limits.identifier) c.word.ensures in
-    let n = c.decimal.ensures ∙ ap Words.number (c.word-2.ensures ∙ ap Words.word c.rest-t2.ensures) in
-    let three = c.rest-t3.ensures ∙ ap Words.rest c.rest-t2.ensures in
-    let w = c.word-3.ensures ∙ ap Words.word three in
-    let t = c.rest.ensures ∙ ap Words.rest three in
-    rw (← e, c.if-not-up_to_bytes.false, ← n, lt-ltb c.decimal.result Words.no_number c.if-decimal-ge-NO_NUMBER.false, ← t, ← w)
-    c.put_state_fault.ensures
+returns-then-is_none c =
+    let none : Words.is_number (Words.word (Words.rest c.args.t.now)) ≡ false = decimal-none _ c.decimal.ensures (c.word-2.ensures ∙ ap Words.word c.rest-t2.ensures) (c.is_none.ensures ∙ ap not c.if-is_none.true) in
+    let long = c.up_to_bytes.ensures ∙ ap (Words.up_to_bytes limits.identifier) c.word.ensures in
+    rw (← long, c.if-not-up_to_bytes.false, none) c.put_labelled.ensures
