@@ -7,7 +7,7 @@ use lib.ListN.{length, take, drop, length-append}
 use lib.Dec.{leb}
 use lib.Seq.{take-append_seam, drop-append_seam}
 use borrow.Author.Tests.{leb-true, leb-false}
-use Rattle.std.specs.Prelude.{Err}
+use Rattle.std.specs.Prelude.{Result, Ok, Err}
 use Rattle.rules.specs.declared.answers.Fault.{Fault}
 use Rattle.rules.specs.declared.answers.Group.{Group}
 use Rattle.rules.specs.declared.answers.Refusal.{Refusal}
@@ -24,10 +24,8 @@ use Rattle.rules_theorems.proofs.Demand3.{demand_3}
 use Rattle.rules_theorems.proofs.ProgramFaults.{never97}
 use Rattle.run_ending.specs.declared.Outcome.{Outcome}
 use Rattle.run_ending.specs.Answer.{input_of, outcome_of, Settles}
-use Rattle.translate.specs.declared.Translated.{Translated}
-use Rattle.translate.specs.declared.Translated.TheVariants.{Refused, Program}
 use Rattle.translate.specs.Translate.{Translates}
-use Rattle.translate.proofs.TranslatedLaws.{apart}
+use Rattle.translate.proofs.TranslatedLaws.{apart, one_fault}
 use Rattle.agreement.specs.Agreement.{program_for, Agreed}
 
 -- the bytes at the start of the room are the rule's program
@@ -39,10 +37,10 @@ pub record Written (g : Got Bytes) (n : ℕ) (room room' : Bytes) : Type 0 where
   pub beyond : drop n room' ≡ drop n room
   pub fits : n ≤ length room'
 
-pub written : (g : Got Bytes) (t : Translated) (room room' : Bytes) (n : ℕ) → Translates g t room room' → t ≡ Program n → Written g n room room'
+pub written : (g : Got Bytes) (t : Result ℕ Fault) (room room' : Bytes) (n : ℕ) → Translates g t room room' → t ≡ Ok n → Written g n room room'
 written (refused k p) t room room' n h e = apart k p n (sym h.0 ∙ e)
 written (got b) t room room' n h e =
-    let q : ◌≡◌ {A = Translated} (Program (length b)) (Program n) = sym h.0 ∙ e in
+    let q : ◌≡◌ {A = Result ℕ Fault} (Ok (length b)) (Ok n) = sym h.0 ∙ e in
     let l : length b ≡ n = cc in
     record {
       bytes = b;
@@ -54,7 +52,7 @@ written (got b) t room room' n h e =
     }
 
 -- a refused translation has no program
-refuses : (b : Bytes) (k : Refusal) (p : ℕ) (room room' : Bytes) → Translates (got b) (Refused k p) room room' → ⊥
+refuses : (b : Bytes) (k : Refusal) (p : ℕ) (room room' : Bytes) → Translates (got b) (Err (record { refusal = k; at = p })) room room' → ⊥
 refuses b k p room room' h = apart k p (length b) h.0
 
 -- an answer that is a refusal is the rule's
@@ -78,13 +76,12 @@ told s group m room c = by_length (leb (length (program_for s group m)) room) re
 
 -- a refused translation of an accepted manifest is 96 at place 0, in a shorter room
 refused-short : (s : Bytes) (group : Group) (m : Manifest) (k : Refusal) (p : ℕ) (room room' : Bytes) → Told s group m (length room) →
-    Translates (translate s group (length room)) (Refused k p) room room' → (k ≡ ShortRoom) × (p ≡ 0) × (length room < length (program_for s group m))
+    Translates (translate s group (length room)) (Err (record { refusal = k; at = p })) room room' → (k ≡ ShortRoom) × (p ≡ 0) × (length room < length (program_for s group m))
 refused-short s group m k p room room' (long l e) h = absurd (refuses (program_for s group m) k p room room' (rw e at h))
 refused-short s group m k p room room' (short l e) h =
-    let t : Translates (refused ShortRoom 0) (Refused k p) room room' = rw e at h in
-    let z : ◌≡◌ {A = Translated} (Refused k p) (Refused ShortRoom 0) = t.0 in
-    let a : k ≡ ShortRoom = cc in
-    let b : p ≡ 0 = cc in
+    let t : Translates (refused ShortRoom 0) (Err (record { refusal = k; at = p })) room room' = rw e at h in
+    let z : ◌≡◌ {A = Result ℕ Fault} (Err (record { refusal = k; at = p })) (Err (record { refusal = ShortRoom; at = 0 })) = t.0 in
+    let (a, b) = one_fault k ShortRoom p 0 z in
     (a, b, l)
 
 -- the bytes that a translation of an accepted manifest gives are its program
@@ -97,32 +94,31 @@ given-program s group m room b (short l e) q =
 
 module _ (s : Bytes) (group : Group) (verdict : Bool) (device : Controller) (answers room room' pslots ptrace eslots eslots' etrace etrace' : Bytes) (e : Outcome)
     (ran : Settles device (run_envelope s group (input_of verdict device eslots answers etrace)) e eslots eslots' etrace etrace') where
-  pub refused_agrees : (t : Translated) (k : Refusal) (p : ℕ) → t ≡ Refused k p → Translates (translate s group (length room)) t room room' →
+  pub refused_agrees : (t : Result ℕ Fault) (k : Refusal) (p : ℕ) → t ≡ Err (record { refusal = k; at = p }) → Translates (translate s group (length room)) t room room' →
       (o : Outcome) → o ≡ outcome_of device (refused k p) →
       Agreed s group verdict device answers room room' pslots pslots ptrace ptrace eslots eslots' etrace etrace'
-      (record { translated = Refused k p; program = o; envelope = e })
+      (record { translated = Err (record { refusal = k; at = p }); program = o; envelope = e })
   refused_agrees t k p q h o is =
       record {
         translated = rw q at h;
         envelope = ran;
         program = λ n z. apart k p n z;
-        no_program_lem = λ k' p' z. let a : k ≡ k' = cc in let b : p ≡ p' = cc in (rw (← a, ← b) is, refl, refl);
+        no_program_lem = λ k' p' z. let (a, b) = one_fault k k' p p' z in (rw (← a, ← b) is, refl, refl);
         short = λ m c l.
-            let z : Translates (refused ShortRoom 0) (Refused k p) room room' = rw (q, (demand_3 s group m c).short (length room) l) at h in
+            let z : Translates (refused ShortRoom 0) (Err (record { refusal = k; at = p })) room room' = rw (q, (demand_3 s group m c).short (length room) l) at h in
             (z.0, z.1);
         only-short = λ m k' p' c z.
-            let a : k ≡ k' = cc in
-            let b : p ≡ p' = cc in
+            let (a, b) = one_fault k k' p p' z in
             rw (← a, ← b) (refused-short s group m k p room room' (told s group m (length room) c) (rw q at h));
         fixed = λ m n c z. apart k p n z;
         formed = λ m n p' c z. apart k p n z;
         agree = λ m c l i j. absurd (refuses (program_for s group m) k p room room' (rw (q, (demand_3 s group m c).enough (length room) l) at h));
       }
 
-  pub program_agrees : (t : Translated) (n : ℕ) → t ≡ Program n → Translates (translate s group (length room)) t room room' → (part : Bytes) → part ≡ take n room' →
+  pub program_agrees : (t : Result ℕ Fault) (n : ℕ) → t ≡ Ok n → Translates (translate s group (length room)) t room room' → (part : Bytes) → part ≡ take n room' →
       (r : Outcome) (pslots' ptrace' : Bytes) → Settles device (run_program part (input_of verdict device pslots answers ptrace)) r pslots pslots' ptrace ptrace' →
       Agreed s group verdict device answers room room' pslots pslots' ptrace ptrace' eslots eslots' etrace etrace'
-      (record { translated = Program n; program = r; envelope = e })
+      (record { translated = Ok n; program = r; envelope = e })
   program_agrees t n q h part is r pslots' ptrace' d =
       record {
         translated = rw q at h;
@@ -130,7 +126,7 @@ module _ (s : Bytes) (group : Group) (verdict : Bool) (device : Controller) (ans
         program = λ n' z. let a : n ≡ n' = cc in rw (← a, ← is) d;
         no_program_lem = λ k p z. apart k p n (sym z);
         short = λ m c l.
-            let z : Translates (refused ShortRoom 0) (Program n) room room' = rw (q, (demand_3 s group m c).short (length room) l) at h in
+            let z : Translates (refused ShortRoom 0) (Ok n) room room' = rw (q, (demand_3 s group m c).short (length room) l) at h in
             apart ShortRoom 0 n (sym z.0);
         only-short = λ m k p c z. apart k p n (sym z);
         fixed = λ m n' c z. let a : n ≡ n' = cc in rw (← a) (stands m c);

@@ -1,5 +1,5 @@
 -- Demand 3 (01, What we hold you to), of one envelope that is translated and run beside its program.
-use Rattle.std.specs.Prelude.{ℕ, ◌≤◌, ◌<◌, ◌≡◌, Bool, length, take, drop, Err}
+use Rattle.std.specs.Prelude.{ℕ, ◌≤◌, ◌<◌, ◌≡◌, Bool, length, take, drop, Ok, Err}
 use Rattle.rules.specs.declared.answers.Group.{Group}
 use Rattle.rules.specs.declared.answers.Refusal.{Refusal}
 use Rattle.rules.specs.declared.answers.Refusal.TheVariants.{ShortRoom, BadProgram}
@@ -13,7 +13,6 @@ use Rattle.rules.specs.Run.{run_envelope}
 use Rattle.rules.specs.Program.{program_of, program_bytes, translate}
 use Rattle.rules.specs.ProgramRun.{run_program}
 use Rattle.run_ending.specs.Answer.{input_of, outcome_of, Settles}
-use Rattle.translate.specs.declared.Translated.TheVariants.{Refused, Program}
 use Rattle.translate.specs.Translate.{Translates}
 use Rattle.agreement.specs.declared.Agreement.{Agreement}
 
@@ -28,19 +27,19 @@ pub record Agreed (s : Bytes) (group : Group) (verdict : Bool) (device : Control
   pub translated : Translates (translate s group (length room)) r.translated room room'
   pub envelope : Settles device (run_envelope s group (input_of verdict device eslots answers etrace)) r.envelope eslots eslots' etrace etrace'
   -- 'Those bytes alone go to the program run': the bytes that the translation left, and nothing else, are run on `pslots` and `ptrace`
-  pub program : (n : ℕ) → r.translated ≡ Program n → Settles device (run_program (take n room') (input_of verdict device pslots answers ptrace)) r.program pslots pslots' ptrace ptrace'
-  pub no_program_lem : (k : Refusal) (p : ℕ) → r.translated ≡ Refused k p →
+  pub program : (n : ℕ) → r.translated ≡ Ok n → Settles device (run_program (take n room') (input_of verdict device pslots answers ptrace)) r.program pslots pslots' ptrace ptrace'
+  pub no_program_lem : (k : Refusal) (p : ℕ) → r.translated ≡ Err (record { refusal = k; at = p }) →
       (r.program ≡ outcome_of device (refused k p)) × (pslots' ≡ pslots) × (ptrace' ≡ ptrace)
   -- 'Translating an accepted manifest gives 96 exactly when the room is shorter': in a shorter room it does, at place 0 and with the room
   -- as lent; where it gives a refusal, that is 96 at place 0, and the room is shorter
-  pub short : (m : Manifest) → check s ≡ got m → length room < length (program_for s group m) → (r.translated ≡ Refused ShortRoom 0) × (room' ≡ room)
-  pub only-short : (m : Manifest) (k : Refusal) (p : ℕ) → check s ≡ got m → r.translated ≡ Refused k p →
+  pub short : (m : Manifest) → check s ≡ got m → length room < length (program_for s group m) → (r.translated ≡ Err (record { refusal = ShortRoom; at = 0 })) × (room' ≡ room)
+  pub only-short : (m : Manifest) (k : Refusal) (p : ℕ) → check s ≡ got m → r.translated ≡ Err (record { refusal = k; at = p }) →
       (k ≡ ShortRoom) × (p ≡ 0) × (length room < length (program_for s group m))
   -- 'so its length is fixed whatever the room'; 'else the program stands at the start of the room'; 'room beyond a program' keeps its values
-  pub fixed : (m : Manifest) (n : ℕ) → check s ≡ got m → r.translated ≡ Program n →
+  pub fixed : (m : Manifest) (n : ℕ) → check s ≡ got m → r.translated ≡ Ok n →
       (n ≡ length (program_for s group m)) × (take n room' ≡ program_for s group m) × (drop n room' ≡ drop n room)
   -- 'Either both refuse with the same number and place': the run of the program is never refused with 97, which no run of an envelope gives
-  pub formed : (m : Manifest) (n p : ℕ) → check s ≡ got m → r.translated ≡ Program n → r.program.answer ≡ Err (record { refusal = BadProgram; at = p }) → ⊥
+  pub formed : (m : Manifest) (n p : ℕ) → check s ≡ got m → r.translated ≡ Ok n → r.program.answer ≡ Err (record { refusal = BadProgram; at = p }) → ⊥
   -- 'Either both refuse with the same number and place, or neither refuses and these are equal: the end and its place, the count of events,
   -- answers used, every slot, the device's sequence number, every byte of the trace buffer'
   pub agree : (m : Manifest) → check s ≡ got m → length (program_for s group m) ≤ length room → pslots ≡ eslots → ptrace ≡ etrace →

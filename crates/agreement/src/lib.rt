@@ -4,16 +4,16 @@
 ghost use Rattle.agreement.specs.Agreement.{Agrees};
 
 use program_run::run_program;
-use rules::answers::Group;
+use rules::answers::{Fault, Group};
 use rules::controller::Controller;
 use run_ending::{Outcome, refused};
 use run_envelope::run;
-use translate::{Translated, translate};
+use translate::translate;
 
 // What each of the three jobs answered. Where the translation was refused, no program was run, and its answer is that refusal.
 #[derive(Clone, Copy)]
 pub struct Agreement {
-    pub translated: Translated,
+    pub translated: Result<usize, Fault>,
     pub program: Outcome,
     pub envelope: Outcome,
 }
@@ -35,19 +35,13 @@ pub fn agree(
 {
     let envelope = run(s, group, verdict, device, eslots, answers, etrace);
     let translated = translate(s, group, room);
-    match translated {
-        Translated::Refused(refusal, at) => Agreement {
-            translated: Translated::Refused(refusal, at),
-            program: refused(refusal, at, device),
-            envelope,
-        },
-        Translated::Program(n) => {
-            let program = run_program(&room[0..n], verdict, device, pslots, answers, ptrace);
-            Agreement {
-                translated: Translated::Program(n),
-                program,
-                envelope,
-            }
-        }
+    let program = match translated {
+        Ok(n) => run_program(&room[..n], verdict, device, pslots, answers, ptrace),
+        Err(fault) => refused(fault.refusal, fault.at, device),
+    };
+    Agreement {
+        translated,
+        program,
+        envelope,
     }
 }

@@ -9,8 +9,8 @@ pub mod line;
 
 use cbor_reader::head_at;
 
-// The kind of no item: no kind of cbor's. An `Option<Item>` would be no plainer: a walk goes on after an item that is not there, at the end
-// of its container, so each reader would have to say that end in its `None` arm.
+// The kind of no item: no kind of cbor's. An `Option<Item>` is no plainer: a walk goes on after an item that is not there, where its
+// container ends, so each reader would have to say that end at `None`.
 pub const NO_ITEM: usize = 31;
 
 // The kind of an item, its number, the place after its head, and the one after it; of an array or a map, those are one.

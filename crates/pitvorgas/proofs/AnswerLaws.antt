@@ -23,10 +23,10 @@ use Rattle.run_ending.specs.declared.Outcome.{Outcome}
 use Rattle.run_ending.specs.Answer.{outcome_of}
 use Rattle.program_test.specs.declared.test.Tested.{Tested}
 use Rattle.program_test.specs.Test.{TestedAs}
-use Rattle.translate.specs.declared.Translated.{Translated}
-use Rattle.translate.specs.declared.Translated.TheVariants as T
+use Rattle.std.specs.Prelude.{Result, Ok, Err}
+use Rattle.rules.specs.declared.answers.Fault.{Fault}
 use Rattle.translate.specs.Translate.{Translates}
-use Rattle.translate.proofs.TranslatedLaws.{apart}
+use Rattle.translate.proofs.TranslatedLaws.{apart, one_fault}
 use Rattle.pitvorgas_answers.specs.declared.CheckAnswer.{CheckAnswer}
 use Rattle.pitvorgas_answers.specs.declared.NewerAnswer.{NewerAnswer}
 use Rattle.pitvorgas_answers.specs.declared.RunAnswer.{RunAnswer}
@@ -56,25 +56,24 @@ pub ran-answer : (d : Controller) (g : Got Ran) (o : Outcome) (r : RunAnswer) �
 ran-answer d (refused k p) o r e h = h ∙ ap R.answer_of e
 ran-answer d (got x) o r e h = h ∙ ap R.answer_of e
 
-module _ (g : Got Bytes) (t : Translated) (room room' : Bytes) (h : Translates g t room room') where
-  pub refused_translation : (k : Refusal) (p n : ℕ) → t ≡ T.Refused k p → n ≡ refusal_number k →
+module _ (g : Got Bytes) (t : Result ℕ Fault) (room room' : Bytes) (h : Translates g t room room') where
+  pub refused_translation : (k : Refusal) (p n : ℕ) → t ≡ Err (record { refusal = k; at = p }) → n ≡ refusal_number k →
       (◌≡◌ {A = TranslateAnswer} (record { refusal = n; place = p; length = 0 }) (translated_of g)) × (room' ≡ room_after room g)
   refused_translation k p n e q = go g h
     where
       go : (g : Got Bytes) → Translates g t room room' → (◌≡◌ {A = TranslateAnswer} (record { refusal = n; place = p; length = 0 }) (translated_of g)) × (room' ≡ room_after room g)
       go (refused k' p') u =
-          let f : ◌≡◌ {A = Translated} (T.Refused k' p') (T.Refused k p) = sym u.0 ∙ e in
-          let a : k ≡ k' = cc in
-          let b : p ≡ p' = cc in
-          (rw (q, a, b) refl, u.1)
+          let f : ◌≡◌ {A = Result ℕ Fault} (Err (record { refusal = k'; at = p' })) (Err (record { refusal = k; at = p })) = sym u.0 ∙ e in
+          let (a, b) = one_fault k' k p' p f in
+          (rw (q, ← a, ← b) refl, u.1)
       go (got y) u = apart k p _ (sym e ∙ u.0)
 
-  pub program_translation : (n : ℕ) → t ≡ T.Program n → (◌≡◌ {A = TranslateAnswer} (record { refusal = 0; place = 0; length = n }) (translated_of g)) × (room' ≡ room_after room g)
+  pub program_translation : (n : ℕ) → t ≡ Ok n → (◌≡◌ {A = TranslateAnswer} (record { refusal = 0; place = 0; length = n }) (translated_of g)) × (room' ≡ room_after room g)
   program_translation n e = go g h
     where
       go : (g : Got Bytes) → Translates g t room room' → (◌≡◌ {A = TranslateAnswer} (record { refusal = 0; place = 0; length = n }) (translated_of g)) × (room' ≡ room_after room g)
       go (refused k p) u = apart k p n (sym u.0 ∙ e)
       go (got y) u =
-          let f : ◌≡◌ {A = Translated} (T.Program (length y)) (T.Program n) = sym u.0 ∙ e in
+          let f : ◌≡◌ {A = Result ℕ Fault} (Ok (length y)) (Ok n) = sym u.0 ∙ e in
           let a : n ≡ length y = cc in
           (rw a refl, u.1)

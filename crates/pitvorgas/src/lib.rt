@@ -21,7 +21,7 @@ use pitvorgas_answers::{
 use program_run::run_program;
 use program_test::test::test_program;
 use run_envelope::run;
-use translate::{Translated, translate};
+use translate::translate;
 
 pub fn pitvorgas_check(envelope: &[u8]) -> CheckAnswer
     ensures { result ≡ checked_of (Check.check envelope.now) }
@@ -49,17 +49,16 @@ pub fn pitvorgas_newer(first: &[u8], second: &[u8]) -> NewerAnswer
 pub fn pitvorgas_translate(envelope: &[u8], boot: bool, room: &mut [u8]) -> TranslateAnswer
     ensures { Translation (Program.translate envelope.now (group_of boot) (length room.old)) room result }
 {
-    let answer = translate(envelope, group_of(boot), room);
-    match answer {
-        Translated::Refused(refusal, place) => TranslateAnswer {
-            refusal: refusal.number(),
-            place,
-            length: 0,
-        },
-        Translated::Program(length) => TranslateAnswer {
+    match translate(envelope, group_of(boot), room) {
+        Ok(length) => TranslateAnswer {
             refusal: 0,
             place: 0,
             length,
+        },
+        Err(fault) => TranslateAnswer {
+            refusal: fault.refusal.number(),
+            place: fault.at,
+            length: 0,
         },
     }
 }

@@ -24,7 +24,7 @@ use Rattle.rules.proofs.GotLaws.{and-true, passed, split₂, both, after, after_
 use Rattle.run_slot_search.specs.Search.{names_at}
 use Rattle.run_slot_search.proofs.SearchLaws.{name-at, names-count}
 use Rattle.program_parameters.proofs.PartLaws.{rest_at, same_3}
-use Rattle.program_parameters.specs.Entries.{ended_at}
+use Rattle.program_parameters.specs.Entries.{next_in}
 use Rattle.program_heads.specs.Heads.{mark₁, mark₂}
 use Rattle.program_names.specs.Names.{name_end, places_from, NamesAre}
 
@@ -52,13 +52,13 @@ module _ (p : Bytes) (at : ℕ) where
   one = ids_in 1 (drop at p)
 
   bad-one : tests ≡ false → None ≡ name_end p at
-  bad-one e = let g : one ≡ bad = ids-turn 0 ∙ rw e in sym (ap (ended_at (length p)) g)
+  bad-one e = let g : one ≡ bad = ids-turn 0 ∙ rw e in sym (ap (next_in (length p)) g)
 
   good-one : tests ≡ true → at + name_size + size ≤ length p → Some (at + name_size + size) ≡ name_end p at
   unfolding ids_in
   good-one e h =
       let g : one ≡ got (part p (at + name_size) size ∷ [], drop (at + name_size + size) p) = ids-turn 0 ∙ rw e in
-      sym (ap (ended_at (length p)) g ∙ ap Some (rest_at p (at + name_size + size) h))
+      sym (ap (next_in (length p)) g ∙ ap Some (rest_at p (at + name_size + size) h))
 
   fits : tests ≡ true → at + name_size + size ≤ length p
   fits e = omega (arith, leb-true (name_size + size) (length p - at) (and-true (leb name_size (length p - at) && marked NAME (drop at p) && leb 1 size && leb size limits.identifier) _ e).1)
@@ -173,7 +173,7 @@ pub record Sofar (p : Bytes) (at n : ℕ) (places : List ℕ) (next k : ℕ) : T
 module _ (p : Bytes) (at n : ℕ) (places : List ℕ) where
   -- as the code answers
   abbrev Answers : Code.Option ℕ → List ℕ → Type 0
-  Answers r a = (r ≡ ended_at (length p) (ids_in n (drop at p))) × NamesAre p at n (ids_in n (drop at p)) a
+  Answers r a = (r ≡ next_in (length p) (ids_in n (drop at p))) × NamesAre p at n (ids_in n (drop at p)) a
 
   pub sofar_start : places ≡ zeros → at ≤ length p → Sofar p at n places at 0
   sofar_start q h =
@@ -235,16 +235,16 @@ module _ (p : Bytes) (at n : ℕ) (places : List ℕ) (h : at ≤ length p) wher
     where
       go : (x : Got (List Bytes × Bytes)) → ids_in n (drop at p) ≡ x → (r : Refusal) × (k : ℕ) × (ids_in n (drop at p) ≡ refused r k)
       go (refused r k) e = (r, k, e)
-      go (got a) e = let z : None ≡ Some (length p - length a.1) = f.0 ∙ ap (ended_at (length p)) e in cc
+      go (got a) e = let z : None ≡ Some (length p - length a.1) = f.0 ∙ ap (next_in (length p)) e in cc
 
   pub all_named : (from : ℕ) → Answers p at n places (Some from) places → Named p at n from places
   all_named from f = go (ids_in n (drop at p)) refl
     where
       go : (x : Got (List Bytes × Bytes)) → ids_in n (drop at p) ≡ x → Named p at n from places
-      go (refused r k) e = let z : Some from ≡ None = f.0 ∙ ap (ended_at (length p)) e in cc
+      go (refused r k) e = let z : Some from ≡ None = f.0 ∙ ap (next_in (length p)) e in cc
       go (got a) e =
           let l : Leaves p at a.1 = ids_leave p n at a.0 a.1 h e in
-          let w : Some from ≡ Some (length p - length a.1) = f.0 ∙ ap (ended_at (length p)) e in
+          let w : Some from ≡ Some (length p - length a.1) = f.0 ∙ ap (next_in (length p)) e in
           let q : from ≡ length p - length a.1 = cc in
           let (exact, names, within) = rw e at f.1 in
           record {

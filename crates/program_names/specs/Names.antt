@@ -6,11 +6,11 @@ use Rattle.rules.specs.Limits.{places}
 use Rattle.rules.specs.ProgramFormat.{name_size}
 use Rattle.rules.specs.ProgramTest.{ids_in}
 use Rattle.run_slot_search.specs.Search.{names_at}
-use Rattle.program_parameters.specs.Entries.{ended_at}
+use Rattle.program_parameters.specs.Entries.{next_in}
 
 -- 'Per component: mark, FD, length 1, identifier': the place after the one at `at`, none if it is not well formed
 abbrev pub name_end : Bytes → ℕ → Option ℕ
-name_end p at = ended_at (length p) (ids_in 1 (drop at p))
+name_end p at = next_in (length p) (ids_in 1 (drop at p))
 
 -- the array a with the places of n identifiers, up to the first that is not well formed; number k stands at `at`
 unfoldable pub places_from : Bytes → ℕ → ℕ → ℕ → List ℕ → List ℕ

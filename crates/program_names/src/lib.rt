@@ -4,7 +4,7 @@
 ghost use Rattle.std.specs.Prelude.{◌≡◌, ◌≤◌, length, drop, replicate};
 ghost use Rattle.rules.specs.Limits.{limits, places};
 ghost use Rattle.rules.specs.ProgramTest as Rule;
-ghost use Rattle.program_parameters.specs.Entries.{ended_at};
+ghost use Rattle.program_parameters.specs.Entries.{next_in};
 ghost use Rattle.program_names.specs.Names.{name_end, NamesAre};
 
 use byte_buffer::wide;
@@ -32,7 +32,7 @@ fn test_name(p: &[u8], at: usize) -> Option<usize>
 // The place after the n identifiers from `at` on, none if one is not well formed; and their places.
 pub fn test_names(p: &[u8], at: usize, n: usize, ids: &mut Places) -> Option<usize>
     requires { (at ≤ length p.now) × (n ≤ limits.components) × (ids.old ≡ replicate places 0) }
-    ensures { (result ≡ ended_at (length p.now) (Rule.ids_in n (drop at p.now))) × NamesAre p.now at n (Rule.ids_in n (drop at p.now)) ids.new }
+    ensures { (result ≡ next_in (length p.now) (Rule.ids_in n (drop at p.now))) × NamesAre p.now at n (Rule.ids_in n (drop at p.now)) ids.new }
 {
     let mut next = at;
     for k in 0..n {

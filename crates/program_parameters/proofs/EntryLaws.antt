@@ -15,7 +15,7 @@ use Rattle.rules.specs.Got.{Got, got, accepted}
 use Rattle.rules.specs.ProgramFormat.{entry_size}
 use Rattle.rules.specs.ProgramTest.{bad, optional}
 use Rattle.rules.proofs.BytesLaws.{part-cons}
-use Rattle.program_parameters.specs.Entries.{ended_at, end_at, WellFormed, value_in}
+use Rattle.program_parameters.specs.Entries.{next_in, end_at, WellFormed, value_in}
 use Rattle.program_parameters.proofs.PartLaws.{part_none, take_part, drop-part, length_to}
 
 -- what is refused is not accepted
@@ -94,7 +94,7 @@ module _ (p : Bytes) (at to key lo hi : ℕ) where
           let m : size ≤ to - (at + entry_size) = omega arith in
           rw (two h, eq-eqb _ _ k, optional, le-leb _ _ t, le-leb _ _ u, rest, le-leb _ _ m, take_part p (at + entry_size) size (to - (at + entry_size)) m, drop-part p (at + entry_size) to size)
 
-    step-next : (r : ℕ) → Step r → Some r ≡ ended_at to reading
+    step-next : (r : ℕ) → Step r → Some r ≡ next_in to reading
     step-next r s = let e : to - (to - r) ≡ r = omega (arith, s.fits) in rw (s.reads, length_to p r to s.fits l, e)
 
     step-none : reading ≡ got (none, part p at (to - at)) → Step at
@@ -111,25 +111,25 @@ module _ (p : Bytes) (at to key lo hi : ℕ) where
         }
 
     -- what the code answers, by its tests
-    pub next-end : at ≡ to → Some at ≡ ended_at to reading
+    pub next-end : at ≡ to → Some at ≡ next_in to reading
     next-end h = step-next at (step-none (reading-end h))
 
-    pub next-other : at < to → (get_or p at 0 ≡ key → ⊥) → Some at ≡ ended_at to reading
+    pub next-other : at < to → (get_or p at 0 ≡ key → ⊥) → Some at ≡ next_in to reading
     next-other h k = step-next at (step-none (reading-other h k))
 
-    pub next-some : (n : ℕ) → n ≡ size → at + 1 < to → get_or p at 0 ≡ key → lo ≤ n → n ≤ hi → at + entry_size + n ≤ to → Some (at + entry_size + n) ≡ ended_at to reading
+    pub next-some : (n : ℕ) → n ≡ size → at + 1 < to → get_or p at 0 ≡ key → lo ≤ n → n ≤ hi → at + entry_size + n ≤ to → Some (at + entry_size + n) ≡ next_in to reading
     next-some n e h k t u s = rw e (step-next (at + entry_size + size) (step-some h k (omega arith) (omega arith) (omega arith)))
 
-    next-bad : reading ≡ bad → None ≡ ended_at to reading
+    next-bad : reading ≡ bad → None ≡ next_in to reading
     next-bad q = rw q
 
-    pub next_low : at + 1 < to → get_or p at 0 ≡ key → size < lo → None ≡ ended_at to reading
+    pub next_low : at + 1 < to → get_or p at 0 ≡ key → size < lo → None ≡ next_in to reading
     next_low h k s = next-bad (reading-low h k s)
 
-    pub next-high : at + 1 < to → get_or p at 0 ≡ key → lo ≤ size → hi < size → None ≡ ended_at to reading
+    pub next-high : at + 1 < to → get_or p at 0 ≡ key → lo ≤ size → hi < size → None ≡ next_in to reading
     next-high h k t s = next-bad (reading-high h k t s)
 
-    pub next-long : at + 1 < to → get_or p at 0 ≡ key → lo ≤ size → size ≤ hi → to < at + entry_size + size → None ≡ ended_at to reading
+    pub next-long : at + 1 < to → get_or p at 0 ≡ key → lo ≤ size → size ≤ hi → to < at + entry_size + size → None ≡ next_in to reading
     next-long h k t u s = next-bad (reading-long h k t u s)
 
     -- a parameter that is whole: its length, and the bytes of its value
@@ -156,10 +156,10 @@ module _ (p : Bytes) (at to key lo hi : ℕ) where
         cut false e = inl (reading-cut h k (leb-false _ _ e))
 
     -- too few bytes are left for its key, its length and the least value
-    pub next-cut : at < to → get_or p at 0 ≡ key → to - at < entry_size + lo → None ≡ ended_at to reading
+    pub next-cut : at < to → get_or p at 0 ≡ key → to - at < entry_size + lo → None ≡ next_in to reading
     next-cut h k s = go (keyed h k)
       where
-        go : (reading ≡ bad) ⊎ Whole → None ≡ ended_at to reading
+        go : (reading ≡ bad) ⊎ Whole → None ≡ next_in to reading
         go (inl e) = next-bad e
         go (inr w) = absurd (omega (arith, w))
 
@@ -186,14 +186,14 @@ module _ (p : Bytes) (at to key lo hi : ℕ) where
         go (inr w) = w
 
     -- what the answer of `optional` tells
-    pub was-bad : None ≡ ended_at to reading → reading ≡ bad
+    pub was-bad : None ≡ next_in to reading → reading ≡ bad
     was-bad q = go cases
       where
         go : (reading ≡ bad) ⊎ ((r : ℕ) × Step r) → reading ≡ bad
         go (inl e) = e
         go (inr (k, s)) = let e = step-next k s in cc
 
-    pub to_end : (r : ℕ) → Some r ≡ ended_at to reading → Step r
+    pub to_end : (r : ℕ) → Some r ≡ next_in to reading → Step r
     to_end r q = go cases
       where
         go : (reading ≡ bad) ⊎ ((r : ℕ) × Step r) → Step r

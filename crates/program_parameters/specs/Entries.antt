@@ -11,15 +11,10 @@ use Rattle.rules.specs.ProgramTest.{optional, params_in}
 use Rattle.run_slots.specs.declared.params.Params.{Params}
 use Rattle.run_slots.specs.Params.{meaning, Fit}
 
--- the place where a reading up to `to` ended, from the bytes that it left; 0 where it was refused
-abbrev pub next_in : {A : Type 0} → ℕ → Got (A × Bytes) → ℕ
-next_in to (refused r p) = 0
-next_in to (got a) = to - length a.1
-
--- the place where a reading up to `to` ended; none where it was refused
-abbrev pub ended_at : {A : Type 0} → ℕ → Got (A × Bytes) → Code.Option ℕ
-ended_at to (refused r p) = None
-ended_at to (got a) = Some (to - length a.1)
+-- the place where a reading up to `to` ended, from the bytes that it left; none where it was refused
+abbrev pub next_in : {A : Type 0} → ℕ → Got (A × Bytes) → Code.Option ℕ
+next_in to (refused r p) = None
+next_in to (got a) = Some (to - length a.1)
 
 -- whether that place is `to`
 abbrev pub ends_at : ℕ → Code.Option ℕ → Bool
@@ -44,7 +39,7 @@ size_in p at next = cond (eqb at next) 0 (num (part p (at + entry_size) size_byt
 
 -- where the parameter of a key ends, which may stand at `at`
 abbrev pub end_at : Bytes → ℕ → ℕ → ℕ → ℕ → ℕ → Code.Option ℕ
-end_at p to key lo hi at = ended_at to (optional key lo hi (λ b. b) (part p at (to - at)))
+end_at p to key lo hi at = next_in to (optional key lo hi (λ b. b) (part p at (to - at)))
 
 -- what stands there is that parameter, of lo to hi bytes, or is not of that key
 abbrev pub WellFormed : Bytes → ℕ → ℕ → ℕ → ℕ → ℕ → Type 0

@@ -25,7 +25,7 @@ use Rattle.std.specs.Prelude.{Option, Some, None, is_some}
 use Rattle.component_ids.specs.Identifiers.{repeated}
 use Rattle.program_records.specs.declared.Records.{Records}
 use Rattle.program_test.specs.declared.test.Tested.{Tested}
-use Rattle.program_parameters.specs.Entries.{ended_at}
+use Rattle.program_parameters.specs.Entries.{next_in}
 use Rattle.program_heads.specs.Heads.{mark₁, mark₂}
 use Rattle.program_records.specs.Records.{records_are}
 use Rattle.program_names.specs.Names.{NamesAre}
@@ -172,7 +172,7 @@ module _ (p : Bytes) (g : Group) (n m : ℕ) (h : Front p g n m) where
       program-on p g h.start h.group ∙ rw (h.components, t)
 
   abbrev pub Names : Option ℕ → List ℕ → Type 0
-  Names r a = (r ≡ ended_at (length p) (ids_in n (drop start_size p))) × NamesAre p start_size n (ids_in n (drop start_size p)) a
+  Names r a = (r ≡ next_in (length p) (ids_in n (drop start_size p))) × NamesAre p start_size n (ids_in n (drop start_size p)) a
 
   pub names-refused : (a : List ℕ) → Names None a → (x : Option Tested) → x ≡ None → TestedAs p (program_in p) x
   names-refused a f x b = let (r, k, u) = none_named p start_size n a h.start.room f in reject p x r k (on ∙ rw u) b

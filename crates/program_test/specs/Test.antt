@@ -7,7 +7,7 @@ use Rattle.rules.specs.Program.{Program}
 use Rattle.rules.specs.ProgramFormat.{START, group_from, components_from, records_from, start_size}
 use Rattle.rules.specs.ProgramTest.{marked, ids_in, records_in, non_jumps}
 use Rattle.run_slot_search.specs.Search.{names_at}
-use Rattle.program_parameters.specs.Entries.{ended_at}
+use Rattle.program_parameters.specs.Entries.{next_in}
 use Rattle.program_names.specs.Names.{places_from}
 use Rattle.program_test.specs.declared.test.Tested.{Tested}
 
@@ -25,7 +25,7 @@ tested_of p x =
       number = x.number;
       components = get_or p components_from 0;
       records = num (part p records_from 2);
-      from = unwrap_or (ended_at (length p) (ids_in (get_or p components_from 0) (drop start_size p))) 0;
+      from = unwrap_or (next_in (length p) (ids_in (get_or p components_from 0) (drop start_size p))) 0;
       ids = places_from p (get_or p components_from 0) 0 start_size (replicate places 0);
     }
 

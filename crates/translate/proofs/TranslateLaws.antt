@@ -29,7 +29,7 @@ use Rattle.manifest_plan.specs.Plan.{starts_of}
 use Rattle.manifest_plan.specs.Standing.{Left}
 use Rattle.manifest_plan.proofs.PlanLaws.{plan-left}
 use Rattle.translate_size.specs.declared.sizes.Size.{Size}
-use Rattle.translate.specs.declared.Translated.TheVariants.{Refused, Program}
+use Rattle.std.specs.Prelude.{Ok, Err}
 use Rattle.translate_size.specs.Size.{most}
 use Rattle.translate_argument.specs.Argument.{Filled}
 use Rattle.translate_record.specs.Record.{written}
@@ -53,7 +53,7 @@ start-length g number n records = refl
 put_front : (b room : Bytes) → length b ≤ length room → put room 0 b ≡ b ++ drop (length b) room
 put_front b room h = let z : 0 + length b ≡ length b = omega arith in sets-eq b room 0 (omega arith) ∙ ap (λ (k : ℕ). b ++ drop k room) z
 
-pub refused_translation : (s : Bytes) (group : Group) (k : Refusal) (p : ℕ) (room : Bytes) → check s ≡ refused k p → Translates (translate s group (length room)) (Refused k p) room room
+pub refused_translation : (s : Bytes) (group : Group) (k : Refusal) (p : ℕ) (room : Bytes) → check s ≡ refused k p → Translates (translate s group (length room)) (Err (record { refusal = k; at = p })) room room
 unfolding translate
 refused_translation s group k p room e = rw e (refl, refl, refl)
 
@@ -118,7 +118,7 @@ module _ (s : Bytes) (number n : ℕ) (ids sections : List ℕ) (a : Accepted s 
     pub total-small : total ≤ limits.program
     total-small = omega (arith, total-is, formed.short)
 
-    pub too_short : (room : Bytes) → length room < total → Translates (translate s group (length room)) (Refused ShortRoom 0) room room
+    pub too_short : (room : Bytes) → length room < total → Translates (translate s group (length room)) (Err (record { refusal = ShortRoom; at = 0 })) room room
     unfolding translate
     too_short room h =
         let l : length room < length program = omega (arith, total-is) in
@@ -171,8 +171,8 @@ module _ (s : Bytes) (number n : ℕ) (ids sections : List ℕ) (a : Accepted s 
                 ← parts,
               )
 
-          pub translated : Translates (translate s group (length room)) (Program total) room room₃
+          pub translated : Translates (translate s group (length room)) (Ok total) room room₃
           unfolding translate
           translated =
               let l : length program ≤ length room = omega (arith, total-is) in
-              rw (a.checks, le-leb (length program) (length room) l) (ap Program total-is, all ∙ put_front program room l, ap (λ (n : ℕ). (0, n)) total-is)
+              rw (a.checks, le-leb (length program) (length room) l) (ap Ok total-is, all ∙ put_front program room l, ap (λ (n : ℕ). (0, n)) total-is)

@@ -8,7 +8,7 @@ ghost use Rattle.translate.specs.Translate.{Translates};
 
 use check_envelope::check;
 use manifest_plan::plan;
-use rules::answers::{Group, Refusal};
+use rules::answers::{Fault, Group, Refusal};
 use rules::controller::{PLAN_SEQUENCES, Places, SectionPlaces};
 use rules::program_format::{RECORD_BYTES, START_BYTES};
 use rules_tables::tables;
@@ -16,14 +16,7 @@ use translate_plan::{size_plan, write_plan};
 use translate_start::names::{size_names, write_names};
 use translate_start::start::put_start;
 
-// A refusal with its place, or how long the program is.
-#[derive(Clone, Copy)]
-pub enum Translated {
-    Refused(Refusal, usize),
-    Program(usize),
-}
-
-// The program of an envelope that check has accepted, by what check reported.
+// The program of an envelope that check has accepted, by what check reported: how long it is.
 fn translate_checked(
     s: &[u8],
     group: Group,
@@ -32,7 +25,7 @@ fn translate_checked(
     ids: &Places,
     sections: &SectionPlaces,
     room: &mut [u8],
-) -> Translated
+) -> Result<usize, Fault>
     requires { Accepted s.now number n ids.now sections.now }
     ensures { Translates (Rule.translate s.now group (length room.old)) result room.old room.new }
 {
@@ -43,32 +36,30 @@ fn translate_checked(
     let names = size_names(ids, n);
     let length = START_BYTES + names + RECORD_BYTES * size.records + size.arguments;
     if room.len() < length {
-        return Translated::Refused(Refusal::ShortRoom, 0);
+        return Err(Fault {
+            refusal: Refusal::ShortRoom,
+            at: 0,
+        });
     }
     put_start(room, group, number, n, size.records);
     let at = write_names(s, ids, n, room, START_BYTES);
     write_plan(s, &table, &starts, total, at, room);
-    Translated::Program(length)
+    Ok(length)
 }
 
-// Translates the envelope s for a group into the room. On a refusal the room is as lent; else the program is at its start.
-pub fn translate(s: &[u8], group: Group, room: &mut [u8]) -> Translated
+// Translates the envelope s for a group into the room. On a refusal the room is as lent; else the program is at its start, and
+// its length the answer.
+pub fn translate(s: &[u8], group: Group, room: &mut [u8]) -> Result<usize, Fault>
     ensures { Translates (Rule.translate s.now group (length room.old)) result room.old room.new }
 {
-    match check(s) {
-        Err(fault) => Translated::Refused(fault.refusal, fault.at),
-        Ok(report) => {
-            let ids = report.ids;
-            let sections = report.sections;
-            translate_checked(
-                s,
-                group,
-                report.number,
-                report.components,
-                &ids,
-                &sections,
-                room,
-            )
-        }
-    }
+    let report = check(s)?;
+    translate_checked(
+        s,
+        group,
+        report.number,
+        report.components,
+        &report.ids,
+        &report.sections,
+        room,
+    )
 }

@@ -97,9 +97,6 @@ pub fn put_argument(
             to + Controller::CLASS_BYTES
         }
         Argument::Parameters => put_parameters(s, a, room, to),
-        Argument::Nil => to,
-        Argument::Index => to,
-        Argument::Alternatives => to,
-        Argument::Sequence => to,
+        Argument::Nil | Argument::Index | Argument::Alternatives | Argument::Sequence => to,
     }
 }

@@ -54,9 +54,10 @@ fn target_of(table: &Table, code: usize, target: usize) -> usize
     ensures { result ≡ cond (condition_in (row_of code commands)) target NONE }
 {
     if is_condition(table, code) {
-        return target;
+        target
+    } else {
+        NO_TARGET
     }
-    NO_TARGET
 }
 
 // A jump to the record of that number.

@@ -11,12 +11,11 @@ use manifest_accessors::arguments::COERCE_TRUE;
 pub fn caught(coercible: bool, coerce: usize, beyond: usize, target: usize) -> usize
     ensures { result ≡ cond (coercible && is_true coerce) beyond target }
 {
-    if coercible {
-        if coerce == COERCE_TRUE {
-            return beyond;
-        }
+    if coercible && coerce == COERCE_TRUE {
+        beyond
+    } else {
+        target
     }
-    target
 }
 
 // The record after a sequence of that many, the first of which has number n: there a failure under the sequence's coerce goes on.

@@ -31,20 +31,9 @@ returns-in-Parameters c =
 
 pub returns-in-Nil : goal.returns-in-Nil
 returns-in-Nil c =
-    let (f, g) = nil-codes _ (sym c.kind_of.ensures ∙ c.in-Nil.is) in
-    rw (no_bytes _ _ c.requires.3 f g) (filled_none _ _)
-
-pub returns-in-Index : goal.returns-in-Index
-returns-in-Index c =
-    let (f, g) = index-codes _ (sym c.kind_of.ensures ∙ c.in-Index.is) in
-    rw (no_bytes _ _ c.requires.3 f g) (filled_none _ _)
-
-pub returns-in-Alternatives : goal.returns-in-Alternatives
-returns-in-Alternatives c =
-    let (f, g) = alternative_codes _ (sym c.kind_of.ensures ∙ c.in-Alternatives.is) in
-    rw (no_bytes _ _ c.requires.3 f g) (filled_none _ _)
-
-pub returns-in-Sequence : goal.returns-in-Sequence
-returns-in-Sequence c =
-    let (f, g) = sequence-codes _ (sym c.kind_of.ensures ∙ c.in-Sequence.is) in
+    let e = sym c.kind_of.ensures in
+    let (f, g) =
+    ⊎_elim (λ i. nil-codes _ (e ∙ i))
+    (⊎_elim (λ i. index-codes _ (e ∙ i)) (⊎_elim (λ i. alternative_codes _ (e ∙ i)) (λ i. sequence-codes _ (e ∙ i))))
+    c.in-Nil.is in
     rw (no_bytes _ _ c.requires.3 f g) (filled_none _ _)
