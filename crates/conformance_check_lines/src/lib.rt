@@ -26,12 +26,9 @@ fn put_place(room: &mut [u8], at: usize, ids: &[usize], k: usize) -> usize
 fn put_places(room: &mut [u8], at: usize, ids: &[usize], components: usize) -> usize
     ensures { Writes (places_text ids.now components) at room result }
 {
-    let end = least(components, Controller::COMPONENTS);
     let mut to = at;
-    let mut k = 0;
-    while k < end {
+    for k in 0..least(components, Controller::COMPONENTS) {
         to = put_place(room, to, ids, k);
-        k += 1;
     }
     to
 }

@@ -15,10 +15,7 @@ pub const NEWLINE: u8 = 10;
 pub fn number_at(numbers: &[usize], k: usize) -> usize
     ensures { result ≡ get_or numbers.now k 0 }
 {
-    if k < numbers.len() {
-        return numbers[k];
-    }
-    0
+    numbers.get(k).copied().unwrap_or(0)
 }
 
 fn put_piece(room: &mut [u8], at: usize, c: u8, n: usize) -> usize
@@ -34,15 +31,12 @@ pub fn put_format(room: &mut [u8], at: usize, template: &[u8], numbers: &[usize]
     ensures { Writes (format template.now numbers.now) at room result }
 {
     let mut to = at;
-    let mut i = 0;
     let mut k = 0;
-    while i < template.len() {
-        let c = template[i];
-        to = put_piece(room, to, c, number_at(numbers, k));
-        if c == PERCENT {
+    for c in template {
+        to = put_piece(room, to, *c, number_at(numbers, k));
+        if *c == PERCENT {
             k += 1;
         }
-        i += 1;
     }
     to
 }

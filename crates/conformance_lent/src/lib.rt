@@ -24,25 +24,21 @@ pub fn memory() -> [u8; 65536]
 pub fn fill(b: &mut [u8], x: u8)
     ensures { b.new ≡ replicate (length b.old) x }
 {
-    let mut i = 0;
-    while i < b.len() {
-        b[i] = x;
-        i += 1;
-    }
+    b.fill(x);
+}
+
+// The bytes from `at` on.
+fn behind(b: &[u8], at: usize) -> &[u8]
+    ensures { result.now ≡ drop at b.now }
+{
+    &b[at.min(b.len())..]
 }
 
 // Whether every byte from `at` on is x.
 fn all_are(b: &[u8], at: usize, x: u8) -> bool
     ensures { result ≡ all_are x (drop at b.now) }
 {
-    let mut i = at;
-    while i < b.len() {
-        if b[i] != x {
-            return false;
-        }
-        i += 1;
-    }
-    true
+    behind(b, at).iter().all(|y| *y == x)
 }
 
 fn put_altered(room: &mut [u8], at: usize, kept: bool) -> usize
@@ -63,17 +59,12 @@ pub fn put_translation(room: &mut [u8], answer: TranslateAnswer, lent: &[u8]) ->
     put_altered(room, a, kept)
 }
 
+#[tactic(auto, unfolding(crate::specs::Lent::kept_all))]
 fn kept_all(answer: RunAnswer, before: &[u8], slots: &[u8], fill: u8, trace: &[u8]) -> bool
     ensures { result ≡ kept_all answer before.now slots.now fill trace.now }
 {
     let n = events_end(answer.events, trace.len());
-    if !all_are(trace, n, fill) {
-        return false;
-    }
-    if answer.refusal == 0 {
-        return true;
-    }
-    is(before, slots)
+    all_are(trace, n, fill) && (answer.refusal == 0 || is(before, slots))
 }
 
 pub fn put_run(

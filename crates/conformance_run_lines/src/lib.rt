@@ -55,13 +55,10 @@ fn put_image(room: &mut [u8], at: usize, slots: &[u8], k: usize) -> usize
 fn put_slots(room: &mut [u8], at: usize, slots: &[u8]) -> usize
     ensures { Writes (slots_text slots.now (length slots.now / slot_bytes)) at room result }
 {
-    let n = slots.len() / SLOT_BYTES;
     let mut to = at;
-    let mut k = 0;
-    while k < n {
+    for k in 0..slots.len() / SLOT_BYTES {
         to = put_name(room, to, slots, k);
         to = put_image(room, to, slots, k);
-        k += 1;
     }
     to
 }

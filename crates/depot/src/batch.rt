@@ -6,15 +6,10 @@ use depot_files::streams::{Streams, fitted, tell};
 use depot_messages::Message;
 use depot_status::{DONE, FAULT};
 use depot_words::put_words;
-use device_text::line::{line_at, next_line};
+use device_text::line::line_at;
 use std::fs::Files;
 
-fn greater(a: usize, b: usize) -> usize {
-    if a < b {
-        return b;
-    }
-    a
-}
+const LINE_FEED: u8 = 10;
 
 // One line; an empty one is passed over.
 fn run_line(rt: &(impl Files + Input), line: &[u8], streams: Streams) -> usize {
@@ -32,22 +27,18 @@ fn run_line(rt: &(impl Files + Input), line: &[u8], streams: Streams) -> usize {
 // All lines, and the greatest status among them.
 fn run_lines(rt: &(impl Files + Input), text: &[u8], streams: Streams) -> usize {
     let mut worst = DONE;
-    let mut at = 0;
-    while at < text.len() {
-        let status = run_line(rt, line_at(text, at), streams);
-        worst = greater(worst, status);
-        at = next_line(text, at);
+    for line in text.split(|b| *b == LINE_FEED) {
+        let status = run_line(rt, line_at(line, 0), streams);
+        worst = worst.max(status);
     }
     worst
 }
 
 pub(crate) fn batch_file(rt: &(impl Files + Input), name: &[u8], streams: Streams) -> usize {
     let mut file = large_buffer();
-    let loaded = load(rt, name, &mut file, streams.err);
-    if !loaded.ok {
+    let Some(n) = load(rt, name, &mut file, streams.err) else {
         return FAULT;
-    }
-    let n = loaded.n;
+    };
     run_lines(
         rt,
         &file[..n],

@@ -20,11 +20,9 @@ pub(crate) fn view_file(
     streams: Streams,
 ) -> usize {
     let mut file = large_buffer();
-    let loaded = load(rt, name, &mut file, streams.err);
-    if !loaded.ok {
+    let Some(n) = load(rt, name, &mut file, streams.err) else {
         return FAULT;
-    }
-    let n = loaded.n;
+    };
     view_bytes(view, &file[..n], streams)
 }
 
@@ -36,20 +34,15 @@ fn newer_bytes(first: &[u8], second: &[u8], streams: Streams) -> usize {
 
 fn newer_than(rt: &(impl Files + Input), first: &[u8], other: &[u8], streams: Streams) -> usize {
     let mut second = large_buffer();
-    let loaded = load(rt, other, &mut second, streams.err);
-    if !loaded.ok {
+    let Some(n) = load(rt, other, &mut second, streams.err) else {
         return FAULT;
-    }
-    let n = loaded.n;
+    };
     newer_bytes(first, &second[..n], streams)
 }
 
 // Whether both names stand for standard input, which has one reader.
 pub(crate) fn read_twice(name: &[u8], other: &[u8]) -> bool {
-    if is_standard(name) {
-        return is_standard(other);
-    }
-    false
+    is_standard(name) && is_standard(other)
 }
 
 pub(crate) fn newer_file(
@@ -62,10 +55,8 @@ pub(crate) fn newer_file(
         return fault(streams.err, Message::Once, b"", 0);
     }
     let mut first = large_buffer();
-    let loaded = load(rt, name, &mut first, streams.err);
-    if !loaded.ok {
+    let Some(n) = load(rt, name, &mut first, streams.err) else {
         return FAULT;
-    }
-    let n = loaded.n;
+    };
     newer_than(rt, &first[..n], other, streams)
 }

@@ -108,10 +108,7 @@ fn store_device(
     status: usize,
     streams: Streams,
 ) -> usize {
-    if then.len() == 0 {
-        return status;
-    }
-    if answer.refusal != 0 {
+    if then.is_empty() || answer.refusal != 0 {
         return status;
     }
     let mut text = large_buffer();
@@ -185,11 +182,9 @@ fn run_bytes(
     streams: Streams,
 ) -> usize {
     let mut description = large_buffer();
-    let loaded = load(rt, device, &mut description, streams.err);
-    if !loaded.ok {
+    let Some(n) = load(rt, device, &mut description, streams.err) else {
         return FAULT;
-    }
-    let n = loaded.n;
+    };
     run_described(rt, what, bytes, &description[..n], device, then, streams)
 }
 
@@ -206,11 +201,9 @@ fn run_files(
         return fault(streams.err, Message::Once, b"", 0);
     }
     let mut bytes = large_buffer();
-    let loaded = load(rt, file, &mut bytes, streams.err);
-    if !loaded.ok {
+    let Some(n) = load(rt, file, &mut bytes, streams.err) else {
         return FAULT;
-    }
-    let n = loaded.n;
+    };
     run_bytes(rt, what, &bytes[..n], device, then, streams)
 }
 

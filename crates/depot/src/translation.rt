@@ -57,11 +57,9 @@ fn translate_bytes(
 
 fn translate_load(rt: &(impl Files + Input), words: &[u8], boot: bool, streams: Streams) -> usize {
     let mut file = large_buffer();
-    let loaded = load(rt, word_at(words, FILE), &mut file, streams.err);
-    if !loaded.ok {
+    let Some(n) = load(rt, word_at(words, FILE), &mut file, streams.err) else {
         return FAULT;
-    }
-    let n = loaded.n;
+    };
     translate_bytes(rt, &file[..n], boot, word_at(words, OUT), streams)
 }
 

@@ -15,13 +15,6 @@ use std::fs::{Files, OpenOptions};
 use std::io::{Error, ErrorKind, Read, Write};
 use std::{fs, io};
 
-// Whether a file was read, and how many bytes it has.
-#[derive(Clone, Copy)]
-pub struct Loaded {
-    pub ok: bool,
-    pub n: usize,
-}
-
 // Whether a name stands for standard input or output.
 pub fn is_standard(name: &[u8]) -> bool
     ensures { result ≡ same name.now (ascii "-") }
@@ -39,10 +32,7 @@ fn path_of(name: &[u8]) -> io::Result<&str> {
     if name.len() >= PATH_BYTES {
         return Err(Error::from_raw_os_error(LONG_NAME));
     }
-    match str::from_utf8(name) {
-        Ok(path) => Ok(path),
-        Err(_) => Err(Error::from(ErrorKind::InvalidInput)),
-    }
+    str::from_utf8(name).map_err(|_| Error::from(ErrorKind::InvalidInput))
 }
 
 // How many bytes an open file has; none if it goes on behind the buffer.
@@ -69,16 +59,16 @@ fn read_named(rt: &(impl Files + Input), name: &[u8], buf: &mut [u8]) -> io::Res
     read_whole(&mut file, buf)
 }
 
-// The file of that name, at the start of the buffer.
-pub fn load(rt: &(impl Files + Input), name: &[u8], buf: &mut [u8], err: Stream) -> Loaded
-    ensures { IsPrefixLen result.n buf.new }
+// How many bytes the file of that name has, at the start of the buffer; none where it cannot be read, which is told.
+pub fn load(rt: &(impl Files + Input), name: &[u8], buf: &mut [u8], err: Stream) -> Option<usize>
+    ensures { IfSome result (λ n. IsPrefixLen n buf.new) }
 {
     match read_named(rt, name, buf) {
-        Ok(Some(n)) => return Loaded { ok: true, n },
+        Ok(Some(n)) => return Some(n),
         Ok(None) => fault(err, Message::Long, name, buf.len()),
         Err(error) => fault_of(err, name, error),
     };
-    Loaded { ok: false, n: 0 }
+    None
 }
 
 // Makes a file of the bytes; one that cannot be written is removed.

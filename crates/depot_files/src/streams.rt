@@ -43,10 +43,7 @@ pub fn page() -> [u8; 262144]
 pub fn fitted(page: &[u8], to: usize) -> usize
     ensures { IsPrefixLen result page.now }
 {
-    if to <= page.len() {
-        return to;
-    }
-    page.len()
+    to.min(page.len())
 }
 
 // Writes the first `to` bytes of a page.

@@ -86,6 +86,7 @@ fn put_listed(room: &mut [u8], program: &[u8]) -> usize
     put_program(room, to, program)
 }
 
+#[tactic(auto, unfolding(crate::specs::Printed::listed_status))]
 fn listed_status(program: &[u8]) -> usize
     ensures { result ≡ listed_status program.now }
 {
@@ -102,6 +103,7 @@ fn check_status(envelope: &[u8]) -> usize
     refusal_status(answer.refusal)
 }
 
+#[tactic(auto, unfolding(crate::specs::Printed::view_text))]
 pub fn put_view(room: &mut [u8], view: View, s: &[u8]) -> usize
     ensures { Writes (view_text view s.now) 0 room result }
 {
@@ -112,12 +114,12 @@ pub fn put_view(room: &mut [u8], view: View, s: &[u8]) -> usize
     }
 }
 
+#[tactic(auto, unfolding(crate::specs::Printed::view_status))]
 pub fn view_status(view: View, s: &[u8]) -> usize
     ensures { result ≡ view_status view s.now }
 {
     match view {
-        View::Check => check_status(s),
-        View::Show => check_status(s),
+        View::Check | View::Show => check_status(s),
         View::List => listed_status(s),
     }
 }

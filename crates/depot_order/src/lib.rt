@@ -20,7 +20,7 @@ pub struct Told {
     pub some: bool,
 }
 
-// Where the section under `key` ends; 0 says that it is not there.
+// Where the section under `key` ends; 0 says that it is not there, as in the C interface.
 fn end_of(sections: &SectionPlaces, key: usize) -> usize
     requires { key ≤ Commands-as-RUN }
     ensures { result ≡ end_of sections.now key }

@@ -44,6 +44,7 @@ fn put_span(room: &mut [u8], at: usize, from: usize, to: usize) -> usize
     put_byte(room, b, b'\n')
 }
 
+// A section that ends at 0 is not there: `SectionPlaces` are so in the C interface.
 fn put_one_section(room: &mut [u8], at: usize, sections: &SectionPlaces, j: usize) -> usize
     requires { j < section_count }
     ensures { Writes (section_text sections.now j) at room result }
@@ -92,7 +93,7 @@ fn put_accepted(room: &mut [u8], at: usize, answer: CheckAnswer, envelope: &[u8]
     put_manifest(room, c, answer.from, answer.to)
 }
 
-// What check answered for the envelope.
+// What check answered for the envelope; `CheckAnswer` is a struct of the C interface, where a refusal of 0 is none.
 pub fn put_checked(room: &mut [u8], at: usize, answer: CheckAnswer, envelope: &[u8]) -> usize
     ensures { Writes (checked_text answer envelope.now) at room result }
 {
@@ -102,7 +103,7 @@ pub fn put_checked(room: &mut [u8], at: usize, answer: CheckAnswer, envelope: &[
     put_refused(room, at, answer.refusal, answer.place, envelope)
 }
 
-// What newer answered, and the number of the manifest that it handed back.
+// What newer answered, and the number of the manifest that it handed back; in `NewerAnswer`, of the C interface, an end of 0 is none.
 pub fn put_newer(room: &mut [u8], at: usize, answer: NewerAnswer, number: usize) -> usize
     ensures { Writes (newer_text answer number) at room result }
 {

@@ -40,7 +40,7 @@ fn put_components(room: &mut [u8], at: usize, s: &[u8], n: usize, ids: &Places) 
     to
 }
 
-// The section under `key`, whose sequence stands from `from` to `end`; an end of 0 says that it is not there.
+// The section under `key`, whose sequence stands from `from` to `end`; an end of 0 says that it is not there, as in the C interface.
 fn put_section(room: &mut [u8], at: usize, s: &[u8], key: usize, from: usize, end: usize) -> usize
     ensures { Writes (section_text s.now key from end) at room result }
 {

@@ -29,10 +29,7 @@ fn of_envelope(boot: bool, envelope: &[u8]) -> Subject
 fn is_boot(group: Group) -> bool
     ensures { result ≡ is_boot group }
 {
-    match group {
-        Group::Install => false,
-        Group::Boot => true,
-    }
+    matches!(group, Group::Boot)
 }
 
 fn of_program(program: &[u8]) -> Subject

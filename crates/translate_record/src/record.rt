@@ -67,11 +67,9 @@ pub fn put_jump(target: usize, state: WriteState, room: &mut [u8]) -> WriteState
 {
     put_head(room, state.to, JUMP, 0, 0, target, 0);
     WriteState {
-        next: state.next,
-        index: state.index,
-        coerce: state.coerce,
         n: state.n + 1,
         to: state.to + RECORD_BYTES,
+        ..state
     }
 }
 

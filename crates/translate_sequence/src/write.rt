@@ -16,10 +16,9 @@ fn enter(state: WriteState, at: usize, now: WriteState) -> WriteState
 {
     WriteState {
         next: at,
-        index: state.index,
-        coerce: state.coerce,
         n: now.n,
         to: now.to,
+        ..state
     }
 }
 

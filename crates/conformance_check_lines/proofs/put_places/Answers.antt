@@ -6,18 +6,18 @@ use Rattle.conformance_check_lines.specs.CheckLines.{places_text}
 use Rattle.conformance_check_lines.proofs.put_places.Goals as goal
 
 pub loop-k-init : goal.loop-k-init
-loop-k-init c = (search rules, lines_none _ _ _)
+loop-k-init c = lines_none _ _ _
 
 pub put_place-to-requires : goal.put_place-to-requires
-put_place-to-requires c = omega (arith, c.least-end.ensures)
+put_place-to-requires c = omega (arith, c.least-k-end.ensures)
 
 pub loop-k-preserved : goal.loop-k-preserved
 loop-k-preserved c =
-    (search rules, lines_next _ _ c.loop-k.invariant.1 c.put_place-to.ensures)
+    lines_next _ _ c.loop-k.invariant c.put_place-to.ensures
 
 pub shape_of-room : goal.shape_of-room
-shape_of-room c = wrote-length c.loop-k.invariant.1
+shape_of-room c = wrote-length c.loop-k.invariant
 
 pub returns : goal.returns
 unfolding places_text
-returns c = rw (← c.least-end.ensures) (lines-all _ _ _ (search rules) (search rules) c.loop-k.invariant.1)
+returns c = rw (← c.least-k-end.ensures) (lines-all _ _ _ (search rules) (search rules) c.loop-k.invariant)

@@ -5,7 +5,4 @@ use Rattle.conformance_check_lines.specs.CheckLines.{place_text}
 use Rattle.conformance_check_lines.proofs.put_places.Given as goal
 
 abbrev pub invariant-loop-k : goal.invariant-loop-k
-invariant-loop-k l = (l.k ≤ l.end) × Wrote (lines (place_text l.ids) l.k) l.at l.initial.room l.to l.room
-
-abbrev pub decreases-loop-k : goal.decreases-loop-k
-decreases-loop-k l = l.end - l.k
+invariant-loop-k l = Wrote (lines (place_text l.ids) l.k) l.at l.initial.room l.to l.room

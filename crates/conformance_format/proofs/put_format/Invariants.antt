@@ -5,8 +5,5 @@ use Rattle.text.specs.Text.{Wrote}
 use Rattle.conformance_format.specs.Format.{used, formatted}
 use Rattle.conformance_format.proofs.put_format.Given as goal
 
-abbrev pub invariant-loop-i : goal.invariant-loop-i
-invariant-loop-i l = (l.i ≤ length l.template) × (l.k ≤ l.i) × (l.k ≡ used l.template l.i) × Wrote (formatted l.template l.numbers l.i) l.at l.initial.room l.to l.room
-
-abbrev pub decreases-loop-i : goal.decreases-loop-i
-decreases-loop-i l = length l.template - l.i
+abbrev pub invariant-loop-c : goal.invariant-loop-c
+invariant-loop-c l = (l.k ≤ l.c-index) × (l.k ≡ used l.template l.c-index) × Wrote (formatted l.template l.numbers l.c-index) l.at l.initial.room l.to l.room

@@ -9,16 +9,16 @@ use borrow.Author.Rules.{rules}
 use Rattle.conformance_run_lines.proofs.put_slots.Goals as goal
 
 pub loop-k-init : goal.loop-k-init
-loop-k-init c = (search rules, slots-none _ _ _)
+loop-k-init c = slots-none _ _ _
 
 pub loop-k-preserved : goal.loop-k-preserved
 loop-k-preserved c =
-    (search rules, slots_next _ _ _ _ c.loop-k.invariant.1 c.put_name-to.ensures c.put_image-to.ensures)
+    slots_next _ _ _ _ c.loop-k.invariant c.put_name-to.ensures c.put_image-to.ensures
 
 pub shape_of-room : goal.shape_of-room
 shape_of-room c =
-    wrote-length c.loop-k.invariant.1
+    wrote-length c.loop-k.invariant
 
 pub returns : goal.returns
 returns c =
-    let e : c.loop-k.k ≡ length c.args.slots.now / slot_bytes = omega arith in rw e at c.loop-k.invariant.1
+    let e : c.loop-k.k ≡ length c.args.slots.now / slot_bytes = omega arith in rw e at c.loop-k.invariant
