@@ -45,12 +45,8 @@ fn sixteen(b: &[u8], at: usize) -> Sixteen
     requires { at + limits.class ≤ length b.now }
     ensures { result ≡ part b.now at limits.class }
 {
-    let mut id = [0u8; Controller::CLASS_BYTES];
-    let mut k = 0;
-    while k < Controller::CLASS_BYTES {
-        id[k] = b[at + k];
-        k += 1;
-    }
+    let mut id = [0; Controller::CLASS_BYTES];
+    id.copy_from_slice(&b[at..at + Controller::CLASS_BYTES]);
     id
 }
 

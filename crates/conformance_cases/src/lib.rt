@@ -96,28 +96,19 @@ fn head_case(b: &[u8], room: &mut [u8]) -> usize
     head_line(&b[PLACE_BYTES..], two(b, 0), room)
 }
 
+#[tactic(auto, unfolding(crate::specs::Cases::job_line))]
 fn job_line(job: u8, b: &[u8], room: &mut [u8]) -> usize
     ensures { Writes (job_line job b.now) 0 room result }
 {
-    if job == CHECK {
-        return check_line(b, room);
+    match job {
+        CHECK => check_line(b, room),
+        NEWER => newer_case(b, room),
+        TRANSLATE => translate_case(b, room),
+        RUN => run_case(false, b, room),
+        RUN_PROGRAM => run_case(true, b, room),
+        HEAD => head_case(b, room),
+        _ => put_malformed(room),
     }
-    if job == NEWER {
-        return newer_case(b, room);
-    }
-    if job == TRANSLATE {
-        return translate_case(b, room);
-    }
-    if job == RUN {
-        return run_case(false, b, room);
-    }
-    if job == RUN_PROGRAM {
-        return run_case(true, b, room);
-    }
-    if job == HEAD {
-        return head_case(b, room);
-    }
-    put_malformed(room)
 }
 
 // Does the case and writes its line at the start of the room.
