@@ -12,7 +12,6 @@ use Rattle.depot_matches.specs.Values.{first_in}
 
 -- none of n items passed the test: what is found among all is found among those that are left
 pub record Seeking (size : Bytes → ℕ) (test : Bytes → Bool) (has : Bytes → Bytes) (count : ℕ) (s : Bytes) (n : ℕ) (rest : Bytes) : Type 0 where
-  pub within : n ≤ count
   pub same : first_in size test has (count - n) rest ≡ first_in size test has count s
 
 module _ (size : Bytes → ℕ) (test : Bytes → Bool) (has : Bytes → Bytes) where
@@ -35,7 +34,7 @@ module _ (size : Bytes → ℕ) (test : Bytes → Bool) (has : Bytes → Bytes) 
 pub seeking_start : (size : Bytes → ℕ) (test : Bytes → Bool) (has : Bytes → Bytes) (count : ℕ) (s : Bytes) → Seeking size test has count s 0 s
 seeking_start size test has count s =
     let e : count - 0 ≡ count = omega arith in
-    record { within = omega arith; same = rw e }
+    record { same = rw e }
 
 module _ {size : Bytes → ℕ} {test : Bytes → Bool} {has : Bytes → Bytes} {count : ℕ} {s : Bytes} {n : ℕ} {rest : Bytes}
     (f : Seeking size test has count s n rest) (h : n < count) {k : ℕ} (e : k ≡ size rest) where
@@ -50,10 +49,7 @@ module _ {size : Bytes → ℕ} {test : Bytes → Bool} {has : Bytes → Bytes} 
 
   pub seeking_more : (k ≡ 0 → ⊥) → test rest ≡ false → Seeking size test has count s (n + 1) (take (length rest - k) (drop k rest))
   seeking_more z t =
-      record {
-        within = omega arith;
-        same = rw (from-drop rest k (size rest) e, ← first_more size test has (count - (n + 1)) rest (λ y. z (e ∙ y)) t, ← left) f.same;
-      }
+      record { same = rw (from-drop rest k (size rest) e, ← first_more size test has (count - (n + 1)) rest (λ y. z (e ∙ y)) t, ← left) f.same }
 
 pub seeking_end : {size : Bytes → ℕ} {test : Bytes → Bool} {has : Bytes → Bytes} {count : ℕ} {s : Bytes} {n : ℕ} {rest : Bytes} →
     Seeking size test has count s n rest → count ≤ n → [] ≡ first_in size test has count s

@@ -32,10 +32,7 @@ pub(crate) fn event_at(trace: &[u8], i: usize) -> Event
 pub(crate) fn is_of(e: Event, code: usize, res: usize) -> bool
     ensures { result ≡ is_of code res e }
 {
-    if e.code == code {
-        return e.result == res;
-    }
-    false
+    e.code == code && e.result == res
 }
 
 fn fetches_in(e: Event) -> usize
@@ -53,10 +50,8 @@ pub(crate) fn fetches_before(trace: &[u8], n: usize) -> usize
     ensures { (result ≡ fetches_before trace.now n) × (result ≤ n) }
 {
     let mut count = 0;
-    let mut i = 0;
-    while i < n {
+    for i in 0..n {
         count += fetches_in(event_at(trace, i));
-        i += 1;
     }
     count
 }

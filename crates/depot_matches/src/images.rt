@@ -34,10 +34,7 @@ fn source_at(p: &[u8], trace: &[u8], i: usize) -> usize
 fn moves(e: Event) -> bool
     ensures { result ≡ Images·moves e }
 {
-    if is_of(e, codes::COPY, End::FINISHED) {
-        return true;
-    }
-    is_of(e, codes::SWAP, End::FINISHED)
+    is_of(e, codes::COPY, End::FINISHED) || is_of(e, codes::SWAP, End::FINISHED)
 }
 
 // The component whose image before event i is component c's after it.
@@ -65,10 +62,7 @@ fn came_from(p: &[u8], trace: &[u8], i: usize, c: usize) -> usize
 fn fetched_by(e: Event, c: usize) -> bool
     ensures { result ≡ fetched_by e c }
 {
-    if e.component == c {
-        return is_of(e, codes::FETCH, End::FINISHED);
-    }
-    false
+    e.component == c && is_of(e, codes::FETCH, End::FINISHED)
 }
 
 // Where component c's image before event n comes from: a component, or an answer, whose number stands behind those of the components.
@@ -77,9 +71,7 @@ pub(crate) fn origin(p: &[u8], trace: &[u8], c: usize, n: usize) -> usize
     ensures { result ≡ Images·origin p.now trace.now c n }
 {
     let mut from = c;
-    let mut i = n;
-    while 0 < i {
-        i -= 1;
+    for i in (0..n).rev() {
         if fetched_by(event_at(trace, i), from) {
             return Controller::COMPONENTS + fetches_before(trace, i);
         }

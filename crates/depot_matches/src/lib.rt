@@ -65,11 +65,8 @@ fn put_notes(
     ensures { Writes (lines (λ j. note_of p.now trace.now slots.now answers.now j ∷ []) n) 0 notes result }
 {
     let mut to = 0;
-    let mut j = 0;
-    while j < n {
-        let note = note_of(p, trace, slots, answers, j);
-        to = put_byte(notes, to, note);
-        j += 1;
+    for j in 0..n {
+        to = put_byte(notes, to, note_of(p, trace, slots, answers, j));
     }
     to
 }

@@ -21,17 +21,12 @@ use rules::program_format::{
 const KEYS: usize = Controller::PARAMETERS - 1;
 
 // Whether the record at the start of the bytes is that of the event.
+#[tactic(auto, unfolding(crate::specs::Values::record_is))]
 fn record_is(s: &[u8], e: Event) -> bool
     requires { ProgramFormat·recordSize ≤ length s.now }
     ensures { result ≡ record_is e s.now }
 {
-    if wide(s[CODE]) != e.code {
-        return false;
-    }
-    if wide(s[COMPONENT]) != e.component {
-        return false;
-    }
-    two(s, PLACE) == e.place
+    wide(s[CODE]) == e.code && wide(s[COMPONENT]) == e.component && two(s, PLACE) == e.place
 }
 
 fn argument_in(s: &[u8]) -> &[u8]
@@ -47,18 +42,16 @@ fn argument_among(s: &[u8], total: usize, e: Event) -> &[u8]
     ensures { result.now ≡ first_in record_size (record_is e) argument_in total s.now }
 {
     let mut rest = s;
-    let mut n = 0;
-    while n < total {
+    for _ in 0..total {
         let Some(size) = depot_record_lines::size_of(rest) else {
-            return &rest[0..0];
+            return &[];
         };
         if record_is(rest, e) {
             return argument_in(rest);
         }
         rest = &rest[size..];
-        n += 1;
     }
-    &rest[0..0]
+    &[]
 }
 
 fn argument_of(p: &[u8], e: Event) -> &[u8]
@@ -84,18 +77,16 @@ fn value_in(s: &[u8], key: usize) -> &[u8]
     ensures { result.now ≡ value_in key s.now }
 {
     let mut rest = s;
-    let mut n = 0;
-    while n < KEYS {
+    for _ in 0..KEYS {
         let Some(size) = depot_argument_lines::size_of(rest) else {
-            return &rest[0..0];
+            return &[];
         };
         if wide(rest[0]) == key {
             return entry_in(rest);
         }
         rest = &rest[size..];
-        n += 1;
     }
-    &rest[0..0]
+    &[]
 }
 
 fn first_set<'a>(a: &'a [u8], b: &'a [u8]) -> &'a [u8]
@@ -133,12 +124,9 @@ pub(crate) fn value_before<'a>(
     requires { event_bytes * n ≤ length trace.now }
     ensures { result.now ≡ value_before p.now trace.now key c n }
 {
-    let mut v = &p[0..0];
-    let mut i = 0;
-    while i < n {
-        let next = value_after(p, event_at(trace, i), key, c, v);
-        v = next;
-        i += 1;
+    let mut v: &[u8] = &[];
+    for i in 0..n {
+        v = value_after(p, event_at(trace, i), key, c, v);
     }
     v
 }

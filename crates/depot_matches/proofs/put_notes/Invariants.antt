@@ -1,4 +1,3 @@
-use Prim.Native.Nat.{◌-◌, ◌≤◌}
 use mathlib.Core.List.{[], ◌∷◌}
 use Rattle.text.specs.Text.{Wrote}
 use Rattle.text_pieces.specs.Pieces.{lines}
@@ -6,7 +5,4 @@ use Rattle.depot_matches.specs.Matches.{note_of}
 use Rattle.depot_matches.proofs.put_notes.Given as goal
 
 abbrev pub invariant-loop-j : goal.invariant-loop-j
-invariant-loop-j l = (l.j ≤ l.n) × Wrote (lines (λ i. note_of l.p l.trace l.slots l.answers i ∷ []) l.j) 0 l.initial.notes l.to l.notes
-
-abbrev pub decreases-loop-j : goal.decreases-loop-j
-decreases-loop-j l = l.n - l.j
+invariant-loop-j l = Wrote (lines (λ i. note_of l.p l.trace l.slots l.answers i ∷ []) l.j) 0 l.initial.notes l.to l.notes

@@ -1,17 +1,16 @@
 use mathlib.Core.Path.{◌≡◌}
 use native.Mathlib.Omega.{arith}
 use Rattle.depot_matches.proofs.TurnLaws.{value-start, value-next}
-use borrow.Author.Rules.{rules}
 use Rattle.depot_matches.proofs.values.value_before.Goals as goal
 
 pub loop-i-init : goal.loop-i-init
-loop-i-init c = (search rules, value-start _ _ _ _)
+loop-i-init c = value-start _ _ _ _
 
 pub loop-i-preserved : goal.loop-i-preserved
 loop-i-preserved c =
-    (search rules, rw (value-next, ← c.event_at.ensures, ← c.loop-i.invariant.1) c.value_after-next.ensures)
+    rw (value-next, ← c.event_at.ensures, ← c.loop-i.invariant) c.value_after-v.ensures
 
 pub returns : goal.returns
 returns c =
     let e : c.loop-i.i ≡ c.args.n = omega arith in
-    rw (← e) c.loop-i.invariant.1
+    rw (← e) c.loop-i.invariant
