@@ -8,10 +8,10 @@ use lib.Seq.{take_all}
 use native.Mathlib.Omega.{arith}
 use native.Mathlib.Numerals.{add-one}
 use Rattle.rules.specs.Bytes.{Bytes, part}
-use Rattle.rules.specs.Limits.{limits}
+use Rattle.depot_matches.specs.declared.images.ImageOrigin.TheVariants.{Answer}
 use Rattle.depot_matches.specs.Events.{event_at, fetches_in, fetches_before}
 use Rattle.depot_matches.specs.Values.{value_after, value_before}
-use Rattle.depot_matches.specs.Images.{came_from, fetched_by, origin}
+use Rattle.depot_matches.specs.Images.{came_from, fetched_by, origin_of, origin}
 
 pub fetches-next : (t : Bytes) (i : ℕ) → fetches_before t (i + 1) ≡ fetches_before t i + fetches_in (event_at t i)
 unfolding fetches_before
@@ -22,7 +22,7 @@ unfolding value_before
 value-next p t key c i = rw (add-one i)
 
 module _ (p t : Bytes) (c i : ℕ) where
-  next_fetched : fetched_by (event_at t i) c ≡ true → limits.components + fetches_before t i ≡ origin p t c (suc i)
+  next_fetched : fetched_by (event_at t i) c ≡ true → Answer (fetches_before t i) ≡ origin p t c (suc i)
   unfolding origin
   next_fetched e = rw e
 
@@ -36,13 +36,13 @@ module _ (p t : Bytes) (c i : ℕ) (h : 0 < i) where
       let e : suc (i - 1) ≡ i = omega arith in
       rw e
 
-  pub origin_fetched : fetched_by (event_at t (i - 1)) c ≡ true → limits.components + fetches_before t (i - 1) ≡ origin p t c i
+  pub origin_fetched : fetched_by (event_at t (i - 1)) c ≡ true → Answer (fetches_before t (i - 1)) ≡ origin p t c i
   origin_fetched e = next_fetched p t c (i - 1) e ∙ again
 
   pub origin-moved : fetched_by (event_at t (i - 1)) c ≡ false → origin p t (came_from p t (i - 1) c) (i - 1) ≡ origin p t c i
   origin-moved e = next-moved p t c (i - 1) e ∙ again
 
-pub origin-start : (p t : Bytes) (c i : ℕ) → i ≡ 0 → c ≡ origin p t c i
+pub origin-start : (p t : Bytes) (c i : ℕ) → i ≡ 0 → origin_of c ≡ origin p t c i
 unfolding origin
 origin-start p t c i e = rw e
 

@@ -1,5 +1,5 @@
 -- The images in the slots before an event: where each comes from, and its bytes.
-use Rattle.std.specs.Prelude.{ℕ, zero, suc, ◌+◌, ◌*◌, ◌/◌, Bool, true, false, cond, [], eqb, ltb, leb, length, get_or, drop}
+use Rattle.std.specs.Prelude.{ℕ, zero, suc, ◌-◌, ◌*◌, ◌/◌, Bool, true, false, cond, [], eqb, ltb, leb, length, get_or, drop}
 use Rattle.rules.specs.declared.answers.End.TheVariants.{Finished}
 use Rattle.rules.specs.Answers.{result_number}
 use Rattle.rules.specs.Bytes.{Bytes, part}
@@ -9,6 +9,8 @@ use Rattle.rules.specs.ProgramFormat.{start_size, length_from, name_size}
 use Rattle.rules.specs.Slots.{slot_bytes, answer_bytes, slot_at, image_at, slot_of, good_slots}
 use Rattle.depot_listing.specs.Listing.{component_size, after_components}
 use Rattle.depot_matches.specs.declared.events.Event.{Event}
+use Rattle.depot_matches.specs.declared.images.ImageOrigin.{ImageOrigin}
+use Rattle.depot_matches.specs.declared.images.ImageOrigin.TheVariants.{Slot, Answer}
 use Rattle.depot_matches.specs.Events.{event_at, is_of, is_fetch, fetches_before}
 use Rattle.depot_matches.specs.Values.{value_before}
 
@@ -31,12 +33,14 @@ came_from p t i c =
 abbrev pub fetched_by : Event → ℕ → Bool
 fetched_by e c = cond (eqb e.component c) (is_fetch e) false
 
--- where component c's image before event i comes from: the component in whose slot it was before the run; or an answer of the host, whose
--- number stands behind those of the components
-unfoldable pub origin : Bytes → Bytes → ℕ → ℕ → ℕ
-origin p t c zero = c
-origin p t c (suc i) =
-    cond (fetched_by (event_at t i) c) (limits.components + fetches_before t i) (origin p t (came_from p t i c) i)
+-- the slot of component c before the run; a number past the components, which no run writes, stands for an answer of the host
+abbrev pub origin_of : ℕ → ImageOrigin
+origin_of c = cond (ltb c limits.components) (Slot c) (Answer (c - limits.components))
+
+-- where component c's image before event i comes from: the component in whose slot it was before the run, or an answer of the host
+unfoldable pub origin : Bytes → Bytes → ℕ → ℕ → ImageOrigin
+origin p t c zero = origin_of c
+origin p t c (suc i) = cond (fetched_by (event_at t i) c) (Answer (fetches_before t i)) (origin p t (came_from p t i c) i)
 
 -- the identifier of component c; nothing, if it is missing
 unfoldable pub name_of : Bytes → ℕ → Bytes

@@ -1,15 +1,16 @@
 -- Why an image match failed, as a note of one byte for each event.
-use Rattle.std.specs.Prelude.{ℕ, ◌-◌, ◌/◌, cond, [], ◌∷◌, ltb, length, drop}
+use Rattle.std.specs.Prelude.{ℕ, ◌/◌, cond, [], ◌∷◌, ltb, length, drop}
 use Rattle.rules.specs.declared.answers.End.TheVariants.{ConditionFailed}
 use Rattle.rules.specs.Answers.{result_number}
 use Rattle.rules.specs.Bytes.{Bytes, same}
 use Rattle.rules.specs.Commands.{image_match_code, digest_key}
-use Rattle.rules.specs.Limits.{limits}
 use Rattle.rules.specs.Slots.{answer_bytes, digest_from}
 use Rattle.rules.specs.Step.{event_bytes}
 use Rattle.text.specs.Text.{least}
 use Rattle.text_pieces.specs.Pieces.{lines}
 use Rattle.depot_events.specs.Notes.{no_note, slot_absent, other_digest, other_size}
+use Rattle.depot_matches.specs.declared.images.ImageOrigin.{ImageOrigin}
+use Rattle.depot_matches.specs.declared.images.ImageOrigin.TheVariants.{Slot, Answer}
 use Rattle.depot_matches.specs.Events.{event_at, is_of}
 use Rattle.depot_matches.specs.Values.{value_before}
 use Rattle.depot_matches.specs.Images.{origin, lent_image, answer_image}
@@ -18,10 +19,10 @@ use Rattle.depot_matches.specs.Images.{origin, lent_image, answer_image}
 unfoldable pub note_of_image : Bytes → Bytes → ℕ
 note_of_image image digest = cond (ltb (length image) answer_bytes) slot_absent (cond (same (drop digest_from image) digest) other_size other_digest)
 
--- the image that comes from m, a component or an answer behind them
-unfoldable pub image_from : Bytes → Bytes → Bytes → ℕ → Bytes
-image_from p slots answers m =
-    cond (ltb m limits.components) (lent_image p slots m) (answer_image answers (m - limits.components))
+-- the image that was there
+unfoldable pub image_from : Bytes → Bytes → Bytes → ImageOrigin → Bytes
+image_from p slots answers (Slot c) = lent_image p slots c
+image_from p slots answers (Answer k) = answer_image answers k
 
 -- the note of event j: the program, the trace, the slots before the run, the host's answers
 unfoldable pub note_of : Bytes → Bytes → Bytes → Bytes → ℕ → ℕ

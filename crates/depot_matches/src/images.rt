@@ -2,7 +2,7 @@
 ghost use Rattle.std.specs.Prelude.{◌≡◌, ◌+◌, ◌*◌, ◌≤◌, length};
 ghost use Rattle.rules.specs.Step.{event_bytes};
 ghost use Rattle.depot_matches.specs.Images.{source_at, moves as Images·moves, came_from, fetched_by, name_of, present_image, lent_image, answer_image};
-ghost use Rattle.depot_matches.specs.Images.{origin as Images·origin};
+ghost use Rattle.depot_matches.specs.Images.{origin_of, origin as Images·origin};
 
 use crate::events::{Event, event_at, fetches_before, is_of};
 use crate::values::value_before;
@@ -16,6 +16,13 @@ use rules::slot_format::{IMAGE, IMAGE_BYTES, SLOT_BYTES};
 use run_slot_search::search::slot_of;
 use run_slot_search::whole::good_slots;
 use run_slots::slot::present;
+
+// Where an image comes from: the slot of a component before the run, or an answer of the host.
+#[derive(Clone, Copy)]
+pub enum ImageOrigin {
+    Slot(usize),
+    Answer(usize),
+}
 
 // The source of the command of event i.
 fn source_at(p: &[u8], trace: &[u8], i: usize) -> usize
@@ -65,19 +72,29 @@ fn fetched_by(e: Event, c: usize) -> bool
     e.component == c && is_of(e, codes::FETCH, End::FINISHED)
 }
 
-// Where component c's image before event n comes from: a component, or an answer, whose number stands behind those of the components.
-pub(crate) fn origin(p: &[u8], trace: &[u8], c: usize, n: usize) -> usize
+// The slot of component c before the run; a number past the components, which no run writes, stands for an answer.
+fn origin_of(c: usize) -> ImageOrigin
+    ensures { result ≡ origin_of c }
+{
+    if c < Controller::COMPONENTS {
+        return ImageOrigin::Slot(c);
+    }
+    ImageOrigin::Answer(c - Controller::COMPONENTS)
+}
+
+// Where component c's image before event n comes from.
+pub(crate) fn origin(p: &[u8], trace: &[u8], c: usize, n: usize) -> ImageOrigin
     requires { event_bytes * n ≤ length trace.now }
     ensures { result ≡ Images·origin p.now trace.now c n }
 {
     let mut from = c;
     for i in (0..n).rev() {
         if fetched_by(event_at(trace, i), from) {
-            return Controller::COMPONENTS + fetches_before(trace, i);
+            return ImageOrigin::Answer(fetches_before(trace, i));
         }
         from = came_from(p, trace, i, from);
     }
-    from
+    origin_of(from)
 }
 
 // The identifier of component c, nothing if it is missing.

@@ -15,10 +15,9 @@ mod values;
 use byte_buffer::is;
 use depot_events::notes::{NO_NOTE, OTHER_DIGEST, OTHER_SIZE, SLOT_ABSENT};
 use events::{event_at, is_of};
-use images::{answer_image, lent_image, origin};
+use images::{ImageOrigin, answer_image, lent_image, origin};
 use rules::answers::End;
 use rules::codes;
-use rules::controller::Controller;
 use rules::event_format::EVENT_BYTES;
 use rules::slot_format::{DIGEST, IMAGE_BYTES};
 use text::{least, put_byte};
@@ -46,11 +45,10 @@ fn note_of(p: &[u8], trace: &[u8], slots: &[u8], answers: &[u8], j: usize) -> u8
         return NO_NOTE;
     }
     let digest = value_before(p, trace, codes::DIGEST, e.component, j);
-    let from = origin(p, trace, e.component, j);
-    if from < Controller::COMPONENTS {
-        return note_of_image(lent_image(p, slots, from), digest);
+    match origin(p, trace, e.component, j) {
+        ImageOrigin::Slot(c) => note_of_image(lent_image(p, slots, c), digest),
+        ImageOrigin::Answer(k) => note_of_image(answer_image(answers, k), digest),
     }
-    note_of_image(answer_image(answers, from - Controller::COMPONENTS), digest)
 }
 
 fn put_notes(

@@ -19,4 +19,4 @@ loop-i-preserved c =
 pub returns : goal.returns
 returns c =
     let e : c.loop-i.i ≡ 0 = omega arith in
-    origin-start _ _ _ _ e ∙ c.loop-i.invariant
+    c.origin_of.ensures ∙ origin-start _ _ _ _ e ∙ c.loop-i.invariant
