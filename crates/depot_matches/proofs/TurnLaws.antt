@@ -2,8 +2,8 @@
 use Prim.Native.Nat.{ℕ, suc, ◌+◌, ◌-◌, ◌<◌}
 use mathlib.Core.Path.{◌≡◌, refl, ◌∙◌}
 use mathlib.Core.Bool.{true, false}
-use mathlib.Core.List.{[], ◌∷◌}
-use lib.ListN.{length, get_or}
+use mathlib.Core.List.{[]}
+use lib.ListN.{length}
 use lib.Seq.{take_all}
 use native.Mathlib.Omega.{arith}
 use native.Mathlib.Numerals.{add-one}
@@ -53,14 +53,6 @@ fetches-start t = refl
 pub value-start : (p t : Bytes) (key c : ℕ) → [] ≡ value_before p t key c 0
 unfolding value_before
 value-start p t key c = refl
-
--- the first byte, where there is none
-pub none_first : (s : Bytes) → length s ≡ 0 → 0 ≡ get_or s 0 0
-none_first [] h = refl
-none_first (x ∷ s) h = absurd (some h)
-  where
-    some : length (x ∷ s) ≡ 0 → ⊥
-    some e = omega arith
 
 pub whole_part : (s : Bytes) → part s 0 (length s) ≡ s
 whole_part s = take_all (length s) s (omega arith)

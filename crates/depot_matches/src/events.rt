@@ -16,6 +16,7 @@ pub struct Event {
     pub result: usize,
 }
 
+#[tactic(auto, unfolding(crate::specs::Events::event_at))]
 pub(crate) fn event_at(trace: &[u8], i: usize) -> Event
     requires { event_bytes * i + event_bytes ≤ length trace.now }
     ensures { result ≡ event_at trace.now i }
@@ -38,10 +39,7 @@ pub(crate) fn is_of(e: Event, code: usize, res: usize) -> bool
 fn fetches_in(e: Event) -> usize
     ensures { (result ≡ fetches_in e) × (result ≤ 1) }
 {
-    if is_of(e, codes::FETCH, End::FINISHED) {
-        return 1;
-    }
-    0
+    usize::from(is_of(e, codes::FETCH, End::FINISHED))
 }
 
 // How many fetches were done before event n.

@@ -25,16 +25,14 @@ pub enum ImageOrigin {
 }
 
 // The source of the command of event i.
+#[tactic(auto, unfolding(crate::specs::Images::source_at))]
 fn source_at(p: &[u8], trace: &[u8], i: usize) -> usize
     requires { event_bytes * i + event_bytes ≤ length trace.now }
     ensures { result ≡ source_at p.now trace.now i }
 {
     let e = event_at(trace, i);
     let v = value_before(p, trace, codes::SOURCE, e.component, i);
-    if v.len() == 0 {
-        return 0;
-    }
-    wide(v[0])
+    wide(v.first().copied().unwrap_or(0))
 }
 
 // Whether the event is a copy or a swap that was done.
@@ -45,6 +43,7 @@ fn moves(e: Event) -> bool
 }
 
 // The component whose image before event i is component c's after it.
+#[tactic(auto, unfolding(crate::specs::Images::came_from))]
 fn came_from(p: &[u8], trace: &[u8], i: usize, c: usize) -> usize
     requires { event_bytes * i + event_bytes ≤ length trace.now }
     ensures { result ≡ came_from p.now trace.now i c }
@@ -55,15 +54,12 @@ fn came_from(p: &[u8], trace: &[u8], i: usize, c: usize) -> usize
     }
     let source = source_at(p, trace, i);
     if e.component == c {
-        return source;
+        source
+    } else if e.code != codes::COPY && source == c {
+        e.component
+    } else {
+        c
     }
-    if e.code == codes::COPY {
-        return c;
-    }
-    if source == c {
-        return e.component;
-    }
-    c
 }
 
 fn fetched_by(e: Event, c: usize) -> bool
@@ -102,11 +98,11 @@ fn name_of(p: &[u8], c: usize) -> &[u8]
     ensures { result.now ≡ name_of p.now c }
 {
     if p.len() < START_BYTES {
-        return &p[0..0];
+        return &[];
     }
     let s = after_components(&p[START_BYTES..], c);
     let Some(end) = size_of(s) else {
-        return &s[0..0];
+        return &[];
     };
     &s[NAME_BYTES..end]
 }
@@ -115,11 +111,8 @@ fn name_of(p: &[u8], c: usize) -> &[u8]
 fn present_image(slots: &[u8], k: usize) -> &[u8]
     ensures { result.now ≡ present_image slots.now k }
 {
-    if slots.len() / SLOT_BYTES <= k {
-        return &slots[0..0];
-    }
-    if !present(slots, k) {
-        return &slots[0..0];
+    if slots.len() / SLOT_BYTES <= k || !present(slots, k) {
+        return &[];
     }
     let at = SLOT_BYTES * k + IMAGE;
     &slots[at..at + IMAGE_BYTES]
@@ -130,21 +123,22 @@ pub(crate) fn lent_image<'a>(p: &[u8], slots: &'a [u8], c: usize) -> &'a [u8]
     ensures { result.now ≡ lent_image p.now slots.now c }
 {
     if !good_slots(slots) {
-        return &slots[0..0];
+        return &[];
     }
     let name = name_of(p, c);
     match slot_of(name, 0, name.len(), slots) {
         Some(k) => present_image(slots, k),
-        None => &slots[0..0],
+        None => &[],
     }
 }
 
 // The answer of number k, nothing if there is none.
+#[tactic(auto, unfolding(crate::specs::Images::answer_image))]
 pub(crate) fn answer_image(answers: &[u8], k: usize) -> &[u8]
     ensures { result.now ≡ answer_image answers.now k }
 {
     if answers.len() / IMAGE_BYTES <= k {
-        return &answers[0..0];
+        return &[];
     }
     let at = IMAGE_BYTES * k;
     &answers[at..at + IMAGE_BYTES]

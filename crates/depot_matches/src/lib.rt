@@ -24,6 +24,7 @@ use text::{least, put_byte};
 use values::value_before;
 
 // Why an image that is there, or none, did not match.
+#[tactic(auto, unfolding(crate::specs::Matches::note_of_image))]
 fn note_of_image(image: &[u8], digest: &[u8]) -> u8
     ensures { result ≡ note_of_image image.now digest.now }
 {
@@ -36,6 +37,7 @@ fn note_of_image(image: &[u8], digest: &[u8]) -> u8
     OTHER_DIGEST
 }
 
+#[tactic(auto, unfolding(crate::specs::Matches::note_of, crate::specs::Matches::image_from))]
 fn note_of(p: &[u8], trace: &[u8], slots: &[u8], answers: &[u8], j: usize) -> u8
     requires { event_bytes * j + event_bytes ≤ length trace.now }
     ensures { result ≡ note_of p.now trace.now slots.now answers.now j }
@@ -70,6 +72,7 @@ fn put_notes(
 }
 
 // The notes of the first events, as many of them as lie in the trace, as far as the room goes.
+#[tactic(auto, unfolding(crate::specs::Matches::notes_of))]
 pub fn note_matches(
     p: &[u8],
     trace: &[u8],

@@ -29,6 +29,7 @@ fn record_is(s: &[u8], e: Event) -> bool
     wide(s[CODE]) == e.code && wide(s[COMPONENT]) == e.component && two(s, PLACE) == e.place
 }
 
+#[tactic(auto, unfolding(crate::specs::Values::argument_in))]
 fn argument_in(s: &[u8]) -> &[u8]
     requires { ProgramFormat·recordSize + two_at s.now argument_from ≤ length s.now }
     ensures { result.now ≡ argument_in s.now }
@@ -58,12 +59,13 @@ fn argument_of(p: &[u8], e: Event) -> &[u8]
     ensures { result.now ≡ argument_of p.now e }
 {
     if p.len() < START_BYTES {
-        return &p[0..0];
+        return &[];
     }
     let records = after_components(&p[START_BYTES..], wide(p[START_COMPONENTS]));
     argument_among(records, two(p, START_RECORDS), e)
 }
 
+#[tactic(auto, unfolding(crate::specs::Values::entry_in))]
 fn entry_in(s: &[u8]) -> &[u8]
     requires { entry_size + get_or s.now entry_length_from 0 ≤ length s.now }
     ensures { result.now ≡ entry_in s.now }
@@ -92,26 +94,22 @@ fn value_in(s: &[u8], key: usize) -> &[u8]
 fn first_set<'a>(a: &'a [u8], b: &'a [u8]) -> &'a [u8]
     ensures { result.now ≡ first_set a.now b.now }
 {
-    if a.len() == 0 {
-        return b;
-    }
-    a
+    if a.is_empty() { b } else { a }
 }
 
 // The value of a key that component c has after an event, before which it was v.
+#[tactic(auto, unfolding(crate::specs::Values::value_after))]
 fn value_after<'a>(p: &'a [u8], e: Event, key: usize, c: usize, v: &'a [u8]) -> &'a [u8]
     ensures { result.now ≡ value_after p.now e key c v.now }
 {
     if e.component != c {
         return v;
     }
-    if e.code == codes::SET_PARAMETERS {
-        return first_set(v, value_in(argument_of(p, e), key));
+    match e.code {
+        codes::SET_PARAMETERS => first_set(v, value_in(argument_of(p, e), key)),
+        codes::OVERRIDE_PARAMETERS => first_set(value_in(argument_of(p, e), key), v),
+        _ => v,
     }
-    if e.code == codes::OVERRIDE_PARAMETERS {
-        return first_set(value_in(argument_of(p, e), key), v);
-    }
-    v
 }
 
 pub(crate) fn value_before<'a>(

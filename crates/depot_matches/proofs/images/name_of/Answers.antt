@@ -33,11 +33,11 @@ returns-in_default c =
       eq-eqb _ 0 (sized_none _ c.in_default.ensures.size),
     )
 
-pub slice_bounds-result-count-2 : goal.slice_bounds-result-count-2
-slice_bounds-result-count-2 c = omega (arith, component-end _ _ c.in-Some.ensures.size)
+pub slice_bounds-result-count : goal.slice_bounds-result-count
+slice_bounds-result-count c = omega (arith, component-end _ _ c.in-Some.ensures.size)
 
-pub slice_bounds-result-start-2 : goal.slice_bounds-result-start-2
-slice_bounds-result-start-2 c = omega (arith, component-end _ _ c.in-Some.ensures.size)
+pub slice_bounds-result-start : goal.slice_bounds-result-start
+slice_bounds-result-start c = omega (arith, component-end _ _ c.in-Some.ensures.size)
 
 pub returns : goal.returns
 unfolding name_of

@@ -1,8 +1,0 @@
-use borrow.Author.Tests.{eq-eqb, ne_eqb}
-use Rattle.depot_matches.proofs.values.first_set.Goals as goal
-
-pub returns-then-a-eq0 : goal.returns-then-a-eq0
-returns-then-a-eq0 c = rw (eq-eqb _ _ c.if-a-eq0.true)
-
-pub returns : goal.returns
-returns c = rw (ne_eqb _ _ c.if-a-eq0.false)
