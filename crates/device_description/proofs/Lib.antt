@@ -1,2 +1,3 @@
 pub mod ScenarioLaws
 pub mod Examples
+pub mod WordLaws

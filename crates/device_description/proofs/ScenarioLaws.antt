@@ -3,7 +3,8 @@ use Prim.Native.Nat.{ℕ, suc, ◌+◌, ◌≤◌}
 use mathlib.Core.Path.{◌≡◌, refl, sym, ap, ◌∙◌}
 use mathlib.Core.List.{List, [], ◌∷◌, ◌++◌}
 use mathlib.Core.Bool.{Bool, true, false, ◌&&◌, cond}
-use Rattle.std.specs.Option.{is_some}
+use Rattle.std.specs.Option.{is_some, unwrap_or, option_map}
+use Rattle.std.specs.Prelude.{Some, None}
 use lib.Dec.{leb}
 use borrow.Author.Tests.{leb-true}
 use native.Mathlib.Omega.{arith}
@@ -15,9 +16,11 @@ use Rattle.rules.specs.Bytes.{Bytes, same, put}
 use Rattle.rules.specs.Slots.{slot_bytes, answer_bytes}
 use Rattle.text.specs.Text.{ascii}
 use Rattle.rules.proofs.BytesLaws.{put-append}
-use Rattle.device_text.specs.Words.{lines, content, word, rest, is_number, is_bytes}
+use Rattle.device_text.specs.Words.{lines, content, word, rest, decimal, number, is_number, bytes, is_bytes}
 use Rattle.device_slots.specs.SlotText.{is_slot, slot, is_answer, answer}
 use Rattle.device_slots.proofs.LengthLaws.{slot-length, answer-length}
+use Rattle.device_description.specs.Values.{flag_if, name_of, set}
+use Rattle.device_description.specs.Scenario.{with_verdict, with_vendor, with_class, with_number, with_event}
 use Rattle.device_description.specs.Scenario.{passed, says, with_slots, with_answers, refused_at, verdict_line, vendor_line, class_line, number_line, event_line}
 use Rattle.device_description.specs.Scenario.{setting, Said, slot_line, answer_line, line, ◌then◌, start, lines_from, described, Describes, Took}
 use Rattle.device_description.specs.declared.Scenario.{Scenario}
@@ -80,6 +83,35 @@ module _ (n : ℕ) (d : Scenario) where
       (either (same w (ascii "class")) _ _ (keep_class t)
       (either (same w (ascii "number")) _ _ (keep_number t)
       (either (same w (ascii "event")) _ _ (keep_event t) refl))))
+
+-- a line that sets a value, or is refused
+pub set_setting : (n : ℕ) (d : Scenario) (w t : Bytes) → unwrap_or (set d w t) (refused_at n d) ≡ setting n d w t
+unfolding set setting verdict_line vendor_line class_line number_line event_line
+set_setting n d w t =
+    go (same w (ascii "verdict")) (same w (ascii "vendor")) (same w (ascii "class")) (same w (ascii "number")) (same w (ascii "event"))
+  where
+    flag : (a b : Bool) (f : Bool → Scenario) → unwrap_or (option_map f (flag_if a b)) (refused_at n d) ≡ cond a (f true) (cond b (f false) (refused_at n d))
+    flag true b f = refl
+    flag false true f = refl
+    flag false false f = refl
+
+    value : {X : Type 0} (a : Bool) (x : X) (f : X → Scenario) → unwrap_or (option_map f (cond a (Some x) None)) (refused_at n d) ≡ cond a (f x) (refused_at n d)
+    value true x f = refl
+    value false x f = refl
+
+    go : (a b c e f : Bool) → unwrap_or
+        (cond a (option_map (λ x. with_verdict x d) (flag_if (same t (ascii "good")) (same t (ascii "bad"))))
+        (cond b (option_map (λ x. with_vendor x d) (name_of t))
+        (cond c (option_map (λ x. with_class x d) (name_of t))
+        (cond e (option_map (λ x. with_number x d) (decimal t))
+        (cond f (option_map (λ x. with_event x d) (flag_if (same t (ascii "open")) (same t (ascii "closed")))) None))))) (refused_at n d)
+        ≡ cond a (verdict_line n d t) (cond b (vendor_line n d t) (cond c (class_line n d t) (cond e (number_line n d t) (cond f (event_line n d t) (refused_at n d)))))
+    go true b c e f = flag (same t (ascii "good")) (same t (ascii "bad")) (λ x. with_verdict x d)
+    go false true c e f = value (is_bytes limits.class t) (bytes t) (λ x. with_vendor x d)
+    go false false true e f = value (is_bytes limits.class t) (bytes t) (λ x. with_class x d)
+    go false false false true f = value (is_number t) (number t) (λ x. with_number x d)
+    go false false false false true = flag (same t (ascii "open")) (same t (ascii "closed")) (λ x. with_event x d)
+    go false false false false false = refl
 
 -- the counts after a line are those before it and what it adds, and within rooms of m and k bytes if they were
 record Counted (m k : ℕ) (d : Scenario) (x : Said) : Type 0 where

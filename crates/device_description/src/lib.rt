@@ -4,7 +4,7 @@
 ghost use Rattle.std.specs.Prelude.{◌≡◌, ◌&&◌, ◌+◌, leb, length};
 ghost use Rattle.rules.specs.Bytes.{same};
 ghost use Rattle.device_description.specs.Scenario as Rule;
-ghost use Rattle.device_description.specs.Values.{flag_if, name_of};
+ghost use Rattle.device_description.specs.Values.{flag_if, name_of, set};
 
 use byte_buffer::is;
 use device_slots::put::{put_answer, put_slot, sixteen};
@@ -41,12 +41,10 @@ pub struct Scenario {
 fn start() -> Scenario
     ensures { result ≡ Rule.start }
 {
-    let vendor = [0u8; Controller::CLASS_BYTES];
-    let class = [0u8; Controller::CLASS_BYTES];
     Scenario {
         verdict: true,
-        vendor,
-        class,
+        vendor: [0; Controller::CLASS_BYTES],
+        class: [0; Controller::CLASS_BYTES],
         number: 0,
         event: false,
         slots: 0,
@@ -55,11 +53,13 @@ fn start() -> Scenario
     }
 }
 
-fn refuse(mut d: Scenario, n: usize) -> Scenario
+fn refuse(d: Scenario, n: usize) -> Scenario
     ensures { result ≡ Rule.refused_at n d }
 {
-    d.refused = Some(n);
-    d
+    Scenario {
+        refused: Some(n),
+        ..d
+    }
 }
 
 // What a line says of a truth value, and of a vendor or class.
@@ -85,82 +85,31 @@ fn read_name(t: &[u8]) -> Option<Sixteen>
     }
 }
 
-// The lines that set a value: n is the number of the line, t what stands behind the word in front.
-#[tactic(auto, unfolding(crate::specs::Scenario::verdict_line))]
-fn verdict_line(mut d: Scenario, n: usize, t: &[u8]) -> Scenario
-    ensures { result ≡ Rule.verdict_line n d t.now }
+// The description with the value that a line sets: w is the word in front, t what stands behind it. None if that is not understood.
+#[tactic(auto, using(crate::proofs::WordLaws::not_same), unfolding(crate::specs::Values::set))]
+fn set(mut d: Scenario, w: &[u8], t: &[u8]) -> Option<Scenario>
+    ensures { result ≡ set d w.now t.now }
 {
-    let Some(good) = read_flag(t, b"good", b"bad") else {
-        return refuse(d, n);
+    let Ok(word) = str::from_utf8(w) else {
+        return None;
     };
-    d.verdict = good;
-    d
+    match word {
+        "verdict" => d.verdict = read_flag(t, b"good", b"bad")?,
+        "vendor" => d.vendor = read_name(t)?,
+        "class" => d.class = read_name(t)?,
+        "number" => d.number = decimal(t)?,
+        "event" => d.event = read_flag(t, b"open", b"closed")?,
+        _ => return None,
+    }
+    Some(d)
 }
 
-#[tactic(auto, unfolding(crate::specs::Scenario::event_line))]
-fn event_line(mut d: Scenario, n: usize, t: &[u8]) -> Scenario
-    ensures { result ≡ Rule.event_line n d t.now }
-{
-    let Some(open) = read_flag(t, b"open", b"closed") else {
-        return refuse(d, n);
-    };
-    d.event = open;
-    d
-}
-
-#[tactic(auto, unfolding(crate::specs::Scenario::vendor_line))]
-fn vendor_line(mut d: Scenario, n: usize, t: &[u8]) -> Scenario
-    ensures { result ≡ Rule.vendor_line n d t.now }
-{
-    let Some(vendor) = read_name(t) else {
-        return refuse(d, n);
-    };
-    d.vendor = vendor;
-    d
-}
-
-#[tactic(auto, unfolding(crate::specs::Scenario::class_line))]
-fn class_line(mut d: Scenario, n: usize, t: &[u8]) -> Scenario
-    ensures { result ≡ Rule.class_line n d t.now }
-{
-    let Some(class) = read_name(t) else {
-        return refuse(d, n);
-    };
-    d.class = class;
-    d
-}
-
-#[tactic(auto, unfolding(crate::specs::Scenario::number_line))]
-fn number_line(mut d: Scenario, n: usize, t: &[u8]) -> Scenario
-    ensures { result ≡ Rule.number_line n d t.now }
-{
-    let Some(number) = decimal(t) else {
-        return refuse(d, n);
-    };
-    d.number = number;
-    d
-}
-
-#[tactic(auto, unfolding(crate::specs::Scenario::setting))]
+// Line n, if it is one that sets a value.
+#[tactic(auto, using(crate::proofs::ScenarioLaws::set_setting))]
 fn setting(d: Scenario, n: usize, w: &[u8], t: &[u8]) -> Scenario
     ensures { result ≡ Rule.setting n d w.now t.now }
 {
-    if is(w, b"verdict") {
-        return verdict_line(d, n, t);
-    }
-    if is(w, b"vendor") {
-        return vendor_line(d, n, t);
-    }
-    if is(w, b"class") {
-        return class_line(d, n, t);
-    }
-    if is(w, b"number") {
-        return number_line(d, n, t);
-    }
-    if is(w, b"event") {
-        return event_line(d, n, t);
-    }
-    refuse(d, n)
+    set(d, w, t).unwrap_or(refuse(d, n))
 }
 
 // Whether something is what it should be, and its `width` bytes from `at` on fit a room of that length.
@@ -194,18 +143,11 @@ fn answer_line(mut d: Scenario, n: usize, t: &[u8], answers: &mut [u8]) -> Scena
     d
 }
 
-// A line that says nothing.
-fn passed(l: &[u8]) -> bool
-    ensures { result ≡ Rule.passed l.now }
-{
-    l.is_empty()
-}
-
 // One line.
 fn take_line(d: Scenario, n: usize, l: &[u8], slots: &mut [u8], answers: &mut [u8]) -> Scenario
     ensures { Rule.Takes (Rule.line (length slots.old) (length answers.old) n d l.now) d slots answers result }
 {
-    if passed(l) {
+    if l.is_empty() {
         return d;
     }
     let w = word(l);
