@@ -16,13 +16,11 @@ use text_pieces::put_labelled;
 fn put_state_fault(room: &mut [u8], at: usize, w: &[u8], t: &[u8]) -> usize
     ensures { Writes (state_fault w.now t.now) at room result }
 {
-    if is(w, b"present") {
-        return put_image_fault(room, at, b"slot", MOST_SLOTS, t);
-    }
-    if !is(w, b"absent") {
+    let present = is(w, b"present");
+    if !present && !is(w, b"absent") {
         return put(room, at, b"slot: neither present nor absent");
     }
-    if t.is_empty() {
+    if !present && t.is_empty() {
         return put_too_many(room, at, MOST_SLOTS, b"slot");
     }
     put_image_fault(room, at, b"slot", MOST_SLOTS, t)
