@@ -44,10 +44,10 @@ unfoldable pub error_text : Bytes → ℕ → Bytes
 error_text name n = named_text name ++ error_words n ++ ascii "\n"
 
 -- standard input has one reader
-unfoldable pub once_text : Bytes
+abbrev pub once_text : Bytes
 once_text = ascii "depot: standard input can be read only once\n"
 
-unfoldable pub nested_text : Bytes
+abbrev pub nested_text : Bytes
 nested_text = ascii "depot: a batch runs no batch\n"
 
 -- a command of a batch, and how it ended

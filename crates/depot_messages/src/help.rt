@@ -4,12 +4,14 @@ ghost use Rattle.depot_messages.specs.Help.{version_text, help_text};
 
 use text::put;
 
+#[tactic(auto, unfolding(crate::specs::Help::version_text))]
 pub(crate) fn put_version(room: &mut [u8], at: usize) -> usize
     ensures { Writes version_text at room result }
 {
     put(room, at, b"depot 0.7.0\n")
 }
 
+#[tactic(auto, unfolding(crate::specs::Help::help_text))]
 pub(crate) fn put_help(room: &mut [u8], at: usize) -> usize
     ensures { Writes help_text at room result }
 {

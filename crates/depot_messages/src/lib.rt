@@ -3,7 +3,7 @@
 
 ghost use Rattle.text.specs.Text.{Writes};
 ghost use Rattle.depot_messages.specs.Messages.{around, unknown_text, words_text, count_text, option_text, group_text};
-ghost use Rattle.depot_messages.specs.Messages.{named_text, long_text, error_text, command_text, status_text, once_text, nested_text, message_text};
+ghost use Rattle.depot_messages.specs.Messages.{named_text, long_text, error_text, command_text, status_text, message_text};
 
 use crate::errors::put_error_words;
 use crate::help::{put_help, put_version};
@@ -42,6 +42,7 @@ fn put_around(room: &mut [u8], at: usize, before: &[u8], name: &[u8], after: &[u
 }
 
 // The first word names no job.
+#[tactic(auto, unfolding(crate::specs::Messages::unknown_text))]
 fn put_unknown(room: &mut [u8], at: usize, word: &[u8]) -> usize
     ensures { Writes (unknown_text word.now) at room result }
 {
@@ -58,10 +59,10 @@ fn put_words(room: &mut [u8], at: usize, n: usize) -> usize
     ensures { Writes (words_text n) at room result }
 {
     let to = put_decimal(room, at, n);
-    if n == 1 {
-        return put(room, to, b" word");
+    match n {
+        1 => put(room, to, b" word"),
+        _ => put(room, to, b" words"),
     }
-    put(room, to, b" words")
 }
 
 // A job does not take n words behind the first.
@@ -74,6 +75,7 @@ fn put_count(room: &mut [u8], at: usize, word: &[u8], n: usize) -> usize
 }
 
 // The word where `--then` is understood.
+#[tactic(auto, unfolding(crate::specs::Messages::option_text))]
 fn put_option(room: &mut [u8], at: usize, word: &[u8]) -> usize
     ensures { Writes (option_text word.now) at room result }
 {
@@ -86,6 +88,7 @@ fn put_option(room: &mut [u8], at: usize, word: &[u8]) -> usize
     )
 }
 
+#[tactic(auto, unfolding(crate::specs::Messages::group_text))]
 fn put_group(room: &mut [u8], at: usize, word: &[u8]) -> usize
     ensures { Writes (group_text word.now) at room result }
 {
@@ -99,6 +102,7 @@ fn put_group(room: &mut [u8], at: usize, word: &[u8]) -> usize
 }
 
 // What stands before anything that is said of a file.
+#[tactic(auto, unfolding(crate::specs::Messages::named_text))]
 pub fn put_named(room: &mut [u8], at: usize, name: &[u8]) -> usize
     ensures { Writes (named_text name.now) at room result }
 {
@@ -123,20 +127,8 @@ fn put_error(room: &mut [u8], at: usize, name: &[u8], n: usize) -> usize
     put_byte(room, b, b'\n')
 }
 
-// Standard input has one reader.
-fn put_once(room: &mut [u8], at: usize) -> usize
-    ensures { Writes once_text at room result }
-{
-    put(room, at, b"depot: standard input can be read only once\n")
-}
-
-fn put_nested(room: &mut [u8], at: usize) -> usize
-    ensures { Writes nested_text at room result }
-{
-    put(room, at, b"depot: a batch runs no batch\n")
-}
-
 // A command of a batch, and how it ended.
+#[tactic(auto, unfolding(crate::specs::Messages::command_text))]
 fn put_command(room: &mut [u8], at: usize, line: &[u8]) -> usize
     ensures { Writes (command_text line.now) at room result }
 {
@@ -151,6 +143,7 @@ fn put_status(room: &mut [u8], at: usize, n: usize) -> usize
 }
 
 // A message about a word, a line or a file's name, and a number.
+#[tactic(auto, unfolding(crate::specs::Messages::message_text))]
 pub fn put_message(room: &mut [u8], at: usize, message: Message, word: &[u8], n: usize) -> usize
     ensures { Writes (message_text message word.now n) at room result }
 {
@@ -161,8 +154,8 @@ pub fn put_message(room: &mut [u8], at: usize, message: Message, word: &[u8], n:
         Message::Count => put_count(room, at, word, n),
         Message::Option => put_option(room, at, word),
         Message::Group => put_group(room, at, word),
-        Message::Once => put_once(room, at),
-        Message::Nested => put_nested(room, at),
+        Message::Once => put(room, at, b"depot: standard input can be read only once\n"),
+        Message::Nested => put(room, at, b"depot: a batch runs no batch\n"),
         Message::Long => put_long(room, at, word, n),
         Message::Error => put_error(room, at, word, n),
         Message::Command => put_command(room, at, word),
