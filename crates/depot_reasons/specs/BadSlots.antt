@@ -15,6 +15,10 @@ is_bad b k = not (good_slot (slot_at b k))
 abbrev pub twin_of : Bytes → ℕ → ℕ
 twin_of b i = slot_with (slot_at b i).id b (i + 1)
 
+-- slot i with its twin
+abbrev pub with_twin : Bytes → ℕ → ℕ × ℕ
+with_twin b i = (i, twin_of b i)
+
 abbrev pub is_twice : Bytes → ℕ → ℕ → Bool
 is_twice b n i = ltb (twin_of b i) n
 
@@ -36,16 +40,17 @@ bad_text b k =
     let n = get_or b (slot_bytes * k) 0 in
     labelled (ascii "  slot ") k ++ cond (ltb n 1) (length_text n) (cond (ltb limits.identifier n) (length_text n) (sizes_text b k))
 
-unfoldable pub twice_text : Bytes → ℕ → Bytes
-twice_text b i =
-    labelled (ascii "  slot ") (twin_of b i) ++ labelled (ascii " has the identifier of slot ") i ++ ascii ": " ++ identifier_text (slot_at b i).id ++ ascii "\n"
+-- slot k has the identifier of slot i
+unfoldable pub twice_text : Bytes → ℕ → ℕ → Bytes
+twice_text b i k =
+    labelled (ascii "  slot ") k ++ labelled (ascii " has the identifier of slot ") i ++ ascii ": " ++ identifier_text (slot_at b i).id ++ ascii "\n"
 
 -- of n slots
 unfoldable pub among_text : Bytes → ℕ → Bytes
 among_text b n =
     elim (first (is_bad b) n 0) [
       | Some k ↦ bad_text b k
-      | None ↦ elim (first (is_twice b n) n 0) [ Some i ↦ twice_text b i | None ↦ [] ]
+      | None ↦ elim (first (is_twice b n) n 0) [ Some i ↦ twice_text b i (twin_of b i) | None ↦ [] ]
     ]
 
 unfoldable pub bad_slots_text : Bytes → Bytes

@@ -14,7 +14,6 @@ use depot_run_types::Subject;
 use depot_slot_names::slot_with;
 use rules::answers::Refusal;
 use rules::controller::{Controller, Places};
-use rules::slot_format::SLOT_BYTES;
 use slots::put_bad_slots;
 use text::{least, put, put_byte};
 use text_pieces::{put_labelled, within};
@@ -44,10 +43,7 @@ fn has_no_slot(s: &[u8], ids: &Places, slots: &[u8], k: usize) -> bool
     ensures { result ≡ has_no_slot s.now ids.now slots.now k }
 {
     let p = within(s, ids[2 * k], ids[2 * k + 1]);
-    let a = p.from;
-    let b = p.to;
-    let found = slot_with(&s[a..b], slots, 0);
-    found == slots.len() / SLOT_BYTES
+    slot_with(&s[p.from..p.to], slots, 0).is_none()
 }
 
 fn first_without(s: &[u8], ids: &Places, n: usize, slots: &[u8]) -> Option<usize>

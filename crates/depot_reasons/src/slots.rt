@@ -1,10 +1,11 @@
 // 85: what is wrong with the slots, in the order of the rule.
-ghost use Rattle.std.specs.Prelude.{◌≡◌, ◌+◌, ◌*◌, ◌/◌, ◌≤◌, ◌<◌, length, IfSome};
-ghost use Rattle.rules.specs.Slots.{slot_bytes};
+ghost use Rattle.std.specs.Prelude.{◌≡◌, ◌+◌, ◌*◌, ◌/◌, ◌≤◌, ◌<◌, length, IfSome, option_map};
+ghost use Rattle.rules.specs.Slots.{slot_bytes, slot_at};
 ghost use Rattle.run_slots.specs.Slot.{Holds};
 ghost use Rattle.text.specs.Text.{Writes};
+ghost use Rattle.depot_slot_names.specs.Names.{next_slot};
 ghost use Rattle.depot_reasons.specs.First.{first};
-ghost use Rattle.depot_reasons.specs.BadSlots.{is_bad, twin_of, is_twice, ragged_text, too_many_text, length_text, sizes_text};
+ghost use Rattle.depot_reasons.specs.BadSlots.{is_bad, with_twin, is_twice, ragged_text, too_many_text, length_text, sizes_text};
 ghost use Rattle.depot_reasons.specs.BadSlots.{bad_text, twice_text, among_text, bad_slots_text};
 
 use byte_buffer::wide;
@@ -55,10 +56,7 @@ fn put_bad(room: &mut [u8], at: usize, slots: &[u8], k: usize) -> usize
 {
     let a = put_labelled(room, at, b"  slot ", k);
     let length = wide(slots[SLOT_BYTES * k]);
-    if length < 1 {
-        return put_length(room, a, length);
-    }
-    if Controller::IDENTIFIER_BYTES < length {
+    if length < 1 || Controller::IDENTIFIER_BYTES < length {
         return put_length(room, a, length);
     }
     put_sizes(room, a, slots, k)
@@ -78,31 +76,33 @@ fn first_bad(slots: &[u8], n: usize) -> Option<usize>
 }
 
 // The first slot after number i that has its identifier.
-fn twin(slots: &[u8], i: usize) -> usize
+fn twin(slots: &[u8], i: usize) -> Option<usize>
     requires { Holds slots.now i }
-    ensures { result ≡ twin_of slots.now i }
+    ensures { result ≡ next_slot (slot_at slots.now i).id slots.now (i + 1) }
 {
     slot_with(slot_name(slots, i), slots, i + 1)
 }
 
-fn first_twice(slots: &[u8], n: usize) -> Option<usize>
-    requires { slot_bytes * n ≤ length slots.now }
-    ensures which { result ≡ first (is_twice slots.now n) n 0 }
-    ensures below { IfSome result (λ i. i < n) }
+// The first slot that has a twin, and that.
+fn first_twice(slots: &[u8], n: usize) -> Option<(usize, usize)>
+    requires { n ≡ length slots.now / slot_bytes }
+    ensures which { result ≡ option_map (with_twin slots.now) (first (is_twice slots.now n) n 0) }
+    ensures below { IfSome result (λ p. p.0 < n) }
 {
     for i in 0..n {
-        if twin(slots, i) < n {
-            return Some(i);
+        if let Some(k) = twin(slots, i) {
+            return Some((i, k));
         }
     }
     None
 }
 
-fn put_twice(room: &mut [u8], at: usize, slots: &[u8], i: usize) -> usize
+// Slot k has the identifier of slot i.
+fn put_twice(room: &mut [u8], at: usize, slots: &[u8], i: usize, k: usize) -> usize
     requires { Holds slots.now i }
-    ensures { Writes (twice_text slots.now i) at room result }
+    ensures { Writes (twice_text slots.now i k) at room result }
 {
-    let a = put_labelled(room, at, b"  slot ", twin(slots, i));
+    let a = put_labelled(room, at, b"  slot ", k);
     let b = put_labelled(room, a, b" has the identifier of slot ", i);
     let c = put(room, b, b": ");
     let d = put_identifier(room, c, slot_name(slots, i));
@@ -111,14 +111,14 @@ fn put_twice(room: &mut [u8], at: usize, slots: &[u8], i: usize) -> usize
 
 // Of n slots, each by itself, then two of them.
 fn put_among(room: &mut [u8], at: usize, slots: &[u8], n: usize) -> usize
-    requires { slot_bytes * n ≤ length slots.now }
+    requires { n ≡ length slots.now / slot_bytes }
     ensures { Writes (among_text slots.now n) at room result }
 {
     if let Some(k) = first_bad(slots, n) {
         return put_bad(room, at, slots, k);
     }
-    if let Some(i) = first_twice(slots, n) {
-        return put_twice(room, at, slots, i);
+    if let Some((i, k)) = first_twice(slots, n) {
+        return put_twice(room, at, slots, i, k);
     }
     at
 }

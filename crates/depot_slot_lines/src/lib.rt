@@ -16,15 +16,15 @@ use text::{put, put_byte};
 use text_numbers::put_padded;
 use text_pieces::put_part;
 
-// The component whose slot it is: `-` where none of the n has its identifier.
-fn put_owner(room: &mut [u8], at: usize, owner: usize, n: usize) -> usize
-    ensures { Writes (owner_text owner n) at room result }
+// The component whose slot it is: `-` where none has its identifier.
+fn put_owner(room: &mut [u8], at: usize, owner: Option<usize>) -> usize
+    ensures { Writes (owner_text owner) at room result }
 {
     let a = put(room, at, b"  component ");
-    if owner < n {
-        return put_padded(room, a, owner, 2);
+    match owner {
+        Some(k) => put_padded(room, a, k, 2),
+        None => put(room, a, b" -"),
     }
-    put(room, a, b" -")
 }
 
 fn put_present(room: &mut [u8], at: usize, present: u8) -> usize
@@ -60,13 +60,13 @@ fn put_names(room: &mut [u8], at: usize, slots: &[u8], k: usize) -> usize
     put_byte(room, d, b'\n')
 }
 
-fn put_slot(room: &mut [u8], at: usize, slots: &[u8], k: usize, owner: usize, n: usize) -> usize
+fn put_slot(room: &mut [u8], at: usize, slots: &[u8], k: usize, owner: Option<usize>) -> usize
     requires { Holds slots.now k }
-    ensures { Writes (slot_text slots.now k owner n) at room result }
+    ensures { Writes (slot_text slots.now k owner) at room result }
 {
     let a = put(room, at, b"slot ");
     let b = put_padded(room, a, k, 2);
-    let c = put_owner(room, b, owner, n);
+    let c = put_owner(room, b, owner);
     let d = put_image(room, c, slots, k);
     put_names(room, d, slots, k)
 }
@@ -85,7 +85,7 @@ fn put_owned(
     ensures { Writes (owned_text slots.now s.now ids.now n k) at room result }
 {
     let owner = component_with(slot_name(slots, k), s, ids, n);
-    put_slot(room, at, slots, k, owner, n)
+    put_slot(room, at, slots, k, owner)
 }
 
 // The slots, as many as are whole, by the components of s.

@@ -2,12 +2,12 @@
 #![tactic(auto)]
 
 ghost use Rattle.std.specs.Prelude.{◌≡◌, ◌≤◌, ◌<◌};
-ghost use Rattle.rules.specs.Bytes.{same, index_of, bytes_at, span_at};
+ghost use Rattle.rules.specs.Bytes.{same, bytes_at, span_at};
 ghost use Rattle.rules.specs.Limits.{limits};
 ghost use Rattle.rules.specs.Slots.{slot_at};
 ghost use Rattle.run_slots.specs.Slot.{Holds};
 ghost use Rattle.run_slot_search.specs.Search.{names_at};
-ghost use Rattle.depot_slot_names.specs.Names.{slot_with};
+ghost use Rattle.depot_slot_names.specs.Names.{next_slot, found};
 
 use byte_buffer::{is, wide};
 use rules::controller::{Controller, Places};
@@ -23,8 +23,7 @@ pub fn slot_name(slots: &[u8], k: usize) -> &[u8]
     let p = SLOT_BYTES * k;
     let n = least(wide(slots[p]), Controller::IDENTIFIER_BYTES);
     let from = p + IDENTIFIER;
-    let to = from + n;
-    &slots[from..to]
+    &slots[from..from + n]
 }
 
 // Whether the slot of number k has that identifier.
@@ -35,17 +34,11 @@ fn has_name(id: &[u8], slots: &[u8], k: usize) -> bool
     is(id, slot_name(slots, k))
 }
 
-// The first slot from number `from` on that has the identifier; the first number that is no slot's, if none has it.
-pub fn slot_with(id: &[u8], slots: &[u8], from: usize) -> usize
-    ensures { result ≡ slot_with id.now slots.now from }
+// The first slot from number `from` on that has the identifier.
+pub fn slot_with(id: &[u8], slots: &[u8], from: usize) -> Option<usize>
+    ensures { result ≡ next_slot id.now slots.now from }
 {
-    let n = slots.len() / SLOT_BYTES;
-    for k in from..n {
-        if has_name(id, slots, k) {
-            return k;
-        }
-    }
-    from.max(n)
+    (from..slots.len() / SLOT_BYTES).find(|k| has_name(id, slots, *k))
 }
 
 // Whether component k has that identifier.
@@ -54,20 +47,13 @@ fn is_component(id: &[u8], s: &[u8], ids: &Places, k: usize) -> bool
     ensures { result ≡ same id.now (bytes_at s.now (span_at ids.now k)) }
 {
     let p = within(s, ids[2 * k], ids[2 * k + 1]);
-    let a = p.from;
-    let b = p.to;
-    is(id, &s[a..b])
+    is(id, &s[p.from..p.to])
 }
 
-// The first of n components that has the identifier, or n.
-pub fn component_with(id: &[u8], s: &[u8], ids: &Places, n: usize) -> usize
+// The first of n components that has the identifier.
+pub fn component_with(id: &[u8], s: &[u8], ids: &Places, n: usize) -> Option<usize>
     requires { n ≤ limits.components }
-    ensures { result ≡ index_of id.now (names_at s.now ids.now n) }
+    ensures { result ≡ found id.now (names_at s.now ids.now n) }
 {
-    for k in 0..n {
-        if is_component(id, s, ids, k) {
-            return k;
-        }
-    }
-    n
+    (0..n).find(|k| is_component(id, s, ids, *k))
 }
