@@ -18,6 +18,7 @@ use slots::put_bad_slots;
 use text::{least, put, put_byte};
 use text_pieces::{put_labelled, within};
 
+#[tactic(auto, unfolding(crate::specs::Reasons::group_text))]
 fn put_group(room: &mut [u8], at: usize, boot: bool) -> usize
     ensures { Writes (group_text boot) at room result }
 {

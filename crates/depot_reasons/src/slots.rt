@@ -123,6 +123,7 @@ fn put_among(room: &mut [u8], at: usize, slots: &[u8], n: usize) -> usize
     at
 }
 
+#[tactic(auto, unfolding(crate::specs::BadSlots::bad_slots_text))]
 pub(crate) fn put_bad_slots(room: &mut [u8], at: usize, slots: &[u8]) -> usize
     ensures { Writes (bad_slots_text slots.now) at room result }
 {

@@ -27,6 +27,7 @@ fn put_owner(room: &mut [u8], at: usize, owner: Option<usize>) -> usize
     }
 }
 
+#[tactic(auto, unfolding(crate::specs::SlotLines::present_text))]
 fn put_present(room: &mut [u8], at: usize, present: u8) -> usize
     ensures { Writes (present_text present) at room result }
 {
