@@ -7,7 +7,7 @@
 --          5 run a program:  the same, and the program
 --          6 head:           place (2); the envelope
 -- A string is its length in 2 bytes and that many bytes. Fields has the layout of a run's head.
-use Rattle.std.specs.Prelude.{ℕ, ◌-◌, ◌++◌, Bool, true, false, cond, eqb, ltb, length, get_or, take, drop, replicate, Result, Ok, Err}
+use Rattle.std.specs.Prelude.{ℕ, ◌-◌, ◌++◌, Bool, true, false, cond, eqb, ltb, length, get_or, take, drop, replicate, Option, Some, None, Result, Ok, Err}
 use Rattle.text.specs.Text.{ascii, newline}
 use Rattle.rules.specs.Bytes.{Bytes, two_at}
 use Rattle.rules.specs.Got.{Got}
@@ -68,21 +68,23 @@ head_read s (Err f) = head_text (Err f) (length s - f.at)
 unfoldable pub head_line : Bytes → ℕ → Bytes
 head_line s place = head_read s (read_of (Cbor.head s (length s) place))
 
+-- what a job says of the string at the start of b, which ends there, and of the bytes behind it
+abbrev pub if_string : Bytes → (Bytes → Bytes → Bytes) → Option ℕ → Bytes
+if_string b line None = malformed_text
+if_string b line (Some end) = line (take (end - 2) (drop 2 b)) (drop end b)
+
 unfoldable pub newer_case : Bytes → Bytes
-newer_case b =
-    cond (eqb (string_end b) 0) malformed_text (newer_line (take (string_end b - 2) (drop 2 b)) (drop (string_end b) b))
+newer_case b = if_string b newer_line (string_end b)
 
 unfoldable pub translate_case : Bytes → Bytes
 translate_case b = cond (ltb (length b) 3) malformed_text (translate_line (drop 3 b) (is_set b 0) (two_at b 1))
 
 -- b and c start with the strings
 unfoldable pub run_answers : Bool → Bytes → Bytes → Bytes → Bytes
-run_answers program head slots c =
-    cond (eqb (string_end c) 0) malformed_text (run_line program head slots (take (string_end c - 2) (drop 2 c)) (drop (string_end c) c))
+run_answers program head slots c = if_string c (run_line program head slots) (string_end c)
 
 unfoldable pub run_slots : Bool → Bytes → Bytes → Bytes
-run_slots program head b =
-    cond (eqb (string_end b) 0) malformed_text (run_answers program head (take (string_end b - 2) (drop 2 b)) (drop (string_end b) b))
+run_slots program head b = if_string b (run_answers program head) (string_end b)
 
 unfoldable pub run_case : Bool → Bytes → Bytes
 run_case program b = cond (ltb (length b) run_head) malformed_text (run_slots program (take run_head b) (drop run_head b))

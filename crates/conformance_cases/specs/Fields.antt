@@ -1,5 +1,5 @@
 -- The fields of a case.
-use Rattle.std.specs.Prelude.{ℕ, ◌+◌, ◌-◌, ◌≤◌, ◌<◌, ◌≡◌, Bool, cond, not, eqb, ltb, length, get_or}
+use Rattle.std.specs.Prelude.{ℕ, ◌+◌, ◌-◌, ◌≤◌, ◌<◌, ◌≡◌, Bool, cond, not, eqb, ltb, length, get_or, Option, Some, None, IfSome}
 use Rattle.rules.specs.Bytes.{Bytes, part, two_at, four_at}
 use Rattle.rules.specs.Limits.{limits}
 use Rattle.pitvorgas_answers.specs.declared.Device.{Device}
@@ -8,16 +8,16 @@ use Rattle.pitvorgas_answers.specs.declared.Device.{Device}
 abbrev pub is_set : Bytes → ℕ → Bool
 is_set b at = not (eqb (get_or b at 0) 0)
 
--- the end of a string at the start of b: its length in two bytes and that many bytes; 0 where b has no such string
-unfoldable pub string_end : Bytes → ℕ
-string_end b = cond (ltb (length b) 2) 0 (cond (ltb (length b - 2) (two_at b 0)) 0 (2 + two_at b 0))
+-- the end of a string at the start of b: its length in two bytes and that many bytes; none where b has no such string
+unfoldable pub string_end : Bytes → Option ℕ
+string_end b = cond (ltb (length b) 2) None (cond (ltb (length b - 2) (two_at b 0)) None (Some (2 + two_at b 0)))
 
 -- r is that end
-pub record StringAt (b : Bytes) (r : ℕ) : Type 0 where
+pub record StringAt (b : Bytes) (r : Option ℕ) : Type 0 where
   pub end : r ≡ string_end b
-  pub within : r ≤ length b
-  pub whole : (r ≡ 0 → ⊥) → 2 ≤ r
-  pub short : r < 65538
+  pub within : IfSome r (λ n. n ≤ length b)
+  pub whole : IfSome r (λ n. 2 ≤ n)
+  pub short : IfSome r (λ n. n < 65538)
 
 -- the head of a run: group 1, verdict 1, vendor 16, class 16, sequence number 4, event open 1, the trace's length 2, its bytes' value 1
 abbrev pub group_from : ℕ

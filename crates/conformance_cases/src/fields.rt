@@ -27,18 +27,18 @@ pub(crate) const FILL: usize = 41;
 
 pub(crate) const RUN_HEAD: usize = 42;
 
-// The end of the string at the start of b, or 0.
-pub(crate) fn string_end(b: &[u8]) -> usize
+// The end of the string at the start of b.
+pub(crate) fn string_end(b: &[u8]) -> Option<usize>
     ensures { StringAt b.now result }
 {
     if b.len() < 2 {
-        return 0;
+        return None;
     }
     let n = two(b, 0);
     if b.len() - 2 < n {
-        return 0;
+        return None;
     }
-    2 + n
+    Some(2 + n)
 }
 
 fn sixteen(b: &[u8], at: usize) -> Sixteen

@@ -39,10 +39,9 @@ fn put_malformed(room: &mut [u8]) -> usize
 fn newer_case(b: &[u8], room: &mut [u8]) -> usize
     ensures { Writes (newer_case b.now) 0 room result }
 {
-    let end = string_end(b);
-    if end == 0 {
+    let Some(end) = string_end(b) else {
         return put_malformed(room);
-    }
+    };
     newer_line(&b[2..end], &b[end..], room)
 }
 
@@ -60,10 +59,9 @@ fn run_answers(program: bool, head: &[u8], slots: &[u8], b: &[u8], room: &mut [u
     requires { (length head.now ≡ run_head) × (length slots.now < 65536) }
     ensures { Writes (run_answers program head.now slots.now b.now) 0 room result }
 {
-    let end = string_end(b);
-    if end == 0 {
+    let Some(end) = string_end(b) else {
         return put_malformed(room);
-    }
+    };
     run_line(program, head, slots, &b[2..end], &b[end..], room)
 }
 
@@ -71,10 +69,9 @@ fn run_slots(program: bool, head: &[u8], b: &[u8], room: &mut [u8]) -> usize
     requires { length head.now ≡ run_head }
     ensures { Writes (run_slots program head.now b.now) 0 room result }
 {
-    let end = string_end(b);
-    if end == 0 {
+    let Some(end) = string_end(b) else {
         return put_malformed(room);
-    }
+    };
     run_answers(program, head, &b[2..end], &b[end..], room)
 }
 
@@ -115,7 +112,7 @@ fn job_line(job: u8, b: &[u8], room: &mut [u8]) -> usize
 pub fn answer(case: &[u8], room: &mut [u8]) -> usize
     ensures { Writes (line_of case.now) 0 room result }
 {
-    if case.len() == 0 {
+    if case.is_empty() {
         return put_malformed(room);
     }
     job_line(case[0], &case[1..], room)

@@ -1,22 +1,12 @@
-use borrow.Author.Tests.{eq-eqb, ne_eqb}
 use Rattle.conformance_cases.specs.Cases.{newer_case}
 use Rattle.rules.proofs.BytesLaws.{part-rest}
 use Rattle.conformance_cases.proofs.newer_case.Goals as goal
 
-pub returns-then-end-eq0 : goal.returns-then-end-eq0
+pub returns-in_default : goal.returns-in_default
 unfolding newer_case
-returns-then-end-eq0 c =
-    rw (← c.string_end-end.ensures.end, eq-eqb _ _ c.if-end-eq0.true) c.put_malformed.ensures
-
-pub slice_bounds-newer_line-count : goal.slice_bounds-newer_line-count
-slice_bounds-newer_line-count c =
-    c.string_end-end.ensures.whole c.if-end-eq0.false
-
-pub slice_bounds-newer_line-start : goal.slice_bounds-newer_line-start
-slice_bounds-newer_line-start c =
-    c.string_end-end.ensures.whole c.if-end-eq0.false
+returns-in_default c = rw (← c.in_default.ensures.end) c.put_malformed.ensures
 
 pub returns : goal.returns
 unfolding newer_case
 returns c =
-    rw (← c.string_end-end.ensures.end, ne_eqb _ _ c.if-end-eq0.false) (rw (part-rest c.args.b.now c.string_end-end.result) at c.newer_line.ensures)
+    rw (← c.in-Some.ensures.end) (rw (part-rest c.args.b.now c.in-Some.end) at c.newer_line.ensures)
