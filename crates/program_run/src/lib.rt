@@ -14,14 +14,14 @@ use run_ending::{Outcome, ended, number_after, refused};
 // The run of a program that the test has accepted, by what the test found.
 fn run_tested(
     p: &[u8],
-    t: &Tested,
+    t: Tested,
     verdict: bool,
     device: Controller,
     slots: &mut [u8],
     answers: &[u8],
     trace: &mut [u8],
 ) -> Outcome
-    requires { Known p.now t.now }
+    requires { Known p.now t }
     ensures { Runs p.now verdict device slots answers.now trace result }
 {
     let request = Request {
@@ -30,17 +30,10 @@ fn run_tested(
         components: t.components,
         verdict,
     };
+    // a copy: to lend the program's own moves all that was found by memcpy, and the library for C needs nothing from outside but memset
+    let ids = t.ids;
     let mut memory = [0usize; MEMORY_NUMBERS];
-    if let Err(refusal) = admit(
-        p,
-        request,
-        &t.ids,
-        device,
-        slots,
-        answers,
-        trace,
-        &mut memory,
-    ) {
+    if let Err(refusal) = admit(p, request, &ids, device, slots, answers, trace, &mut memory) {
         return refused(refusal, 0, device);
     }
     let vendor = device.vendor;
@@ -77,5 +70,5 @@ pub fn run_program(
     let Some(t) = test_program(p) else {
         return refused(Refusal::BadProgram, 0, device);
     };
-    run_tested(p, &t, verdict, device, slots, answers, trace)
+    run_tested(p, t, verdict, device, slots, answers, trace)
 }

@@ -53,13 +53,16 @@ pub fn translate(s: &[u8], group: Group, room: &mut [u8]) -> Result<usize, Fault
     ensures { Translates (Rule.translate s.now group (length room.old)) result room.old room.new }
 {
     let report = check(s)?;
+    // copies: to lend the report's own moves it whole, by memcpy, and the library for C needs nothing from outside but memset
+    let ids = report.ids;
+    let sections = report.sections;
     translate_checked(
         s,
         group,
         report.number,
         report.components,
-        &report.ids,
-        &report.sections,
+        &ids,
+        &sections,
         room,
     )
 }
