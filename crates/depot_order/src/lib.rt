@@ -14,6 +14,7 @@ use text::put;
 use text_names::put_section;
 
 // The place after what was told of an order, and whether a name is in it.
+// No Option: the place is needed either way.
 #[derive(Clone, Copy)]
 pub struct Told {
     pub to: usize,
@@ -39,13 +40,15 @@ fn is_there(sections: &SectionPlaces, key: usize) -> bool
 }
 
 // What parts a name from that before it, or from the group.
+#[tactic(auto, unfolding(crate::specs::Order::parting))]
 fn put_parting(room: &mut [u8], at: usize, some: bool) -> usize
     ensures { Writes (parting some) at room result }
 {
     if some {
-        return put(room, at, b", ");
+        put(room, at, b", ")
+    } else {
+        put(room, at, b" ")
     }
-    put(room, at, b" ")
 }
 
 fn put_name(room: &mut [u8], told: Told, key: usize) -> Told
@@ -79,17 +82,18 @@ fn put_turn(room: &mut [u8], told: Told, common: bool, there: bool, key: usize) 
 }
 
 // Common alone, or the word for nothing.
+#[tactic(auto, unfolding(crate::specs::Order::order_text))]
 fn put_alone(room: &mut [u8], at: usize, common: bool) -> usize
     ensures { Writes (order_text (if_there common Commands-as-COMMON)) at room result }
 {
     if !common {
         return put(room, at, b" nothing");
     }
-    let before = Told {
+    let none = Told {
         to: at,
         some: false,
     };
-    put_name(room, before, COMMON).to
+    put_name(room, none, COMMON).to
 }
 
 // What is left to tell of a group whose sections were told: common, where there was none of them.
