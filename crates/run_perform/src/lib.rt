@@ -25,7 +25,14 @@ pub fn perform(
     ensures { Performs s.now command given vendor.now class.now answers.now slots memory trace result }
 {
     let d = act(s, command, given, vendor, class, answers, slots, memory);
-    put_event(trace, command.events, command.code, command.index, command.place, d.end);
+    put_event(
+        trace,
+        command.events,
+        command.code,
+        command.index,
+        command.place,
+        d.end,
+    );
     Progress {
         events: command.events + 1,
         used: d.used,

@@ -48,14 +48,14 @@ overflow_add-jumps c = omega (arith, c.loop-n.invariant.count)
 pub loop-n-preserved : goal.loop-n-preserved
 loop-n-preserved c =
     let r = end-room _ _ _ c.in_ok-next.ensures in
-      elim c.if-wide-lt-CODES.branch [
-        | then-wide-lt-CODES+else-not-command_fits w ↦
-            let (op, k) = is-command _ _ _ _ _ _ _ c.in_ok-next.ensures _ c.wide.ensures.0 w.if-wide-lt-CODES.true _ w.command_fits.ensures w.if-not-command_fits.false in
-            sofar_command _ _ _ _ _ _ _ _ c.loop-n.invariant (omega arith) _ _ r.1 op _ _ _ k w.jumps-is
-        | else-wide-lt-CODES+else-not-jump_fits w ↦
-            let k = is-jump _ _ _ _ _ _ _ c.in_ok-next.ensures _ c.wide.ensures.0 w.if-wide-lt-CODES.false _ w.jump_fits.ensures w.if-not-jump_fits.false in
-            sofar_jump _ _ _ _ _ _ _ _ c.loop-n.invariant (omega arith) _ _ r.1 _ k w.jumps-is
-      ]
+    elim c.if-wide-lt-CODES.branch [
+      | then-wide-lt-CODES+else-not-command_fits w ↦
+          let (op, k) = is-command _ _ _ _ _ _ _ c.in_ok-next.ensures _ c.wide.ensures.0 w.if-wide-lt-CODES.true _ w.command_fits.ensures w.if-not-command_fits.false in
+          sofar_command _ _ _ _ _ _ _ _ c.loop-n.invariant (omega arith) _ _ r.1 op _ _ _ k w.jumps-is
+      | else-wide-lt-CODES+else-not-jump_fits w ↦
+          let k = is-jump _ _ _ _ _ _ _ c.in_ok-next.ensures _ c.wide.ensures.0 w.if-wide-lt-CODES.false _ w.jump_fits.ensures w.if-not-jump_fits.false in
+          sofar_jump _ _ _ _ _ _ _ _ c.loop-n.invariant (omega arith) _ _ r.1 _ k w.jumps-is
+    ]
 
 pub overflow_sub-result : goal.overflow_sub-result
 overflow_sub-result c = omega (arith, c.loop-n.invariant.count)
