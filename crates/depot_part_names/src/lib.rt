@@ -52,16 +52,11 @@ fn put_section_title(room: &mut [u8], at: usize, key: usize) -> usize
 fn put_manifest_title(room: &mut [u8], at: usize, key: usize) -> usize
     ensures { Writes (manifest_title key) at room result }
 {
-    if COMMON < key {
-        return put_section_title(room, at, key);
-    }
-    if key == COMMON {
-        return at;
-    }
-    if key == NUMBER_KEY {
-        put(room, at, b"manifest, sequence number")
-    } else {
-        put(room, at, b"manifest, version")
+    match key {
+        COMMON => at,
+        NUMBER_KEY => put(room, at, b"manifest, sequence number"),
+        _ if COMMON < key => put_section_title(room, at, key),
+        _ => put(room, at, b"manifest, version"),
     }
 }
 
@@ -129,11 +124,12 @@ pub fn put_key(room: &mut [u8], at: usize, part: Part, n: usize, key: usize) -> 
     ensures { Writes (key_text part n key) at room result }
 {
     if shape_of(part).kind == cbor::MAP {
-        let a = put_name(room, at, part);
-        return put(room, a, b", key");
+        let to = put_name(room, at, part);
+        put(room, to, b", key")
+    } else {
+        let to = put_entry(room, at, part, n, key);
+        put(room, to, b", code")
     }
-    let b = put_entry(room, at, part, n, key);
-    put(room, b, b", code")
 }
 
 pub fn put_left_over(room: &mut [u8], at: usize, part: Part) -> usize

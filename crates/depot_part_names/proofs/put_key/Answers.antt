@@ -6,9 +6,9 @@ use Rattle.depot_part_names.proofs.put_key.Goals as goal
 pub returns-then-shape_of-eq-MAP : goal.returns-then-shape_of-eq-MAP
 unfolding key_text
 returns-then-shape_of-eq-MAP c =
-    rw (← c.shape_of.ensures, eq-eqb _ _ c.if-shape_of-eq-MAP.true) (wrote_then c.put_name-a.ensures c.put.ensures)
+    rw (← c.shape_of.ensures, eq-eqb _ _ c.if-shape_of-eq-MAP.true) (wrote_then c.put_name-to.ensures c.put.ensures)
 
-pub returns : goal.returns
+pub returns-else-shape_of-eq-MAP : goal.returns-else-shape_of-eq-MAP
 unfolding key_text
-returns c =
-    rw (← c.shape_of.ensures, ne_eqb _ _ c.if-shape_of-eq-MAP.false) (wrote_then c.put_entry-b.ensures c.put-2.ensures)
+returns-else-shape_of-eq-MAP c =
+    rw (← c.shape_of.ensures, ne_eqb _ _ c.if-shape_of-eq-MAP.false) (wrote_then c.put_entry-to.ensures c.put-else-shape_of-eq-MAP.ensures)
