@@ -5,34 +5,42 @@ ghost use Rattle.std.specs.Prelude.{◌≡◌, ◌+◌, ◌*◌, ◌/◌, ◌≤
 ghost use Rattle.rules.specs.Step.{event_bytes};
 ghost use Rattle.text.specs.Text.{Writes};
 ghost use Rattle.text_pieces.specs.Pieces.{lines};
-ghost use Rattle.depot_events.specs.Events.{note_text, fields_text, event_text, events_text};
+ghost use Rattle.depot_events.specs.Notes.{note_of_byte};
+ghost use Rattle.depot_events.specs.Events.{note_words, note_text, fields_text, event_text, events_text};
 
 pub mod notes;
 
 use byte_buffer::{two, wide};
-use notes::{NO_NOTE, OTHER_DIGEST, OTHER_SIZE, SLOT_ABSENT};
+use notes::{NO_NOTE, Note};
 use rules::event_format::{CODE, COMPONENT, EVENT_BYTES, PLACE, RESULT};
 use text::{least, put, put_byte, put_spaces};
 use text_names::{put_command_wide, put_result};
 use text_numbers::put_padded;
 
 // The note of an event, none if there is no byte for it.
-fn note_at(notes: &[u8], k: usize) -> u8
-    ensures { result ≡ get_or notes.now k 0 }
+fn note_at(notes: &[u8], k: usize) -> Option<Note>
+    ensures { result ≡ note_of_byte (get_or notes.now k 0) }
 {
-    notes.get(k).copied().unwrap_or(NO_NOTE)
+    Note::of_byte(notes.get(k).copied().unwrap_or(NO_NOTE))
 }
 
 // What a note adds to the result.
-#[tactic(auto, using(text::proofs::TextLaws::wrote_none), unfolding(crate::specs::Events::note_text))]
-fn put_note(room: &mut [u8], at: usize, note: u8) -> usize
+fn note_words(note: Note) -> &'static [u8]
+    ensures { result.now ≡ note_words note }
+{
+    match note {
+        Note::SlotAbsent => b": slot absent",
+        Note::OtherDigest => b": other digest",
+        Note::OtherSize => b": other size",
+    }
+}
+
+fn put_note(room: &mut [u8], at: usize, note: Option<Note>) -> usize
     ensures { Writes (note_text note) at room result }
 {
     match note {
-        SLOT_ABSENT => put(room, at, b": slot absent"),
-        OTHER_DIGEST => put(room, at, b": other digest"),
-        OTHER_SIZE => put(room, at, b": other size"),
-        _ => at,
+        Some(note) => put(room, at, note_words(note)),
+        None => at,
     }
 }
 
@@ -42,7 +50,7 @@ fn put_fields(
     component: usize,
     place: usize,
     res: usize,
-    note: u8,
+    note: Option<Note>,
 ) -> usize
     ensures { Writes (fields_text component place res note) at room result }
 {
