@@ -6,6 +6,7 @@ ghost use Rattle.std.proofs.lemmas.List.Edits.{sets};
 ghost use Rattle.rules.specs.Step.{event_bytes};
 ghost use Rattle.text.specs.Text.{Writes};
 ghost use Rattle.text_pieces.specs.Pieces.{lines};
+ghost use Rattle.depot_events.specs.Notes.{note_byte};
 ghost use Rattle.depot_matches.specs.Matches.{note_of_image, note_of, notes_of};
 
 mod events;
@@ -13,7 +14,7 @@ mod images;
 mod values;
 
 use byte_buffer::is;
-use depot_events::notes::{NO_NOTE, OTHER_DIGEST, OTHER_SIZE, SLOT_ABSENT};
+use depot_events::notes::{NO_NOTE, Note};
 use events::{event_at, is_of};
 use images::{ImageOrigin, answer_image, lent_image, origin};
 use rules::answers::End;
@@ -25,32 +26,39 @@ use values::value_before;
 
 // Why an image that is there, or none, did not match.
 #[tactic(auto, unfolding(crate::specs::Matches::note_of_image))]
-fn note_of_image(image: &[u8], digest: &[u8]) -> u8
+fn note_of_image(image: &[u8], digest: &[u8]) -> Note
     ensures { result ≡ note_of_image image.now digest.now }
 {
     if image.len() < IMAGE_BYTES {
-        return SLOT_ABSENT;
+        return Note::SlotAbsent;
     }
     if is(&image[DIGEST..], digest) {
-        return OTHER_SIZE;
+        return Note::OtherSize;
     }
-    OTHER_DIGEST
+    Note::OtherDigest
 }
 
 #[tactic(auto, unfolding(crate::specs::Matches::note_of, crate::specs::Matches::image_from))]
-fn note_of(p: &[u8], trace: &[u8], slots: &[u8], answers: &[u8], j: usize) -> u8
+fn note_of(p: &[u8], trace: &[u8], slots: &[u8], answers: &[u8], j: usize) -> Option<Note>
     requires { event_bytes * j + event_bytes ≤ length trace.now }
     ensures { result ≡ note_of p.now trace.now slots.now answers.now j }
 {
     let e = event_at(trace, j);
     if !is_of(e, codes::IMAGE_MATCH, End::CONDITION_FAILED) {
-        return NO_NOTE;
+        return None;
     }
     let digest = value_before(p, trace, codes::DIGEST, e.component, j);
-    match origin(p, trace, e.component, j) {
-        ImageOrigin::Slot(c) => note_of_image(lent_image(p, slots, c), digest),
-        ImageOrigin::Answer(k) => note_of_image(answer_image(answers, k), digest),
-    }
+    let image = match origin(p, trace, e.component, j) {
+        ImageOrigin::Slot(c) => lent_image(p, slots, c),
+        ImageOrigin::Answer(k) => answer_image(answers, k),
+    };
+    Some(note_of_image(image, digest))
+}
+
+fn byte_of(note: Option<Note>) -> u8
+    ensures { result ≡ note_byte note }
+{
+    note.map_or(NO_NOTE, u8::from)
 }
 
 fn put_notes(
@@ -62,11 +70,11 @@ fn put_notes(
     answers: &[u8],
 ) -> usize
     requires { event_bytes * n ≤ length trace.now }
-    ensures { Writes (lines (λ j. note_of p.now trace.now slots.now answers.now j ∷ []) n) 0 notes result }
+    ensures { Writes (lines (λ j. note_byte (note_of p.now trace.now slots.now answers.now j) ∷ []) n) 0 notes result }
 {
     let mut to = 0;
     for j in 0..n {
-        to = put_byte(notes, to, note_of(p, trace, slots, answers, j));
+        to = put_byte(notes, to, byte_of(note_of(p, trace, slots, answers, j)));
     }
     to
 }

@@ -12,7 +12,7 @@ note_of-requires c = omega (arith, c.loop-j-test.true)
 
 pub loop-j-preserved : goal.loop-j-preserved
 loop-j-preserved c =
-    lines_next _ _ c.loop-j.invariant (rw c.note_of.ensures at c.put_byte-to.ensures)
+    lines_next _ _ c.loop-j.invariant (rw (c.byte_of.ensures, c.note_of.ensures) at c.put_byte-to.ensures)
 
 pub shape_of-notes : goal.shape_of-notes
 shape_of-notes c = wrote-length c.loop-j.invariant
