@@ -51,7 +51,7 @@ fn past(p: &[u8], at: usize, to: usize, key: usize) -> usize
 }
 
 // Of a parameter that stands from `at` to `next`, where its value starts, and its length. 0 for none stays:
-// these go into Params, whose numbers lie in lent memory (the C interface gives it).
+// these go into Params, which a run keeps as numbers in memory of fixed size.
 fn place_of(at: usize, next: usize) -> usize
     requires { (at ≡ next → ⊥) → at + entry_size ≤ next }
     ensures { result ≡ place_in at next }
