@@ -86,18 +86,20 @@ pub fn repeated_one(s: &[u8], ids: &Places, count: usize) -> Option<usize>
     requires { (count ≤ limits.components) × InBytes ids.now count (length s.now) }
     ensures { result ≡ repeated s.now ids.now count }
 {
-    for j in 0..count {
-        let later = ids[2 * j];
-        let size = ids[2 * j + 1] - later;
-        for i in 0..j {
-            let earlier = ids[2 * i];
-            let width = ids[2 * i + 1] - earlier;
-            if same_bytes(s, later, size, earlier, width) {
-                return Some(j);
+    'pairs: {
+        for j in 0..count {
+            let later = ids[2 * j];
+            let size = ids[2 * j + 1] - later;
+            for i in 0..j {
+                let earlier = ids[2 * i];
+                let width = ids[2 * i + 1] - earlier;
+                if same_bytes(s, later, size, earlier, width) {
+                    break 'pairs Some(j);
+                }
             }
         }
+        None
     }
-    None
 }
 
 // The component list: how many identifiers, and their places.

@@ -28,8 +28,8 @@ loop-i-preserved c = c.loop-i.invariant ∙ among_next _ _ _ _ (omega arith) (sy
 pub loop-j-preserved : goal.loop-j-preserved
 loop-j-preserved c = c.loop-j.invariant ∙ search_next _ _ _ _ (omega arith) (c.loop-i.invariant ∙ among-end _ _ _ _ (omega arith))
 
-pub returns : goal.returns
-returns c = sym (c.loop-j.invariant ∙ search_end _ _ _ _ (omega arith))
+pub returns-after-loop-j : goal.returns-after-loop-j
+returns-after-loop-j c = sym (c.loop-j.invariant ∙ search_end _ _ _ _ (omega arith))
 
 pub returns-then-same_bytes : goal.returns-then-same_bytes
 returns-then-same_bytes c =
