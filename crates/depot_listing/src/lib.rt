@@ -22,9 +22,10 @@ fn put_group(room: &mut [u8], at: usize, group: usize) -> usize
     ensures { Writes (group_text group) at room result }
 {
     if group == wide(Group::Boot.number()) {
-        return put(room, at, b"boot");
+        put(room, at, b"boot")
+    } else {
+        put(room, at, b"install")
     }
-    put(room, at, b"install")
 }
 
 fn put_counts(room: &mut [u8], at: usize, components: usize, records: usize) -> usize

@@ -68,12 +68,11 @@ pub fn put_run(
 ) -> usize
     ensures { Writes (run_text answer subject s.now trace.now notes.now slots.now) at room result }
 {
-    if answer.refusal == 0 {
-        let ids = subject.ids;
-        let n = least(subject.components, Controller::COMPONENTS);
-        let a = put_events(room, at, trace, notes, answer.events);
-        let b = put_ran(room, a, answer);
-        return put_slots(room, b, slots, s, &ids, n);
+    if answer.refusal != 0 {
+        return put_stopped(room, at, answer, subject, s, slots);
     }
-    put_stopped(room, at, answer, subject, s, slots)
+    let n = least(subject.components, Controller::COMPONENTS);
+    let a = put_events(room, at, trace, notes, answer.events);
+    let b = put_ran(room, a, answer);
+    put_slots(room, b, slots, s, &subject.ids, n)
 }

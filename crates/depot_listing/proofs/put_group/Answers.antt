@@ -10,7 +10,7 @@ unfolding group_text
 returns-then-group-wide c =
     rw (eq-eqb _ (group_number Boot) (c.if-group-wide.true ∙ c.wide.ensures.0 ∙ c.number.ensures)) c.put.ensures
 
-pub returns : goal.returns
+pub returns-else-group-wide : goal.returns-else-group-wide
 unfolding group_text
-returns c =
-    rw (ne_eqb _ (group_number Boot) (λ e. c.if-group-wide.false (e ∙ sym (c.wide.ensures.0 ∙ c.number.ensures)))) c.put-2.ensures
+returns-else-group-wide c =
+    rw (ne_eqb _ (group_number Boot) (λ e. c.if-group-wide.false (e ∙ sym (c.wide.ensures.0 ∙ c.number.ensures)))) c.put-else-group-wide.ensures

@@ -7,12 +7,12 @@ use Rattle.depot_outcome.proofs.put_run.Goals as goal
 pub put_slots-requires : goal.put_slots-requires
 put_slots-requires c = omega (arith, c.least-n.ensures)
 
-pub returns-then-answer-eq0 : goal.returns-then-answer-eq0
+pub returns-then-answer-ne0 : goal.returns-then-answer-ne0
 unfolding run_text
-returns-then-answer-eq0 c =
-    rw (eq-eqb _ 0 c.if-answer-eq0.true, ← c.least-n.ensures) (wrote_then (wrote_then c.put_events-a.ensures c.put_ran-b.ensures) c.put_slots.ensures)
+returns-then-answer-ne0 c =
+    rw (ne_eqb _ 0 c.if-answer-ne0.true) c.put_stopped.ensures
 
 pub returns : goal.returns
 unfolding run_text
 returns c =
-    rw (ne_eqb _ 0 c.if-answer-eq0.false) c.put_stopped.ensures
+    rw (eq-eqb _ 0 c.if-answer-ne0.false, ← c.least-n.ensures) (wrote_then (wrote_then c.put_events-a.ensures c.put_ran-b.ensures) c.put_slots.ensures)
