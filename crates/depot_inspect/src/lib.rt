@@ -37,16 +37,14 @@ fn put_shown(room: &mut [u8], envelope: &[u8]) -> usize
     if answer.refusal != 0 {
         return put_refused(room, 0, answer.refusal, answer.place, envelope);
     }
-    let ids = answer.ids;
-    let sections = answer.sections;
     put_parts(
         room,
         0,
         envelope,
         answer.number,
         answer.components,
-        &ids,
-        &sections,
+        &answer.ids,
+        &answer.sections,
     )
 }
 
@@ -55,24 +53,20 @@ pub fn put_newest(room: &mut [u8], first: &[u8], second: &[u8]) -> usize
     ensures { Writes (newest_text first.now second.now) 0 room result }
 {
     let answer = pitvorgas_newer(first, second);
-    let which = answer.second;
-    if which == 0 {
-        let checked = pitvorgas_check(first);
-        return put_newer(room, 0, answer, checked.number);
-    }
-    let checked = pitvorgas_check(second);
-    put_newer(room, 0, answer, checked.number)
+    let newest = if answer.second == 0 { first } else { second };
+    put_newer(room, 0, answer, pitvorgas_check(newest).number)
 }
 
 // Refused where both are: then no manifest is handed back.
+#[tactic(auto, unfolding(crate::specs::Printed::newest_status))]
 pub fn newest_status(first: &[u8], second: &[u8]) -> usize
     ensures { result ≡ newest_status first.now second.now }
 {
-    let answer = pitvorgas_newer(first, second);
-    if answer.to == 0 {
-        return REFUSED;
+    if pitvorgas_newer(first, second).to == 0 {
+        REFUSED
+    } else {
+        DONE
     }
-    DONE
 }
 
 // The records of a program; below its refusal, if it is refused.
@@ -91,16 +85,16 @@ fn listed_status(program: &[u8]) -> usize
     ensures { result ≡ listed_status program.now }
 {
     if pitvorgas_test_program(program) {
-        return DONE;
+        DONE
+    } else {
+        REFUSED
     }
-    REFUSED
 }
 
 fn check_status(envelope: &[u8]) -> usize
     ensures { result ≡ check_status envelope.now }
 {
-    let answer = pitvorgas_check(envelope);
-    refusal_status(answer.refusal)
+    refusal_status(pitvorgas_check(envelope).refusal)
 }
 
 #[tactic(auto, unfolding(crate::specs::Printed::view_text))]
