@@ -85,11 +85,9 @@ fn put_head(room: &mut [u8], at: usize, number: usize) -> usize
 fn put_accepted(room: &mut [u8], at: usize, answer: CheckAnswer, envelope: &[u8]) -> usize
     ensures { Writes (accepted_text answer envelope.now) at room result }
 {
-    let ids = answer.ids;
-    let sections = answer.sections;
     let a = put_head(room, at, answer.number);
-    let b = put_components(room, a, envelope, &ids, answer.components);
-    let c = put_sections(room, b, &sections);
+    let b = put_components(room, a, envelope, &answer.ids, answer.components);
+    let c = put_sections(room, b, &answer.sections);
     put_manifest(room, c, answer.from, answer.to)
 }
 
