@@ -13,6 +13,7 @@ use pitvorgas_answers::{Device, RunAnswer};
 fn device_of(d: Scenario) -> Device
     ensures { result ≡ device_of d }
 {
+    // Copied first: the borrow checker takes no array from a field into a literal.
     let vendor = d.vendor;
     let class = d.class;
     Device {

@@ -17,6 +17,7 @@ fn of_envelope(boot: bool, envelope: &[u8]) -> Subject
     ensures { result ≡ of_checked boot (checked_of (check envelope.now)) }
 {
     let a = pitvorgas_check(envelope);
+    // Copied first: the borrow checker takes no array from a field into a literal.
     let ids = a.ids;
     Subject {
         boot,
@@ -43,6 +44,7 @@ fn of_program(program: &[u8]) -> Subject
             ids: [0; PLACES],
         };
     };
+    // Copied first, as above.
     let ids = t.ids;
     Subject {
         boot: is_boot(t.group),
