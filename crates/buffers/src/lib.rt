@@ -1,7 +1,7 @@
 // Buffers of fixed size, and a read that fills one.
 #![tactic(auto)]
 
-ghost use Rattle.std.specs.Prelude.{◌≡◌, ℕ, ◌<◌, length, take, IfOk, OnErr};
+ghost use Rattle.std.specs.Prelude.{◌≡◌, ℕ, ◌<◌, length, take, replicate, IfOk, OnErr};
 ghost use Rattle.std.specs.Io.{ReadsAtMost};
 ghost use Rattle.std.specs.Io.KnownBytes.{Consumes, IsAtEnd};
 
@@ -9,17 +9,17 @@ use std::io;
 use std::io::Read;
 
 // Room for an argument of the command line, or a line.
-pub fn buffer() -> [u8; 4096]
-    ensures { 4096 ≡ length result }
-{
-    [0; 4096]
-}
+pub const LINE_BYTES: usize = 4096;
 
 // Room for a file.
-pub fn large_buffer() -> [u8; 65536]
-    ensures { 65536 ≡ length result }
+pub const FILE_BYTES: usize = 65536;
+
+// An array of zeros, as long as its caller says.
+pub fn zeroed<const N: usize>() -> [u8; N]
+    ensures zeros { result ≡ replicate N 0 }
+    ensures size { N ≡ length result }
 {
-    [0; 65536]
+    [0; N]
 }
 
 // Reads until the buffer is full or the input ends, and gives how many bytes it put at the start of the buffer. Where a read

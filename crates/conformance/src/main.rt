@@ -2,23 +2,17 @@
 // and that many bytes.
 #![tactic(auto)]
 
-ghost use Rattle.std.specs.Prelude.{◌≡◌, length};
-
-use buffers::{large_buffer, read_full};
+use buffers::{FILE_BYTES, read_full, zeroed};
 use byte_buffer::two;
 use std::io;
 use std::io::Read;
 
 // Room for any line: a program of 65,535 bytes in hexadecimal, and the words around it.
-fn room() -> [u8; 140000]
-    ensures { 140000 ≡ length result }
-{
-    [0; 140000]
-}
+const ANSWER_BYTES: usize = 140000;
 
 // Writes the line of a case.
 fn write_line(rt: &impl Print, case: &[u8]) -> io::Result<()> {
-    let mut line = room();
+    let mut line: [u8; ANSWER_BYTES] = zeroed();
     let to = conformance_cases::answer(case, &mut line);
     rt.write_all(&line[..to])
 }
@@ -39,7 +33,7 @@ fn answer_next(rt: &impl Print, input: &mut impl Read) -> io::Result<bool> {
         return Ok(false);
     }
     let n = two(&head, 0);
-    let mut case = large_buffer();
+    let mut case: [u8; FILE_BYTES] = zeroed();
     answer_case(rt, input, &mut case[..n])?;
     Ok(true)
 }

@@ -6,10 +6,11 @@ ghost use Rattle.conformance_cases.specs.Fields.{run_head, device_of};
 ghost use Rattle.conformance_cases.specs.Cases.{check_line, newer_line, translate_line, ran_by, run_filled, run_line, head_line};
 
 use crate::fields::{FILL, GROUP, TRACE, VERDICT, device_of};
+use buffers::zeroed;
 use byte_buffer::two;
 use cbor_reader::{head_at, left_at};
 use conformance_check_lines::put_checked;
-use conformance_lent::{ROOM_FILL, fill, memory, put_run, put_translation};
+use conformance_lent::{MEMORY_BYTES, ROOM_FILL, fill, put_run, put_translation};
 use conformance_lines::{put_head, put_newer};
 use pitvorgas::{
     pitvorgas_check, pitvorgas_newer, pitvorgas_run, pitvorgas_run_program, pitvorgas_translate,
@@ -42,7 +43,7 @@ pub(crate) fn translate_line(envelope: &[u8], boot: bool, n: usize, room: &mut [
     requires { n < 65536 }
     ensures { Writes (translate_line envelope.now boot n) 0 room result }
 {
-    let mut lent = memory();
+    let mut lent: [u8; MEMORY_BYTES] = zeroed();
     translate_into(envelope, boot, &mut lent[..n], room)
 }
 
@@ -99,8 +100,8 @@ pub(crate) fn run_line(
     requires { (length head.now ≡ run_head) × (length before.now < 65536) }
     ensures { Writes (run_line program head.now before.now answers.now s.now) 0 room result }
 {
-    let mut slots = memory();
-    let mut trace = memory();
+    let mut slots: [u8; MEMORY_BYTES] = zeroed();
+    let mut trace: [u8; MEMORY_BYTES] = zeroed();
     let n = before.len();
     let length = two(head, TRACE);
     run_with(

@@ -14,12 +14,8 @@ use text::{least, put};
 // What a room is filled with.
 pub const ROOM_FILL: u8 = 160;
 
-// Bytes for a length of two bytes; what they are does not matter.
-pub fn memory() -> [u8; 65536]
-    ensures { 65536 ≡ length result }
-{
-    [0; 65536]
-}
+// Room for a length of two bytes; what bytes it has does not matter.
+pub const MEMORY_BYTES: usize = 65536;
 
 pub fn fill(b: &mut [u8], x: u8)
     ensures { b.new ≡ replicate (length b.old) x }

@@ -1,6 +1,6 @@
 // A batch: a command on each line of a file. Messages go to standard output too, and each command's status stands below it.
 use crate::command::run_command;
-use buffers::large_buffer;
+use buffers::{FILE_BYTES, zeroed};
 use depot_files::files::load;
 use depot_files::streams::{Streams, fitted, tell};
 use depot_messages::Message;
@@ -17,7 +17,7 @@ fn run_line(rt: &(impl Files + Input), line: &[u8], streams: Streams) -> usize {
         return DONE;
     }
     tell(streams, Message::Command, line, 0, DONE);
-    let mut words = large_buffer();
+    let mut words: [u8; FILE_BYTES] = zeroed();
     let n = put_words(&mut words, 0, line);
     let m = fitted(&words, n);
     let status = run_command(rt, &words[..m], streams);
@@ -35,7 +35,7 @@ fn run_lines(rt: &(impl Files + Input), text: &[u8], streams: Streams) -> usize 
 }
 
 pub(crate) fn batch_file(rt: &(impl Files + Input), name: &[u8], streams: Streams) -> usize {
-    let mut file = large_buffer();
+    let mut file: [u8; FILE_BYTES] = zeroed();
     let Some(n) = load(rt, name, &mut file, streams.err) else {
         return FAULT;
     };

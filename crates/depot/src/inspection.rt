@@ -1,14 +1,14 @@
 // What is told of files: check, show and list; and newer.
-use buffers::large_buffer;
+use buffers::{FILE_BYTES, zeroed};
 use depot_files::files::{is_standard, load};
-use depot_files::streams::{Streams, fault, page, print};
+use depot_files::streams::{PAGE_BYTES, Streams, fault, print};
 use depot_inspect::{View, newest_status, put_newest, put_view, view_status};
 use depot_messages::Message;
 use depot_status::FAULT;
 use std::fs::Files;
 
 fn view_bytes(view: View, bytes: &[u8], streams: Streams) -> usize {
-    let mut text = page();
+    let mut text: [u8; PAGE_BYTES] = zeroed();
     let to = put_view(&mut text, view, bytes);
     print(streams, &text, to, view_status(view, bytes))
 }
@@ -19,7 +19,7 @@ pub(crate) fn view_file(
     name: &[u8],
     streams: Streams,
 ) -> usize {
-    let mut file = large_buffer();
+    let mut file: [u8; FILE_BYTES] = zeroed();
     let Some(n) = load(rt, name, &mut file, streams.err) else {
         return FAULT;
     };
@@ -27,13 +27,13 @@ pub(crate) fn view_file(
 }
 
 fn newer_bytes(first: &[u8], second: &[u8], streams: Streams) -> usize {
-    let mut text = page();
+    let mut text: [u8; PAGE_BYTES] = zeroed();
     let to = put_newest(&mut text, first, second);
     print(streams, &text, to, newest_status(first, second))
 }
 
 fn newer_than(rt: &(impl Files + Input), first: &[u8], other: &[u8], streams: Streams) -> usize {
-    let mut second = large_buffer();
+    let mut second: [u8; FILE_BYTES] = zeroed();
     let Some(n) = load(rt, other, &mut second, streams.err) else {
         return FAULT;
     };
@@ -54,7 +54,7 @@ pub(crate) fn newer_file(
     if read_twice(name, other) {
         return fault(streams.err, Message::Once, b"", 0);
     }
-    let mut first = large_buffer();
+    let mut first: [u8; FILE_BYTES] = zeroed();
     let Some(n) = load(rt, name, &mut first, streams.err) else {
         return FAULT;
     };

@@ -10,7 +10,7 @@ mod inspection;
 mod runs;
 mod translation;
 
-use buffers::{buffer, large_buffer};
+use buffers::{FILE_BYTES, LINE_BYTES, zeroed};
 use byte_buffer::is;
 use depot_files::files::beside;
 use depot_files::streams::{Stream, Streams, fitted, tell};
@@ -33,7 +33,7 @@ fn read_arg(rt: &impl Env, i: usize, word: &mut [u8]) -> Option<usize>
 }
 
 fn put_arg(rt: &impl Env, words: &mut [u8], at: usize, i: usize) -> Option<usize> {
-    let mut word = buffer();
+    let mut word: [u8; LINE_BYTES] = zeroed();
     let n = read_arg(rt, i, &mut word)?;
     let to = put(words, at, &word[..n]);
     Some(put_byte(words, to, 0))
@@ -78,7 +78,7 @@ fn main(rt: HostRuntime) {
         out: Stream::Output(rt.stdout()),
         err: Stream::Error(rt.stderr()),
     };
-    let mut words = large_buffer();
+    let mut words: [u8; FILE_BYTES] = zeroed();
     let to = gather(&rt, &mut words);
     let n = fitted(&words, to);
     run_told(&rt, &words[..n], streams);

@@ -1,12 +1,9 @@
 // Runs of files on described devices.
-ghost use Rattle.std.specs.Prelude.{◌≡◌, length};
-ghost use Rattle.rules.specs.Limits.{limits};
-
 use crate::inspection::read_twice;
-use buffers::large_buffer;
+use buffers::{FILE_BYTES, zeroed};
 use byte_buffer::is;
 use depot_files::files::{beside, load, store};
-use depot_files::streams::{Streams, fault, fault_in, fitted, page, print};
+use depot_files::streams::{PAGE_BYTES, Streams, fault, fault_in, fitted, print};
 use depot_matches::note_matches;
 use depot_messages::Message;
 use depot_outcome::put_run;
@@ -25,12 +22,6 @@ use rules::controller::Controller;
 use std::fs::Files;
 use text::put;
 
-fn trace_room() -> [u8; Controller::TRACE_BYTES]
-    ensures { limits.trace ≡ length result }
-{
-    [0; Controller::TRACE_BYTES]
-}
-
 // The notes of a run of an envelope, whose translation runs as it does.
 fn note_envelope(
     envelope: &[u8],
@@ -41,7 +32,7 @@ fn note_envelope(
     answers: &[u8],
     notes: &mut [u8],
 ) {
-    let mut room = large_buffer();
+    let mut room: [u8; FILE_BYTES] = zeroed();
     let answer = pitvorgas_translate(envelope, boot, &mut room);
     let n = fitted(&room, answer.length);
     note_matches(&room[..n], trace, events, slots, answers, notes);
@@ -93,7 +84,7 @@ fn tell_run(
     streams: Streams,
 ) -> usize {
     let subject = subject_of(what, bytes);
-    let mut text = page();
+    let mut text: [u8; PAGE_BYTES] = zeroed();
     let to = put_run(&mut text, 0, answer, subject, bytes, trace, notes, slots);
     print(streams, &text, to, run_status(answer.refusal, answer.end))
 }
@@ -111,7 +102,7 @@ fn store_device(
     if then.is_empty() || answer.refusal != 0 {
         return status;
     }
-    let mut text = large_buffer();
+    let mut text: [u8; FILE_BYTES] = zeroed();
     let to = put_device(&mut text, 0, d, answer.number, slots);
     let n = fitted(&text, to);
     store(rt, then, &text[..n], streams, status)
@@ -128,7 +119,7 @@ fn run_device(
     then: &[u8],
     streams: Streams,
 ) -> usize {
-    let mut trace = trace_room();
+    let mut trace: [u8; Controller::TRACE_BYTES] = zeroed();
     let mut notes = [0u8; Controller::COMMANDS];
     let answer = run_noted(what, bytes, d, slots, answers, &mut trace, &mut notes);
     let status = tell_run(
@@ -181,7 +172,7 @@ fn run_bytes(
     then: &[u8],
     streams: Streams,
 ) -> usize {
-    let mut description = large_buffer();
+    let mut description: [u8; FILE_BYTES] = zeroed();
     let Some(n) = load(rt, device, &mut description, streams.err) else {
         return FAULT;
     };
@@ -200,7 +191,7 @@ fn run_files(
     if read_twice(file, device) {
         return fault(streams.err, Message::Once, b"", 0);
     }
-    let mut bytes = large_buffer();
+    let mut bytes: [u8; FILE_BYTES] = zeroed();
     let Some(n) = load(rt, file, &mut bytes, streams.err) else {
         return FAULT;
     };

@@ -1,7 +1,7 @@
 // Translation of a file into a new file.
-use buffers::{buffer, large_buffer};
+use buffers::{FILE_BYTES, LINE_BYTES, zeroed};
 use depot_files::files::{beside, load, store};
-use depot_files::streams::{Streams, fault, fitted, page, print};
+use depot_files::streams::{PAGE_BYTES, Streams, fault, fitted, print};
 use depot_messages::Message;
 use depot_refusals::put_refused;
 use depot_report::put_translated;
@@ -19,13 +19,13 @@ const FILE: usize = 2;
 const OUT: usize = 3;
 
 fn tell_refused(envelope: &[u8], refusal: usize, place: usize, streams: Streams) -> usize {
-    let mut text = page();
+    let mut text: [u8; PAGE_BYTES] = zeroed();
     let to = put_refused(&mut text, 0, refusal, place, envelope);
     print(streams, &text, to, REFUSED)
 }
 
 fn tell_translated(length: usize, streams: Streams) -> usize {
-    let mut text = buffer();
+    let mut text: [u8; LINE_BYTES] = zeroed();
     let to = put_translated(&mut text, 0, length);
     print(streams, &text, to, DONE)
 }
@@ -46,7 +46,7 @@ fn translate_bytes(
     out: &[u8],
     streams: Streams,
 ) -> usize {
-    let mut room = large_buffer();
+    let mut room: [u8; FILE_BYTES] = zeroed();
     let answer = pitvorgas_translate(envelope, boot, &mut room);
     if answer.refusal != 0 {
         return tell_refused(envelope, answer.refusal, answer.place, beside(out, streams));
@@ -56,7 +56,7 @@ fn translate_bytes(
 }
 
 fn translate_load(rt: &(impl Files + Input), words: &[u8], boot: bool, streams: Streams) -> usize {
-    let mut file = large_buffer();
+    let mut file: [u8; FILE_BYTES] = zeroed();
     let Some(n) = load(rt, word_at(words, FILE), &mut file, streams.err) else {
         return FAULT;
     };

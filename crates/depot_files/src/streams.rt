@@ -1,9 +1,9 @@
 // What a command writes: its answer on one stream, messages on another.
-ghost use Rattle.std.specs.Prelude.{◌≡◌, length};
+ghost use Rattle.std.specs.Prelude.{◌≡◌};
 ghost use Rattle.std.specs.Counts.{IsPrefixLen};
 ghost use Rattle.depot_status.specs.Status.{FAULT as Status-as-FAULT, Told};
 
-use buffers::large_buffer;
+use buffers::{FILE_BYTES, zeroed};
 use depot_messages::{Message, put_message, put_named};
 use depot_status::FAULT;
 use device_faults::put_fault;
@@ -33,11 +33,7 @@ pub struct Streams {
 
 // Room for a text: that of the longest program that is well formed, of 46,635 bytes, has some hundred thousand. A longer one, of a file
 // that is refused, is cut.
-pub fn page() -> [u8; 262144]
-    ensures { 262144 ≡ length result }
-{
-    [0; 262144]
-}
+pub const PAGE_BYTES: usize = 262144;
 
 // How much of a page is text, if that is its first `to` bytes.
 pub fn fitted(page: &[u8], to: usize) -> usize
@@ -68,7 +64,7 @@ fn error_number(error: Error) -> usize {
 pub fn fault(err: Stream, message: Message, word: &[u8], n: usize) -> usize
     ensures { result ≡ Status-as-FAULT }
 {
-    let mut text = large_buffer();
+    let mut text: [u8; FILE_BYTES] = zeroed();
     let to = put_message(&mut text, 0, message, word, n);
     let _ = write(err, &text, to);
     FAULT
@@ -85,7 +81,7 @@ pub(crate) fn fault_of(err: Stream, name: &[u8], error: Error) -> usize
 pub fn fault_in(err: Stream, name: &[u8], description: &[u8], line: usize) -> usize
     ensures { result ≡ Status-as-FAULT }
 {
-    let mut text = large_buffer();
+    let mut text: [u8; FILE_BYTES] = zeroed();
     let at = put_named(&mut text, 0, name);
     let to = put_fault(&mut text, at, description, line);
     let _ = write(err, &text, to);
@@ -106,7 +102,7 @@ pub fn print(streams: Streams, page: &[u8], to: usize, status: usize) -> usize
 pub fn tell(streams: Streams, message: Message, word: &[u8], n: usize, status: usize) -> usize
     ensures { Told status result }
 {
-    let mut text = large_buffer();
+    let mut text: [u8; FILE_BYTES] = zeroed();
     let to = put_message(&mut text, 0, message, word, n);
     print(streams, &text, to, status)
 }
