@@ -260,12 +260,12 @@ struct pitvorgas_run_answer {
 
 /* Bytes of stack, at most, with all that is called and the return address, on x86-64 (tools/stack measures them on the library):
  *
- *     pitvorgas_check          2,624
- *     pitvorgas_newer          2,416
- *     pitvorgas_translate      4,008
- *     pitvorgas_test_program     488
- *     pitvorgas_run            3,216
- *     pitvorgas_run_program    1,304
+ *     pitvorgas_check          2,600
+ *     pitvorgas_newer          2,408
+ *     pitvorgas_translate      4,120
+ *     pitvorgas_test_program     496
+ *     pitvorgas_run            3,288
+ *     pitvorgas_run_program    1,344
  *
  * Reentrancy: the library has no static data and keeps no state, so calls may go on at once, in threads or in interrupts that come in the
  * midst of a call, as long as no slice that one of them writes to (room, slots, trace) overlaps a slice of another.

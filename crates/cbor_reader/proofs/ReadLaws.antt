@@ -7,6 +7,7 @@ use mathlib.Core.Logic.{◌⊎◌, inl, inr}
 use lib.Dec.{ltb, leb}
 use lib.ListN.{get_or}
 use Rattle.rules.specs.declared.answers.Refusal.TheVariants.{NotCbor}
+use Rattle.rules.specs.Answers.{refusal_number}
 use Rattle.rules.specs.Bytes.{Bytes}
 use Rattle.rules.specs.Got.{Got, refused, got, need, ◌>>=◌}
 use Rattle.rules.specs.Cbor.{Head, head, known, more, least, value}
@@ -29,9 +30,12 @@ head-place s e at =
     test (ltb at e) at _ (test (known b) at _ (test (leb (at + 1 + more b) e) at _ (test (leb (least (more b)) (value s at)) at _ tt)))
 
 -- a head, or 65 with nothing moved
-pub or_65 : (d : Reader) → IsOk (read_of (head_here d)) ⊎ ((read_of (head_here d) ≡ Err (record { refusal = NotCbor; at = d.at })) × (moved d (head_here d) ≡ d))
+pub or_65 : (d : Reader) →
+    IsOk (read_of (head_here d)) ⊎
+    ((read_of (head_here d) ≡ Err (record { refusal = NotCbor; at = d.at })) × (refusal_number NotCbor ≡ 65) × (moved d (head_here d) ≡ d))
 or_65 d = go (head_here d) (head-place _ _ _)
   where
-    go : (x : Got Head) → At d.at x → IsOk (read_of x) ⊎ ((read_of x ≡ Err (record { refusal = NotCbor; at = d.at })) × (moved d x ≡ d))
-    go (refused r p) (n, h) = inr ((λ i. Err (record { refusal = n i; at = h i })), refl)
+    go : (x : Got Head) → At d.at x →
+        IsOk (read_of x) ⊎ ((read_of x ≡ Err (record { refusal = NotCbor; at = d.at })) × (refusal_number NotCbor ≡ 65) × (moved d x ≡ d))
+    go (refused r p) (n, h) = inr ((λ i. Err (record { refusal = n i; at = h i })), refl, refl)
     go (got h) _ = inl refl

@@ -33,7 +33,7 @@ impl From<Note> for u8 {
 
 impl Note {
     // The note of a byte, none if it is that of no note or of nothing.
-    pub fn of_byte(byte: u8) -> Option<Note>
+    pub(crate) fn of_byte(byte: u8) -> Option<Note>
         ensures { result ≡ note_of_byte byte }
     {
         match byte {
