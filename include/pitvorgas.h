@@ -264,8 +264,8 @@ struct pitvorgas_run_answer {
  *     pitvorgas_newer          2,408
  *     pitvorgas_translate      4,120
  *     pitvorgas_test_program     496
- *     pitvorgas_run            3,288
- *     pitvorgas_run_program    1,344
+ *     pitvorgas_run            3,192
+ *     pitvorgas_run_program    1,296
  *
  * Reentrancy: the library has no static data and keeps no state, so calls may go on at once, in threads or in interrupts that come in the
  * midst of a call, as long as no slice that one of them writes to (room, slots, trace) overlaps a slice of another.

@@ -1,5 +1,5 @@
 // The image of a slot: present, size and digest, laid out as an answer of the host.
-#![tactic(auto, using(crate::proofs::ImageLaws::put_mid_sets), unfolding(rules::specs::Slots::image_at, rules::specs::Slots::put_image))]
+#![tactic(auto, unfolding(rules::specs::Slots::image_at))]
 
 ghost use Rattle.std.specs.Prelude.{◌≡◌, ◌+◌, ◌≤◌, length};
 ghost use Rattle.rules.specs.Bytes.{part};
@@ -8,13 +8,15 @@ ghost use Rattle.run_slots.specs.Slot.{Holds};
 
 use rules::slot_format::{IMAGE, IMAGE_BYTES, Image, SLOT_BYTES};
 
-// The answer or the image at `at`.
+// The answer or the image at `at`. Byte by byte, here and below: copy_from_slice is a call, and a swap makes four of them.
 pub fn take(b: &[u8], at: usize) -> Image
     requires { at + answer_bytes ≤ length b.now }
     ensures { result ≡ part b.now at answer_bytes }
 {
     let mut image = [0u8; IMAGE_BYTES];
-    image.copy_from_slice(&b[at..at + IMAGE_BYTES]);
+    for k in 0..IMAGE_BYTES {
+        image[k] = b[at + k];
+    }
     image
 }
 
@@ -31,5 +33,7 @@ pub fn put_image(slots: &mut [u8], k: usize, image: Image)
     ensures { slots.new ≡ put_image slots.old k image }
 {
     let at = SLOT_BYTES * k + IMAGE;
-    slots[at..at + IMAGE_BYTES].copy_from_slice(&image);
+    for i in 0..IMAGE_BYTES {
+        slots[at + i] = image[i];
+    }
 }
