@@ -86,20 +86,23 @@ fn read_name(t: &[u8]) -> Option<Sixteen>
 }
 
 // The description with the value that a line sets: w is the word in front, t what stands behind it. None if that is not understood.
-#[tactic(auto, using(crate::proofs::WordLaws::not_same), unfolding(crate::specs::Values::set))]
+// A chain of `is`: to match on text the word is tested for UTF-8 first, which took a quarter more time for a whole run of the tool.
+#[tactic(auto, unfolding(crate::specs::Values::set))]
 fn set(mut d: Scenario, w: &[u8], t: &[u8]) -> Option<Scenario>
     ensures { result ≡ set d w.now t.now }
 {
-    let Ok(word) = str::from_utf8(w) else {
+    if is(w, b"verdict") {
+        d.verdict = read_flag(t, b"good", b"bad")?;
+    } else if is(w, b"vendor") {
+        d.vendor = read_name(t)?;
+    } else if is(w, b"class") {
+        d.class = read_name(t)?;
+    } else if is(w, b"number") {
+        d.number = decimal(t)?;
+    } else if is(w, b"event") {
+        d.event = read_flag(t, b"open", b"closed")?;
+    } else {
         return None;
-    };
-    match word {
-        "verdict" => d.verdict = read_flag(t, b"good", b"bad")?,
-        "vendor" => d.vendor = read_name(t)?,
-        "class" => d.class = read_name(t)?,
-        "number" => d.number = decimal(t)?,
-        "event" => d.event = read_flag(t, b"open", b"closed")?,
-        _ => return None,
     }
     Some(d)
 }
