@@ -14,6 +14,13 @@ pub const LINE_BYTES: usize = 4096;
 // Room for a file.
 pub const FILE_BYTES: usize = 65536;
 
+// The lengths of the two rooms, as numbers.
+pub fn lengths() -> (usize, usize)
+    ensures { result ≡ (4096, 65536) }
+{
+    (LINE_BYTES, FILE_BYTES)
+}
+
 // An array of zeros, as long as its caller says.
 pub fn zeroed<const N: usize>() -> [u8; N]
     ensures zeros { result ≡ replicate N 0 }

@@ -10,6 +10,8 @@ use std::io::Read;
 // Room for any line: a program of 65,535 bytes in hexadecimal, and the words around it.
 const ANSWER_BYTES: usize = 140000;
 
+const _: () = prove!(ANSWER_BYTES == 140000);
+
 // Writes the line of a case.
 fn write_line(rt: &impl Print, case: &[u8]) -> io::Result<()> {
     let mut line: [u8; ANSWER_BYTES] = zeroed();

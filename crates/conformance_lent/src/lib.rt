@@ -17,6 +17,8 @@ pub const ROOM_FILL: u8 = 160;
 // Room for a length of two bytes; what bytes it has does not matter.
 pub const MEMORY_BYTES: usize = 65536;
 
+const _: () = prove!(MEMORY_BYTES == 65536);
+
 pub fn fill(b: &mut [u8], x: u8)
     ensures { b.new ≡ replicate (length b.old) x }
 {

@@ -35,6 +35,13 @@ pub struct Streams {
 // that is refused, is cut.
 pub const PAGE_BYTES: usize = 262144;
 
+// The length of a page, as a number.
+pub fn page_length() -> usize
+    ensures { result ≡ 262144 }
+{
+    PAGE_BYTES
+}
+
 // How much of a page is text, if that is its first `to` bytes.
 pub fn fitted(page: &[u8], to: usize) -> usize
     ensures { IsPrefixLen result page.now }
