@@ -83,8 +83,9 @@ fn tell_run(
     notes: &[u8],
     streams: Streams,
 ) -> usize {
-    let subject = subject_of(what, bytes);
+    // Before the subject: behind it the page is zeroed twice.
     let mut text: [u8; PAGE_BYTES] = zeroed();
+    let subject = subject_of(what, bytes);
     let to = put_run(&mut text, 0, answer, subject, bytes, trace, notes, slots);
     print(streams, &text, to, run_status(answer.refusal, answer.end))
 }
